@@ -1,0 +1,13 @@
+pub mod AssetKindNames
+pub mod CollectionNames
+pub mod DirectionNames
+pub mod ElementNameNames
+pub mod EntityTypeNames
+pub mod KeyTypeNames
+pub mod KindNames
+pub mod ModellingKindNames
+pub mod Names
+pub mod QualifierKindNames
+pub mod ReferenceTypeNames
+pub mod StateOfEventNames
+pub mod ValueTypeNames

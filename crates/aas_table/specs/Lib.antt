@@ -1,0 +1,9 @@
+pub mod Examples
+pub mod Misfit
+pub mod Names
+pub mod Plain
+pub mod Pointer
+pub mod Rows
+pub mod Spelled
+pub mod Table
+pub mod TooDeep
