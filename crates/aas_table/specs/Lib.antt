@@ -4,6 +4,7 @@ pub mod Names
 pub mod Plain
 pub mod Pointer
 pub mod Rows
+pub mod Seen
 pub mod Spelled
 pub mod Table
 pub mod TooDeep
