@@ -7,4 +7,5 @@ pub mod Rows
 pub mod Seen
 pub mod Spelled
 pub mod Table
+pub mod Tokens
 pub mod TooDeep

@@ -2,4 +2,6 @@
 
 #![tactic(auto)]
 
+pub mod misfit;
+pub mod pointer;
 pub mod table;

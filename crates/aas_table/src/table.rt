@@ -1,7 +1,7 @@
 ghost use Rattle.std.specs.Prelude.{◌≡◌, map, codes, option_map, option_and_then};
 ghost use Rattle.serde_json.specs.Find.{get_member, as_str};
 ghost use Rattle.serde_json.specs.View.{view, members_view};
-ghost use Rattle.aas_table.specs.Rows.{rows_of};
+ghost use Rattle.aas_table.specs.Rows.{rows_of, row_named};
 ghost use Rattle.aas_table.specs.Seen.{row_of, sort_of};
 
 use serde_json::{Map, Value};
@@ -123,6 +123,18 @@ pub fn rows_of(sort: Sort, members: &Map<String, Value>) -> Option<&'static [Row
         Sort::DataElement => elements::data_element_rows(model_type(members)?),
         Sort::SimpleElement => elements::simple_element_rows(model_type(members)?),
     }
+}
+
+/// The row of a name.
+pub fn row_named(name: &str, rows: &[Row]) -> Option<Row>
+    ensures { option_map row_of result ≡ row_named name.now (map row_of rows.now) }
+{
+    for row in rows {
+        if name == row.name {
+            return Some(*row);
+        }
+    }
+    None
 }
 
 /// The `modelType` of an object, where it is there and a string.
