@@ -1,4 +1,5 @@
 pub mod Examples
+pub mod Left
 pub mod Misfit
 pub mod Names
 pub mod Plain

@@ -5,3 +5,4 @@
 pub mod misfit;
 pub mod pointer;
 pub mod table;
+pub mod too_deep;

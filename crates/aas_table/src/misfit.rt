@@ -107,7 +107,11 @@ fn misfit_all(alloc: Global, members: &Map<String, Value>) -> Result<Option<Trai
 }
 
 // The first required member that is absent.
-fn missing(alloc: Global, rows: &[Row], members: &Map<String, Value>) -> Result<Option<Trail>, NoMemory>
+fn missing(
+    alloc: Global,
+    rows: &[Row],
+    members: &Map<String, Value>,
+) -> Result<Option<Trail>, NoMemory>
     ensures { IfOk result (λ fault. fault ≡ missing (map row_of rows.now) (members_view members.now.entries)) }
 {
     for row in rows {

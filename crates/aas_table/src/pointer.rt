@@ -49,7 +49,9 @@ impl Trail {
     pub fn here(alloc: Global) -> Trail
         ensures { result ≡ [] }
     {
-        Trail { inside_out: Many::new(alloc) }
+        Trail {
+            inside_out: Many::new(alloc),
+        }
     }
 
     /// The same place, seen from one step further out.

@@ -6,7 +6,10 @@ ghost use Rattle.aas_table.specs.Seen.{row_of};
 ghost use Rattle.aas_table.specs.Table.{model_types, data_elements, element, data_element, simple_element};
 
 use super::Form::{Flag, Many, One, Text, Word};
-use super::common::{CATEGORY, DESCRIPTION, DISPLAY_NAME, EMBEDDED_DATA_SPECIFICATIONS, EXTENSIONS, ID_SHORT, MODEL_TYPE, QUALIFIERS, SEMANTIC_ID, SUPPLEMENTAL_SEMANTIC_IDS};
+use super::common::{
+    CATEGORY, DESCRIPTION, DISPLAY_NAME, EMBEDDED_DATA_SPECIFICATIONS, EXTENSIONS, ID_SHORT,
+    MODEL_TYPE, QUALIFIERS, SEMANTIC_ID, SUPPLEMENTAL_SEMANTIC_IDS,
+};
 use super::{Class, Names, Row, Sort};
 use aas_names::{Kind, Named};
 
@@ -314,7 +317,11 @@ fn rows_of_kind(kind: Kind) -> &'static [Row]
 fn data_rows_of_kind(kind: Kind) -> Option<&'static [Row]>
     ensures { option_map (λ rs. map row_of rs.now) result ≡ option_map sorted (find (name_of kind) (model_types data_element)) }
 {
-    if is_data_element(kind) { Some(rows_of_kind(kind)) } else { None }
+    if is_data_element(kind) {
+        Some(rows_of_kind(kind))
+    } else {
+        None
+    }
 }
 
 fn is_data_element(kind: Kind) -> bool

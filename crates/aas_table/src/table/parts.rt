@@ -16,10 +16,7 @@ pub(super) static KEY: [Row; 2] = [
 ];
 
 /// AbstractLangString.
-pub(super) static LANG_TEXT: [Row; 2] = [
-    required!("language", Text),
-    required!("text", Text),
-];
+pub(super) static LANG_TEXT: [Row; 2] = [required!("language", Text), required!("text", Text)];
 
 /// Extension.
 pub(super) static EXTENSION: [Row; 6] = [
@@ -70,15 +67,10 @@ pub(super) static ASSET_INFORMATION: [Row; 5] = [
 ];
 
 /// Resource.
-pub(super) static RESOURCE: [Row; 2] = [
-    optional!("contentType", Text),
-    required!("path", Text),
-];
+pub(super) static RESOURCE: [Row; 2] = [optional!("contentType", Text), required!("path", Text)];
 
 /// OperationVariable.
-pub(super) static OPERATION_VARIABLE: [Row; 1] = [
-    required!("value", One(Sort::Element)),
-];
+pub(super) static OPERATION_VARIABLE: [Row; 1] = [required!("value", One(Sort::Element))];
 
 /// Environment.
 pub(super) static ENVIRONMENT: [Row; 3] = [
