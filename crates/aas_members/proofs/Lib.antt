@@ -1,3 +1,5 @@
+pub mod Built
+pub mod Floats
 pub mod Lists
 pub mod Lookup
 pub mod Objects

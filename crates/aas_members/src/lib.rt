@@ -3,8 +3,18 @@
 
 #![tactic(auto)]
 
+mod array;
+mod exact;
 mod members;
+mod object;
 mod parts;
+mod values;
+mod written;
 
+pub use array::Array;
+pub use exact::Exact;
 pub use members::{flag_member, member, string_member, text_member, word_member};
+pub use object::Object;
 pub use parts::{Part, list_member, one_member};
+pub use values::{flag_value, optional_word, string_value, text_value, word_value};
+pub use written::{Written, list_value, optional_value};
