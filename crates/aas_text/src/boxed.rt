@@ -6,7 +6,7 @@ use std::alloc::Global;
 use std::marker::Model;
 
 /// A value in memory of its own, which contracts see as the value alone.
-#[derive(Drop)]
+#[derive(Debug, Drop)]
 pub struct Boxed<T> {
     inner: Box<T>,
 }

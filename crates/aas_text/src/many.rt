@@ -7,7 +7,7 @@ use std::alloc::Global;
 use std::marker::Model;
 
 /// A growable list that contracts see as the list of its items.
-#[derive(Drop)]
+#[derive(Debug, Drop)]
 pub struct Many<T> {
     items: Vec<T>,
 }
