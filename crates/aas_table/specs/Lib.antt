@@ -1,9 +1,12 @@
 pub mod Examples
+pub mod Left
 pub mod Misfit
 pub mod Names
 pub mod Plain
 pub mod Pointer
 pub mod Rows
+pub mod Seen
 pub mod Spelled
 pub mod Table
+pub mod Tokens
 pub mod TooDeep

@@ -1,0 +1,60 @@
+-- What the program's own table, levels and pointers stand for.
+use Rattle.std.specs.Prelude.{ℕ, List, map}
+use Rattle.aas_table.specs.Names as names
+use Rattle.aas_table.specs.Table as table
+use Rattle.aas_table.specs.declared.table.Sort.{Sort}
+use Rattle.aas_table.specs.declared.table.Sort.TheVariants as sorts
+use Rattle.aas_table.specs.declared.table.Form.{Form}
+use Rattle.aas_table.specs.declared.table.Form.TheVariants as forms
+use Rattle.aas_table.specs.declared.table.Class.{Class}
+use Rattle.aas_table.specs.declared.table.Class.TheVariants as classes
+use Rattle.aas_table.specs.declared.table.Row.{Row}
+use Rattle.aas_table.specs.declared.table.names.Names.{Names}
+use Rattle.aas_table.specs.declared.table.names.Names.TheVariants as enumerations
+
+abbrev pub sort_of : Sort → table.Sort
+sort_of sorts.Reference = table.reference
+sort_of sorts.Key = table.key
+sort_of sorts.LangText = table.lang_text
+sort_of sorts.Extension = table.extension
+sort_of sorts.Qualifier = table.qualifier
+sort_of sorts.SpecificAssetId = table.specific_asset_id
+sort_of sorts.Administration = table.administration
+sort_of sorts.AssetInformation = table.asset_information
+sort_of sorts.Resource = table.resource
+sort_of sorts.OperationVariable = table.operation_variable
+sort_of sorts.Environment = table.environment
+sort_of sorts.Shell = table.shell
+sort_of sorts.Submodel = table.submodel
+sort_of sorts.Concept = table.concept
+sort_of sorts.Element = table.element
+sort_of sorts.DataElement = table.data_element
+sort_of sorts.SimpleElement = table.simple_element
+
+abbrev pub words_of : Names → List (List ℕ)
+words_of enumerations.AssetKinds = names.asset_kinds
+words_of enumerations.Directions = names.directions
+words_of enumerations.ElementNames = names.element_names
+words_of enumerations.EntityTypes = names.entity_types
+words_of enumerations.KeyTypes = names.key_types
+words_of enumerations.ModellingKinds = names.modelling_kinds
+words_of enumerations.QualifierKinds = names.qualifier_kinds
+words_of enumerations.ReferenceTypes = names.reference_types
+words_of enumerations.StatesOfEvent = names.states_of_event
+words_of enumerations.ValueTypes = names.value_types
+
+abbrev pub form_of : Form → table.Form
+form_of forms.Text = table.text
+form_of forms.Flag = table.flag
+form_of (forms.Word ns) = table.word (words_of ns)
+form_of (forms.One s) = table.one (sort_of s)
+form_of (forms.Many s) = table.many (sort_of s)
+form_of forms.Kept = table.kept
+form_of forms.Any = table.any
+
+abbrev pub class_of : Class → table.Class
+class_of classes.M = table.m
+class_of classes.V = table.v
+
+abbrev pub row_of : Row → table.Row
+row_of r = record { name = r.name.now; form = form_of r.form; required = r.required; class = class_of r.class }

@@ -1,0 +1,147 @@
+ghost use Rattle.std.specs.Prelude.{◌≡◌, [], ◌∷◌, map, Some, IfOk};
+ghost use Rattle.serde_json.specs.Data.{array};
+ghost use Rattle.serde_json.specs.Find.{get_member};
+ghost use Rattle.serde_json.specs.View.{view, items_view, members_view};
+ghost use Rattle.aas_table.specs.Misfit.{misfit, misfit_items, misfit_members, misfit_all, missing};
+ghost use Rattle.aas_table.specs.Rows.{in_member, is_there};
+ghost use Rattle.aas_table.specs.Seen.{row_of, form_of};
+
+use crate::pointer::{Token, Trail};
+use crate::table::{Form, Row, member, row_named, rows_of};
+use aas_text::NoMemory;
+use serde_json::{Map, Value};
+use std::alloc::Global;
+
+/// The first mapping fault of a JSON value in a form: where it first departs from the attribute table. `None` where it
+/// does not.
+#[cycle(misfit)]
+pub fn misfit(alloc: Global, form: Form, value: &Value) -> Result<Option<Trail>, NoMemory>
+    ensures { IfOk result (λ fault. fault ≡ misfit (form_of form) (view value.now)) }
+{
+    match form {
+        Form::Text => match value {
+            Value::String(_) => Ok(None),
+            _ => Ok(Some(Trail::here(alloc))),
+        },
+        Form::Flag => match value {
+            Value::Bool(_) => Ok(None),
+            _ => Ok(Some(Trail::here(alloc))),
+        },
+        Form::Word(names) => match value {
+            Value::String(text) if names.contain(text.as_str()) => Ok(None),
+            _ => Ok(Some(Trail::here(alloc))),
+        },
+        Form::One(sort) => match value {
+            Value::Object(members) => {
+                let Some(rows) = rows_of(sort, members) else {
+                    return Ok(Some(at_member(alloc, "modelType")?));
+                };
+                match misfit_members(alloc, rows, members)? {
+                    Some(trail) => Ok(Some(trail)),
+                    None => missing(alloc, rows, members),
+                }
+            }
+            _ => Ok(Some(Trail::here(alloc))),
+        },
+        Form::Many(sort) => match value {
+            Value::Array(items) => misfit_items(alloc, Form::One(sort), items),
+            _ => Ok(Some(Trail::here(alloc))),
+        },
+        Form::Kept => match value {
+            Value::Array(items) => misfit_items(alloc, Form::Any, items),
+            _ => Ok(Some(Trail::here(alloc))),
+        },
+        Form::Any => match value {
+            Value::Null => Ok(None),
+            Value::Bool(_) => Ok(None),
+            Value::String(_) => Ok(None),
+            Value::Number(_) => Ok(Some(Trail::here(alloc))),
+            Value::Array(items) => misfit_items(alloc, Form::Any, items),
+            Value::Object(members) => misfit_all(alloc, members),
+        },
+    }
+}
+
+#[cycle(misfit)]
+fn misfit_items(alloc: Global, form: Form, items: &Vec<Value>) -> Result<Option<Trail>, NoMemory>
+    ensures { IfOk result (λ fault. fault ≡ misfit_items (items_view items.now.items) (form_of form) 0) }
+{
+    for (place, item) in items.iter().enumerate() {
+        if let Some(trail) = misfit(alloc, form, item)? {
+            return Ok(Some(trail.below(Token::Item(place))?));
+        }
+    }
+    Ok(None)
+}
+
+#[cycle(misfit)]
+fn misfit_members(
+    alloc: Global,
+    rows: &'static [Row],
+    members: &Map<String, Value>,
+) -> Result<Option<Trail>, NoMemory>
+    ensures { IfOk result (λ fault. fault ≡ misfit_members (members_view members.now.entries) (map row_of rows.now)) }
+{
+    for (name, value) in members.iter() {
+        let Some(row) = row_named(name.as_str(), rows) else {
+            return Ok(Some(at_member(alloc, name.as_str())?));
+        };
+        if let Some(trail) = misfit(alloc, row.form, value)? {
+            return Ok(Some(trail.below(Token::member(alloc, name.as_str())?)?));
+        }
+    }
+    Ok(None)
+}
+
+// The members of kept data.
+#[cycle(misfit)]
+fn misfit_all(alloc: Global, members: &Map<String, Value>) -> Result<Option<Trail>, NoMemory>
+    ensures { IfOk result (λ fault. fault ≡ misfit_all (members_view members.now.entries)) }
+{
+    for (name, value) in members.iter() {
+        if let Some(trail) = misfit(alloc, Form::Any, value)? {
+            return Ok(Some(trail.below(Token::member(alloc, name.as_str())?)?));
+        }
+    }
+    Ok(None)
+}
+
+// The first required member that is absent.
+fn missing(
+    alloc: Global,
+    rows: &[Row],
+    members: &Map<String, Value>,
+) -> Result<Option<Trail>, NoMemory>
+    ensures { IfOk result (λ fault. fault ≡ missing (map row_of rows.now) (members_view members.now.entries)) }
+{
+    for row in rows {
+        if row.required && !is_there(members, row.name) {
+            return Ok(Some(at_member(alloc, row.name)?));
+        }
+    }
+    Ok(None)
+}
+
+fn at_member(alloc: Global, name: &str) -> Result<Trail, NoMemory>
+    ensures { IfOk result (λ trail. trail ≡ in_member name.now ∷ []) }
+{
+    Trail::here(alloc).below(Token::member(alloc, name)?)
+}
+
+// An empty list is as if it were absent.
+fn is_there(members: &Map<String, Value>, name: &str) -> bool
+    ensures { result ≡ is_there (get_member name.now (members_view members.now.entries)) }
+{
+    match member(members, name) {
+        None => false,
+        Some(Value::Array(items)) => has_items(items),
+        Some(_) => true,
+    }
+}
+
+#[tactic(auto, using(crate::proofs::Lists::is_there_list))]
+fn has_items(items: &Vec<Value>) -> bool
+    ensures { result ≡ is_there (Some (array (items_view items.now.items))) }
+{
+    !items.is_empty()
+}
