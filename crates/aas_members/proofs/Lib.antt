@@ -1,0 +1,6 @@
+pub mod Built
+pub mod Floats
+pub mod Lists
+pub mod Lookup
+pub mod Objects
+pub mod Words

@@ -1,0 +1,60 @@
+-- Objects of the table, from what their rows find.
+use Rattle.std.proofs.Common.{◌≡◌, ℕ, List, [], ◌∷◌, Bool, true, false, ◌&&◌, if◌then◌else◌, Option, Some, None, is_some, refl, sym, ap, ap₂, subst, ◌∙◌}
+use Rattle.std.specs.Str.{bytes_eq}
+use Rattle.serde_json.specs.Data.{Data, object}
+use Rattle.aas_table.specs.Table.{Form, Row}
+use Rattle.aas_table.specs.Rows.{sorted, row_named}
+use Rattle.aas_table.specs.Plain.{plain_object, members_by, are_there, add}
+use Rattle.aas_table.specs.Spelled.{Attributes, attribute, spelled}
+
+-- ---- an object with all that its rows demand
+
+-- g and h find the same under each row
+abbrev pub Agree : List Row → (List ℕ → Form → Option Data) → (List ℕ → Form → Option Data) → Type 0
+Agree [] g h = Unit {0}
+Agree (r ∷ rs) g h = (g r.name r.form ≡ h r.name r.form) × Agree rs g h
+
+same_members : (rows : List Row) (g h : List ℕ → Form → Option Data) → Agree rows g h → members_by rows g ≡ members_by rows h
+same_members [] g h e = refl
+same_members (r ∷ rs) g h e = ap₂ (add r.name) e.0 (same_members rs g h e.1)
+
+same_there : (rows : List Row) (g h : List ℕ → Form → Option Data) → Agree rows g h → are_there rows g ≡ are_there rows h
+same_there [] g h e = refl
+same_there (r ∷ rs) g h e = ap₂ (λ o b. if r.required then is_some o && b else b) e.0 (same_there rs g h e.1)
+
+-- what finds the same reads the same
+pub same_object : (rows : List Row) (g h : List ℕ → Form → Option Data) → Agree rows g h → plain_object (Some rows) g ≡ plain_object (Some rows) h
+same_object rows g h e = ap₂ (λ b ms. if b then Some (object ms) else None) (same_there rows g h e) (same_members rows g h e)
+
+-- The spelling of attributes is what an object says in which each row finds its attribute.
+pub spelled_as : (rows : List Row) (attributes : Attributes) (g : List ℕ → Form → Option Data) → are_there (sorted rows) (attribute attributes) ≡ true → Agree (sorted rows) (attribute attributes) g
+    → Some (spelled rows attributes) ≡ plain_object (Some (sorted rows)) g
+spelled_as rows attributes g whole e =
+    ap (λ b. if b then Some (object (members_by (sorted rows) (attribute attributes))) else None) (sym whole) ∙ same_object (sorted rows) (attribute attributes) g e
+
+-- ---- an object without what a row demands
+
+first_lacks : (b : Bool) (o : Option Data) (rest : Bool) → b ≡ true → o ≡ None → (if b then is_some o && rest else rest) ≡ false
+first_lacks b o rest e n = rw (e, n) refl
+
+later_lacks : (b : Bool) (o : Option Data) (rest : Bool) → rest ≡ false → (if b then is_some o && rest else rest) ≡ false
+later_lacks true None rest e = refl
+later_lacks true (Some d) rest e = e
+later_lacks false o rest e = e
+
+lacks_at : (b : Bool) (x : Row) (rest : Option Row) (r : Row) (g : List ℕ → Form → Option Data) (there : Bool) → (if b then Some x else rest) ≡ Some r → r.required ≡ true → g r.name r.form ≡ None
+    → (rest ≡ Some r → there ≡ false) → (if x.required then is_some (g x.name x.form) && there else there) ≡ false
+lacks_at true x rest r g there e q n later =
+    let same : r ≡ x = cc in
+    let P : Row → Type 0 = λ y. (y.required ≡ true) × (g y.name y.form ≡ None) in
+    let here : P x = subst P same (q, n) in
+    first_lacks x.required (g x.name x.form) there here.0 here.1
+lacks_at false x rest r g there e q n later = later_lacks x.required (g x.name x.form) there (later e)
+
+not_there : (rows : List Row) (n : List ℕ) (r : Row) (g : List ℕ → Form → Option Data) → row_named n rows ≡ Some r → r.required ≡ true → g r.name r.form ≡ None → are_there rows g ≡ false
+not_there [] n r g e q h = cc
+not_there (x ∷ xs) n r g e q h = lacks_at (bytes_eq n x.name) x (row_named n xs) r g (are_there xs g) e q h (λ k. not_there xs n r g k q h)
+
+-- An object without what a required row names says nothing.
+pub lacks : (rows : List Row) (n : List ℕ) (r : Row) (g : List ℕ → Form → Option Data) → row_named n rows ≡ Some r → r.required ≡ true → g r.name r.form ≡ None → plain_object (Some rows) g ≡ None
+lacks rows n r g e q h = ap (λ b. if b then Some (object (members_by rows g)) else None) (not_there rows n r g e q h)

@@ -1,0 +1,4 @@
+pub mod Array
+pub mod Building
+pub mod Exact
+pub mod Object

@@ -1,0 +1,20 @@
+//! What the readers and the writers of all objects share: members by their form, lists and parts of objects, and objects
+//! that are put together member by member.
+
+#![tactic(auto)]
+
+mod array;
+mod exact;
+mod members;
+mod object;
+mod parts;
+mod values;
+mod written;
+
+pub use array::Array;
+pub use exact::Exact;
+pub use members::{flag_member, member, string_member, text_member, word_member};
+pub use object::Object;
+pub use parts::{Part, list_member, one_member};
+pub use values::{flag_value, optional_word, string_value, text_value, word_value};
+pub use written::{Written, list_value, optional_value};
