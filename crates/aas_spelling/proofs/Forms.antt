@@ -55,7 +55,7 @@ has_named name [] v e = cc
 has_named name (u ∷ us) v e =
     named_first name u v (bytes_eq (name u) (name v)) (has (names_of name us) (name v)) (find (λ u. bytes_eq (name u) (name v)) us) refl e (has_named name us v)
 
-word_good : (l : Levels) (ws : List (List ℕ)) (s : List ℕ) → has ws s ≡ true → Good l (word ws) (Some (string s))
+pub word_good : (l : Levels) (ws : List (List ℕ)) (s : List ℕ) → has ws s ≡ true → Good l (word ws) (Some (string s))
 word_good l ws s e = record { again = ap (λ b. if b then Some (string s) else None) e; fits = ap (λ b. if b then None else Some []) e; low = refl; order = tt }
 
 -- The name of a value of an enumeration is good.
@@ -133,6 +133,7 @@ added (Some c) d xs ys t e = (same_first, same_rest)
   where
     same_first : ◌≡◌ {A = Option Data} (Some c) (Some d)
     same_first = cc
+
     same_rest : xs ≡ ys
     same_rest = cc
 

@@ -171,8 +171,8 @@ object_good s l inner rows g n r d there full a =
     let same = agree_again inner rows g ms found a in
     let clear = members_clear rows inner rows g (named rows d) a in record {
       again =
-        ap (λ x. plain_object x (plain_member ms)) r
-        ∙ ap₂ (λ b xs. if b then Some (object xs) else None) (same_there rows (plain_member ms) g same ∙ there) (same_members rows (plain_member ms) g same);
+          ap (λ x. plain_object x (plain_member ms)) r
+          ∙ ap₂ (λ b xs. if b then Some (object xs) else None) (same_there rows (plain_member ms) g same ∙ there) (same_members rows (plain_member ms) g same);
       fits = ap (λ x. misfit_object x (misfit_members ms) ms) r ∙ ap₂ first_of clear.0 (none_missing rows g ms found full);
       low = ap₂ (λ x y. within x (too_deep_object y (too_deep_members ms))) n r ∙ clear.1;
       order = members_ordered inner rows g d a;
@@ -242,4 +242,4 @@ object_back s l rows g r d good =
     let fit = first_none (misfit_members ms rows) (missing rows ms) (sym (ap (λ x. misfit_object x (misfit_members ms) ms) r) ∙ good.fits) in
     let low : within (enter s l) (too_deep_object (Some rows) (too_deep_members ms)) ≡ None = sym (ap (λ x. within (enter s l) (too_deep_object x (too_deep_members ms))) r) ∙ good.low in
     entered_by (enter s l) s l rows g refl low fit.0 good.order d (sym (same_there rows (plain_member ms) g same) ∙ said.0)
-      (agree_both rows (λ n f. option_and_then (plain f) (g n f)) g (plain_member ms) found same)
+    (agree_both rows (λ n f. option_and_then (plain f) (g n f)) g (plain_member ms) found same)
