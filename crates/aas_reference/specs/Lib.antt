@@ -1,0 +1,4 @@
+pub mod Spelling
+pub mod Same
+pub mod Rules
+pub mod Whole

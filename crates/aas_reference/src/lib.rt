@@ -1,0 +1,3 @@
+//! References.
+
+#![tactic(auto)]
