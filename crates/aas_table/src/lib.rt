@@ -5,7 +5,6 @@
 pub mod misfit;
 pub mod pointer;
 pub mod table;
-pub mod too_deep;
-
 #[cfg(test)]
 mod tests;
+pub mod too_deep;

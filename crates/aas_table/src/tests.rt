@@ -11,8 +11,16 @@ fn first_faults(rt: HostRuntime) {
     let concept = Form::One(Sort::Concept);
     for (form, json, expected) in [
         (element, "[]", "$"),
-        (element, r#"{"Value":"x","idShort":1,"modelType":"Property"}"#, "/Value"),
-        (element, r#"{"idShort":1,"modelType":"Property"}"#, "/idShort"),
+        (
+            element,
+            r#"{"Value":"x","idShort":1,"modelType":"Property"}"#,
+            "/Value",
+        ),
+        (
+            element,
+            r#"{"idShort":1,"modelType":"Property"}"#,
+            "/idShort",
+        ),
         (element, r#"{"modelType":"Property"}"#, "/valueType"),
         (element, r#"{"a/b~":1,"modelType":"Capability"}"#, "/a~1b~0"),
         (
@@ -25,10 +33,16 @@ fn first_faults(rt: HostRuntime) {
             r#"{"embeddedDataSpecifications":[{"a":[null,1]}],"modelType":"Capability"}"#,
             "/embeddedDataSpecifications/0/a/1",
         ),
-        (concept, r#"{"foo":1,"id":"urn:c1","modelType":"ConceptDescription"}"#, "/foo"),
+        (
+            concept,
+            r#"{"foo":1,"id":"urn:c1","modelType":"ConceptDescription"}"#,
+            "/foo",
+        ),
     ] {
         let value = Value::from_slice(alloc, json.as_bytes()).expect(&rt, "JSON");
-        let fault = misfit(alloc, form, &value).expect(&rt, "memory").expect(&rt, "a fault");
+        let fault = misfit(alloc, form, &value)
+            .expect(&rt, "memory")
+            .expect(&rt, "a fault");
         let text = pointer(alloc, &fault).expect(&rt, "memory");
         assert!(rt; text.as_str() == expected);
     }
@@ -57,11 +71,18 @@ fn first_places_that_lie_too_deep(rt: HostRuntime) {
             Levels::at_level(29),
             "/value/0/value/0",
         ),
-        (element, r#"{"modelType":"Capability"}"#, Levels::at_level(31), "$"),
+        (
+            element,
+            r#"{"modelType":"Capability"}"#,
+            Levels::at_level(31),
+            "$",
+        ),
     ] {
         let value = Value::from_slice(alloc, json.as_bytes()).expect(&rt, "JSON");
         assert!(rt; misfit(alloc, form, &value).expect(&rt, "memory").is_none());
-        let place = too_deep(alloc, form, &value, left).expect(&rt, "memory").expect(&rt, "a place");
+        let place = too_deep(alloc, form, &value, left)
+            .expect(&rt, "memory")
+            .expect(&rt, "a place");
         let text = pointer(alloc, &place).expect(&rt, "memory");
         assert!(rt; text.as_str() == expected);
     }
