@@ -1,8 +1,8 @@
 ghost use Rattle.std.specs.Prelude.{◌≡◌, ◌-◌, map, IfOk, option_map};
 ghost use Rattle.serde_json.specs.View.{view, items_view, members_view};
-ghost use Rattle.aas_table.specs.TooDeep.{too_deep, too_deep_items, too_deep_members, too_deep_all, limits, spend, enter, enter_kept};
-ghost use Rattle.aas_table.specs.Seen.{row_of, form_of, sort_of};
-ghost use Rattle.aas_table.specs.Left.{levels_of};
+ghost use Rattle.aas_table.specs.TooDeep.{too_deep, too_deep_items, too_deep_members, too_deep_all};
+ghost use Rattle.aas_table.specs.TooDeep.{limits, spend, enter, enter_kept};
+ghost use Rattle.aas_table.specs.Seen.{row_of, form_of, sort_of, levels_of};
 
 use crate::pointer::{Token, Trail};
 use crate::table::{Form, Row, Sort, row_named, rows_of};
@@ -22,20 +22,22 @@ pub struct Levels {
 }
 
 impl Levels {
-    /// What is left at the outside of a document: 30 levels of elements, 4 of references and 12 of kept data.
+    /// What is left at the outside of a document: 30 levels of elements, 4 of references and 12 of
+    /// kept data.
     pub const LIMITS: Levels = Levels {
         elements: 30,
         references: 4,
         kept: 12,
     };
 
-    /// What is left where a submodel element stands at this level. A direct child of a submodel has level 1, a child
-    /// one more than its parent. Above level 30 none is left for the element itself.
+    /// What is left where a submodel element stands at this level. A direct child of a submodel has
+    /// level 1, a child one more than its parent. From level 31 on none is left for the element
+    /// itself.
     pub fn at_level(level: u32) -> Levels
         ensures { levels_of result ≡ record limits { elements = 31 - level } }
     {
         Levels {
-            elements: 31u32.saturating_sub(level),
+            elements: (Levels::LIMITS.elements + 1).saturating_sub(level),
             ..Levels::LIMITS
         }
     }
@@ -76,8 +78,9 @@ fn spend(left: u32) -> Option<u32>
     left.checked_sub(1)
 }
 
-/// The first place in a JSON value that lies too deep, where `left` says how many levels are left for it. Places come in
-/// the order of the first mapping fault, and what has no place in the form is passed over.
+/// The first place in a JSON value that lies too deep, where `left` says how many levels are left
+/// for it. Places come in the order of the first mapping fault. What does not fit the form is passed
+/// over.
 #[cycle(too_deep)]
 pub fn too_deep(
     alloc: Global,
@@ -85,38 +88,23 @@ pub fn too_deep(
     value: &Value,
     left: Levels,
 ) -> Result<Option<Trail>, NoMemory>
-    ensures { IfOk result (λ place. place ≡ too_deep (form_of form) (view value.now) (levels_of left)) }
+    ensures { IfOk result (λ place. place
+        ≡ too_deep (form_of form) (view value.now) (levels_of left)) }
 {
-    match form {
-        Form::Text => Ok(None),
-        Form::Flag => Ok(None),
-        Form::Word(_) => Ok(None),
-        Form::One(sort) => match value {
-            Value::Object(members) => {
-                let Some(inside) = left.enter(sort) else {
-                    return Ok(Some(Trail::here(alloc)));
-                };
-                match rows_of(sort, members) {
-                    Some(rows) => too_deep_members(alloc, rows, members, inside),
-                    None => Ok(None),
-                }
+    match (form, value) {
+        (Form::One(sort), Value::Object(members)) => {
+            let Some(inside) = left.enter(sort) else {
+                return Ok(Some(Trail::here(alloc)));
+            };
+            match rows_of(sort, members) {
+                Some(rows) => too_deep_members(alloc, rows, members, inside),
+                None => Ok(None),
             }
-            _ => Ok(None),
-        },
-        Form::Many(sort) => match value {
-            Value::Array(items) => too_deep_items(alloc, Form::One(sort), items, left),
-            _ => Ok(None),
-        },
-        Form::Kept => match value {
-            Value::Array(items) => {
-                let Some(inside) = left.enter_kept() else {
-                    return Ok(Some(Trail::here(alloc)));
-                };
-                too_deep_items(alloc, Form::Any, items, inside)
-            }
-            _ => Ok(None),
-        },
-        Form::Any => {
+        }
+        (Form::Many(sort), Value::Array(items)) => {
+            too_deep_items(alloc, Form::One(sort), items, left)
+        }
+        (Form::Kept, Value::Array(_)) | (Form::Any, _) => {
             let Some(inside) = left.enter_kept() else {
                 return Ok(Some(Trail::here(alloc)));
             };
@@ -126,6 +114,7 @@ pub fn too_deep(
                 _ => Ok(None),
             }
         }
+        _ => Ok(None),
     }
 }
 
@@ -136,7 +125,8 @@ fn too_deep_items(
     items: &Vec<Value>,
     left: Levels,
 ) -> Result<Option<Trail>, NoMemory>
-    ensures { IfOk result (λ place. place ≡ too_deep_items (items_view items.now.items) (form_of form) 0 (levels_of left)) }
+    ensures { IfOk result (λ place. place
+        ≡ too_deep_items (items_view items.now.items) (form_of form) 0 (levels_of left)) }
 {
     for (place, item) in items.iter().enumerate() {
         if let Some(trail) = too_deep(alloc, form, item, left)? {
@@ -153,8 +143,8 @@ fn too_deep_members(
     members: &Map<String, Value>,
     left: Levels,
 ) -> Result<Option<Trail>, NoMemory>
-    ensures { IfOk result
-        (λ place. place ≡ too_deep_members (members_view members.now.entries) (map row_of rows.now) (levels_of left)) }
+    ensures { IfOk result (λ place. place
+        ≡ too_deep_members (members_view members.now.entries) (map row_of rows.now) (levels_of left)) }
 {
     for (name, value) in members.iter() {
         if let Some(row) = row_named(name.as_str(), rows) {
@@ -173,7 +163,8 @@ fn too_deep_all(
     members: &Map<String, Value>,
     left: Levels,
 ) -> Result<Option<Trail>, NoMemory>
-    ensures { IfOk result (λ place. place ≡ too_deep_all (members_view members.now.entries) (levels_of left)) }
+    ensures { IfOk result (λ place. place
+        ≡ too_deep_all (members_view members.now.entries) (levels_of left)) }
 {
     for (name, value) in members.iter() {
         if let Some(trail) = too_deep(alloc, Form::Any, value, left)? {
