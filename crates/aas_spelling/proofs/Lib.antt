@@ -6,4 +6,5 @@ pub mod Laws
 pub mod Members
 pub mod Objects
 pub mod Plains
+pub mod Reading
 pub mod Rows
