@@ -1,3 +1,4 @@
+pub mod Back
 pub mod Exists
 pub mod Fits
 pub mod Forms
