@@ -5,6 +5,7 @@ pub mod Forms
 pub mod Kept
 pub mod Laws
 pub mod Members
+pub mod Nesting
 pub mod Objects
 pub mod Plains
 pub mod Reading
