@@ -246,3 +246,12 @@ mutual
   pairs : (kinds : Kinds) → Builds kinds → (ms : Members) → HasTexts ms → Pairs (plain_all ms)
   pairs kinds build no_members u = ([], refl)
   pairs kinds build (member k d ms) u = add_pair k (chars k) (plain any d) (plain_all ms) (encodes-chars k u.0) (tree kinds build d any u.1) (pairs kinds build ms u.2)
+
+-- ---- kept data alone
+
+abbrev itself : Kinds
+itself = record { Tree = λ s. Data; spell = λ s d. d }
+
+-- What a value of UTF-8 says as kept data is spelled by a list of kept data.
+pub kept_tree : (d : Data) → IsText d → IsListed spell_plain (plain kept d)
+kept_tree d u = tree itself (λ s ms u each. as_itself (plain (one s) (object ms))) d kept u
