@@ -14,9 +14,9 @@ use Rattle.aas_table.specs.TooDeep.{Levels, too_deep, too_deep_items, within, en
 use Rattle.aas_table.specs.Plain.{plain, plain_items, listed, add_item}
 use Rattle.aas_table.specs.Spelled.{list_of, onto, text_of}
 use Rattle.aas_spelling.specs.Values.{AreOrdered}
-use Rattle.aas_spelling.specs.Lists.{Each}
+pub use Rattle.aas_spelling.specs.Lists.{Each}
 use Rattle.aas_spelling.specs.Good.{Good}
-use Rattle.aas_spelling.proofs.Lists.{each_of}
+pub use Rattle.aas_spelling.proofs.Lists.{each_of}
 use Rattle.aas_spelling.proofs.Fits.{first_none, map_none, fits_one, fits_any}
 
 pub none_good : (l : Levels) (f : Form) → Good l f None

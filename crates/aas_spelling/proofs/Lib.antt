@@ -1,7 +1,6 @@
 pub mod Back
 mod Examples
 pub mod Exists
-pub mod Extracts
 pub mod Fits
 pub mod Forms
 pub mod Kept

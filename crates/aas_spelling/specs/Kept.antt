@@ -6,7 +6,7 @@ use Rattle.std.specs.Str.{encode_utf8_all}
 use Rattle.serde_json.specs.Data.{Data, null, boolean, array, object, no_items, Members, no_members, member}
 use Rattle.aas_table.specs.TooDeep.{Levels}
 use Rattle.aas_table.specs.Spelled.{list_of, onto, text_of}
-use Rattle.aas_spelling.specs.Lists.{each_true, most}
+pub use Rattle.aas_spelling.specs.Lists.{each_true, most}
 use Rattle.aas_model.specs.declared.plain.Plain.{Plain, fold-Plain}
 use Rattle.aas_model.specs.declared.plain.Plain.TheOpen.{Plain-F, PlainPair-F}
 
