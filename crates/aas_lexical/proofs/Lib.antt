@@ -1,0 +1,6 @@
+pub mod NumbersExact
+pub mod IntegersExact
+pub mod BinaryExact
+pub mod DatesExact
+pub mod TimesExact
+pub mod DurationsExact

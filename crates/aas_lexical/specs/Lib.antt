@@ -1,0 +1,6 @@
+pub mod Numbers
+pub mod Binary
+pub mod Dates
+pub mod Times
+pub mod Durations
+pub mod Cut
