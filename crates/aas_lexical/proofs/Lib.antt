@@ -4,3 +4,4 @@ pub mod BinaryExact
 pub mod DatesExact
 pub mod TimesExact
 pub mod DurationsExact
+pub mod MediaExact

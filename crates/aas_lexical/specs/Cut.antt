@@ -5,3 +5,4 @@ pub mod Binary
 pub mod Dates
 pub mod Times
 pub mod Durations
+pub mod Media

@@ -3,4 +3,5 @@ pub mod Binary
 pub mod Dates
 pub mod Times
 pub mod Durations
+pub mod Media
 pub mod Cut

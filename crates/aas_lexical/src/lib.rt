@@ -8,7 +8,9 @@
 mod binary;
 mod date;
 mod duration;
+mod media;
 mod number;
 mod time;
 
+pub use media::is_media_type;
 pub use time::is_utc_date_time;
