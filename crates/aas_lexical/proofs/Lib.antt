@@ -5,3 +5,4 @@ pub mod DatesExact
 pub mod TimesExact
 pub mod DurationsExact
 pub mod MediaExact
+pub mod NamesExact

@@ -6,3 +6,4 @@ pub mod Dates
 pub mod Times
 pub mod Durations
 pub mod Media
+pub mod Names

@@ -4,4 +4,5 @@ pub mod Dates
 pub mod Times
 pub mod Durations
 pub mod Media
+pub mod Names
 pub mod Cut

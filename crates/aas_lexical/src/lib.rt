@@ -9,8 +9,10 @@ mod binary;
 mod date;
 mod duration;
 mod media;
+mod name;
 mod number;
 mod time;
 
 pub use media::is_media_type;
+pub use name::{is_id_short, is_identifier, is_language, is_string, is_version};
 pub use time::is_utc_date_time;
