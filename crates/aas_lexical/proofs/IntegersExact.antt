@@ -20,7 +20,7 @@ use Rattle.aas_lexical.proofs.NumbersExact.{digits_no_sign}
 
 -- ---- digits
 
-digit_in : (b : ℕ) → digit_value b < 10 → is_ascii_digit b ≡ true
+pub digit_in : (b : ℕ) → digit_value b < 10 → is_ascii_digit b ≡ true
 digit_in b h = grind (arith, nat_tests)
 
 digit_below : (b : ℕ) → is_ascii_digit b ≡ true → digit_value b < 10

@@ -6,3 +6,4 @@ pub mod TimesExact
 pub mod DurationsExact
 pub mod MediaExact
 pub mod NamesExact
+pub mod NativesExact

@@ -5,4 +5,6 @@ pub mod Times
 pub mod Durations
 pub mod Media
 pub mod Names
+pub mod Values
+pub mod Natives
 pub mod Cut

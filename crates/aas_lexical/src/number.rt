@@ -99,7 +99,7 @@ pub(crate) fn is_integer(text: &[u8]) -> bool
 
 /// The value of an integer that fits 128 bits.
 #[tactic(auto, using(crate::proofs::IntegersExact::integer_numeral, crate::proofs::IntegersExact::numeral_integer))]
-fn integer_value(text: &str) -> Option<i128>
+pub(crate) fn integer_value(text: &str) -> Option<i128>
     ensures some { IfSome result (λ z. form.integer text.now × (z ≡ form.integer_value text.now)) }
     ensures none { IfNone result (form.integer text.now → FitsSigned w128 (form.integer_value text.now) → ⊥) }
 {
