@@ -1,9 +1,9 @@
 -- What is cut for a binary text is its form.
-use Rattle.std.proofs.Common.{◌≡◌, ℕ, ◌↔◌, ◌<◌, ◌||◌, Bool, true, false, List, [], ◌∷◌, ◌++◌, length, Option, Some, None, refl, sym, ap, ◌∙◌, inl, inr, codes}
+use Rattle.std.proofs.Common.{◌≡◌, ℕ, ◌↔◌, ◌<◌, List, [], ◌∷◌, ◌++◌, length, Some, None, refl, inl, inr, codes}
 use Rattle.std.specs.Char.{is_ascii_hexdigit}
-use Rattle.aas_forms.specs.Form.{lit, among, one, any, maybe, Many, ◌∣◌, ◌▸◌}
-use Rattle.aas_forms.specs.Cut.{after_lit, after_one, after_any, cut_all, cut_then, cut_maybe, cut_either, cut_many}
-use Rattle.aas_forms.proofs.Begin.{Stops, Avoids-lit, Avoids-then, Needs-one, Needs-then, of_among}
+use Rattle.aas_forms.specs.Form.{lit, one, any, maybe, Many, ◌∣◌, ◌▸◌}
+use Rattle.aas_forms.specs.Cut.{after_lit, after_one, after_any, cut_all, cut_then}
+use Rattle.aas_forms.proofs.Begin.{Avoids-lit, Needs-one, Needs-then, of_among}
 use Rattle.aas_forms.proofs.Cuts.{Cuts, Anything, End, Cuts-lit, Cuts-one, Cuts-any, Cuts-then, Cuts-next, Cuts-either_by, Cuts-maybe_by, whole}
 use Rattle.aas_forms.proofs.Repeat.{Nonempty, Nonempty-one, Nonempty-then, Cuts-many, Shrinks, Shrinks-cut, cut_many_turn, cut_many_end}
 use Rattle.aas_forms.proofs.Dodges.{Dodges, Dodges-first, Dodges-then}

@@ -1,9 +1,9 @@
 -- What is cut for a duration is its form.
-use Rattle.std.proofs.Common.{◌≡◌, ℕ, ◌↔◌, ◌==◌, Bool, true, false, List, [], ◌∷◌, ◌++◌, Option, Some, None, refl, append_assoc, codes}
+use Rattle.std.proofs.Common.{◌≡◌, ℕ, ◌↔◌, Bool, false, List, [], ◌++◌, Option, Some, None, refl, append_assoc, codes}
 use Rattle.std.specs.Char.{is_ascii_digit}
 use Rattle.aas_forms.specs.Form.{lit, among, run, maybe, nonempty, ◌▸◌}
-use Rattle.aas_forms.specs.Cut.{after_word, after_lit, after_run, cut_then, cut_maybe, cut_nonempty}
-use Rattle.aas_forms.proofs.Begin.{Stops, Avoids, Avoids-lit, Avoids-then, Needs, Needs-run, Needs-word, Needs-then, past_maybe}
+use Rattle.aas_forms.specs.Cut.{after_lit, after_run, cut_then, cut_maybe}
+use Rattle.aas_forms.proofs.Begin.{Stops, Avoids-lit, Avoids-then, Needs, Needs-run, Needs-word, Needs-then, past_maybe}
 use Rattle.aas_forms.proofs.Cuts.{Cuts, Anything, End, Cuts-lit, Cuts-run, Cuts-then, Cuts-next, Cuts-apart, Cuts-maybe, Cuts-maybe_by, whole}
 use Rattle.aas_forms.proofs.Repeat.{Cuts-nonempty}
 use Rattle.aas_forms.proofs.Dodges.{Dodges, Dodges-maybe, Dodges-last, Dodges-run}
@@ -68,8 +68,8 @@ fraction_no class p s y z h = rw (h.2, append_assoc) (past_maybe (Avoids-then (A
 
 second_cuts : Cuts (fraction is_ascii_digit ▸ lit "S") Anything (cut_then (after_fraction is_ascii_digit) (after_lit "S"))
 second_cuts = Cuts-then (fraction_cuts is_ascii_digit) (Cuts-lit "S") (λ y z h k. (
-    (Avoids-lit "S" is_ascii_digit (λ z. refl)).avoids y z h,
-    (Avoids-lit "S" (among ".") (λ z. refl)).avoids y z h,
+  (Avoids-lit "S" is_ascii_digit (λ z. refl)).avoids y z h,
+  (Avoids-lit "S" (among ".") (λ z. refl)).avoids y z h,
 ))
 
 seconds_cuts : Cuts seconds Anything after_seconds

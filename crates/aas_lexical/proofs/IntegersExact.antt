@@ -1,19 +1,18 @@
 -- An integer is a text that std reads as one, and what lies beyond 128 bits lies beyond every bound.
-use Rattle.std.proofs.Common.{◌≡◌, ℕ, ◌==◌, ◌||◌, ◌&&◌, ◌<◌, ◌≤◌, ◌^◌, nat_lt, ◌↔◌, IsTrue, to_z, of_z, Bool, true, false, cond, drop, length, List, [], ◌∷◌, ◌++◌, Option, Some, None, refl, sym, ap, ◌∙◌, inl, inr, arith, FitsSigned, if◌then◌else◌}
-use Rattle.std.proofs.lemmas.Bool.Decides.{nat_tests}
+use Rattle.std.proofs.Common.{◌≡◌, ℕ, ◌==◌, ◌||◌, ◌&&◌, ◌<◌, ◌≤◌, ◌^◌, nat_lt, ◌↔◌, Decides, IsTrue, to_z, of_z, Bool, true, false, cond, drop, List, [], ◌∷◌, Some, None, refl, arith, FitsSigned, if◌then◌else◌}
+use Rattle.std.proofs.lemmas.Bool.Decides.{nat_tests, Decides-and}
 use Rattle.std.proofs.lemmas.Int.{ints, fits_signed_from_abs, to_z-of_z}
 use Rattle.std.proofs.lemmas.Bool.{ltb-true}
 use Rattle.std.specs.Int.RustNames.{unsigned_abs}
 use lib.Signed.{le_z}
-use Rattle.std.specs.Prelude.{ℤ, pos, negsuc, neg_ℤ, ◌≤ℤ◌}
+use Rattle.std.specs.Prelude.{ℤ, pos, ◌≤ℤ◌}
 use Rattle.std.specs.Int.{w128}
 use Rattle.std.specs.Char.{is_ascii_digit, digit_value}
 use Rattle.std.specs.List.{list_all}
-use Rattle.std.specs.Option.{MatchOption}
-use Rattle.std.specs.Str.Parse.{AllDigits, IsNumeral, digits_value, starts_with_minus, without_leading_plus, without_leading_sign, signed_digits_value}
-use Rattle.aas_forms.specs.Form.{one, run, maybe, ◌▸◌}
-use Rattle.aas_forms.specs.Cut.{after_one, rest_or, cut_maybe}
-use Rattle.aas_forms.proofs.Begin.{Stops, Avoids, Avoids-run, and_split}
+use Rattle.std.specs.Str.Parse.{AllDigits, IsNumeral, starts_with_minus, without_leading_sign}
+use Rattle.aas_forms.specs.Form.{run}
+use Rattle.aas_forms.specs.Cut.{after_one, rest_or}
+use Rattle.aas_forms.proofs.Begin.{Stops, and_split}
 use Rattle.aas_forms.proofs.Cuts.{Cuts-maybe_one, peel}
 use Rattle.aas_lexical.specs.Numbers.{is_sign, integer, integer_value, integer_from, integer_up_to, integer_between}
 use Rattle.aas_lexical.proofs.NumbersExact.{digits_no_sign}
@@ -129,3 +128,9 @@ pub from_within : (t : List ℕ) (least value : ℤ) → FitsSigned w128 least �
 from_within t least value f g h e =
     let d = le_decided least (integer_value t) in
     rw (to_z-of_z w128 least f, to_z-of_z w128 value g, e) (λ k. (h, d.0 k), λ k. d.1 k.1)
+
+pub between_within : (t : List ℕ) (least greatest value : ℤ) (r : Bool) → integer t → value ≡ integer_value t → r ≡ (le_z least value && le_z value greatest) → IsTrue r ↔ integer_between least greatest t
+between_within t least greatest value r h e test =
+    let low = le_decided least (integer_value t) in let high = le_decided (integer_value t) greatest in
+    let both : Decides (le_z least (integer_value t) && le_z (integer_value t) greatest) ((least ≤ℤ integer_value t) × (integer_value t ≤ℤ greatest)) = Decides-and _ _ low high in
+    rw (test, e) (λ k. let w = both.0 k in (h, w.0, w.1), λ k. both.1 (k.1, k.2))

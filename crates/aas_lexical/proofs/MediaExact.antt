@@ -1,9 +1,9 @@
 -- What is cut for a media type is its form.
-use Rattle.std.proofs.Common.{◌≡◌, ℕ, ◌↔◌, ◌<◌, ◌==◌, ◌||◌, ◌⊎◌, Bool, true, false, List, [], ◌∷◌, ◌++◌, length, Option, Some, None, refl, sym, ap, ◌∙◌, append_assoc, inl, inr, arith, codes}
+use Rattle.std.proofs.Common.{◌≡◌, ℕ, ◌↔◌, ◌<◌, Bool, false, List, [], ◌∷◌, ◌++◌, length, Option, Some, None, refl, append_assoc, arith}
 use Rattle.std.proofs.lemmas.Bool.Decides.{nat_tests}
 use Rattle.std.specs.List.{list_all}
 use Rattle.aas_forms.specs.Form.{lit, among, one, any, run, Many, ◌∣◌, ◌▸◌}
-use Rattle.aas_forms.specs.Cut.{after_lit, after_one, after_any, after_run, cut_all, cut_then, cut_either, cut_many, first_of}
+use Rattle.aas_forms.specs.Cut.{after_one, cut_all, cut_either, first_of}
 use Rattle.aas_forms.proofs.Begin.{Stops, Apart, Apart-among, Apart-swap, Avoids, Avoids-one, Avoids-run, Avoids-lit, Avoids-then, Avoids-either, Needs-one, Needs-run, Needs-word, Needs-then, past_many, and_split}
 use Rattle.aas_forms.proofs.Cuts.{Cuts, Anything, End, Cuts-lit, Cuts-one, Cuts-any, Cuts-run, Cuts-then, Cuts-next, Cuts-apart, Cuts-either, whole}
 use Rattle.aas_forms.proofs.Repeat.{Nonempty, Nonempty-one, Nonempty-lit, Nonempty-then, Nonempty-behind, Nonempty-either, Cuts-many, Shrinks, Shrinks-cut, cut_many_turn, cut_many_end}
@@ -76,9 +76,9 @@ quote_no class k = Avoids-lit "\"" class (λ z. k)
 
 quoted_cuts : Cuts quoted Anything after_quoted
 quoted_cuts = Cuts-next (Cuts-lit "\"") (Cuts-then characters_cuts (Cuts-lit "\"") (λ y z h k. (
-    (quote_no is_plain refl).avoids y z h,
-    (quote_no is_lead refl).avoids y z h,
-    (quote_no (among "\\") refl).avoids y z h,
+  (quote_no is_plain refl).avoids y z h,
+  (quote_no is_lead refl).avoids y z h,
+  (quote_no (among "\\") refl).avoids y z h,
 )))
 
 -- ---- parameters

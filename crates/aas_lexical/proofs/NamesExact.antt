@@ -1,10 +1,10 @@
 -- What is cut for a name, a language and a version is its form.
-use Rattle.std.proofs.Common.{◌≡◌, ℕ, ◌↔◌, ◌<◌, ◌==◌, Bool, true, false, List, [], ◌∷◌, ◌++◌, length, Option, Some, None, refl, arith}
+use Rattle.std.proofs.Common.{◌≡◌, ℕ, ◌↔◌, ◌<◌, Bool, false, List, [], ◌++◌, length, Some, None, refl, arith}
 use Rattle.std.specs.Char.{is_ascii_digit, is_ascii_alphabetic, is_ascii_alphanumeric}
-use Rattle.aas_forms.specs.Form.{lit, among, one, any, run, up_to, Many, ◌▸◌}
-use Rattle.aas_forms.specs.Cut.{after_lit, after_one, after_any, after_run, cut_all, cut_then, cut_many, cut_up_to}
+use Rattle.aas_forms.specs.Form.{lit, among, run, up_to, Many, ◌▸◌}
+use Rattle.aas_forms.specs.Cut.{cut_all}
 use Rattle.aas_forms.proofs.Begin.{Stops, Apart-among, Avoids-one, Avoids-lit, Avoids-then, Needs-word, past_many}
-use Rattle.aas_forms.proofs.Cuts.{Cuts, Anything, End, Cuts-lit, Cuts-one, Cuts-any, Cuts-run, Cuts-then, Cuts-next, Cuts-either, whole}
+use Rattle.aas_forms.proofs.Cuts.{Cuts, End, Cuts-lit, Cuts-one, Cuts-any, Cuts-run, Cuts-then, Cuts-next, Cuts-either, whole}
 use Rattle.aas_forms.proofs.Repeat.{Nonempty, Nonempty-lit, Nonempty-then, Cuts-many, Cuts-up_to, Shrinks, Shrinks-cut, cut_many_turn, cut_many_end}
 use Rattle.aas_lexical.specs.Names.{language, is_nonzero_digit, version, is_name_byte, id_short}
 use Rattle.aas_lexical.specs.Cut.Names.{after_subtag, after_subtags, after_language, after_version, after_id_short}

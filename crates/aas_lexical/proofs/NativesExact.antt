@@ -1,14 +1,14 @@
 -- The value that is written natively: the function gives it exactly where there is one.
-use Rattle.std.proofs.Common.{◌≡◌, ℕ, zero, suc, ◌==◌, ◌<◌, ◌≤◌, ◌^◌, ◌-◌, ◌+◌, ◌&&◌, ◌↔◌, Bool, true, false, cond, drop, length, List, [], ◌∷◌, Option, Some, None, refl, sym, ap, ◌∙◌, arith, FitsSigned, Decides, codes, if◌then◌else◌}
+use Rattle.std.proofs.Common.{◌≡◌, ℕ, suc, ◌==◌, ◌<◌, ◌^◌, ◌&&◌, Bool, true, false, List, [], ◌∷◌, Option, Some, None, refl, sym, ap, ◌∙◌, arith, FitsSigned, Decides, codes, if◌then◌else◌}
 use Rattle.std.proofs.lemmas.Bool.Decides.{nat_tests, Decides-and}
 use Rattle.std.proofs.lemmas.Int.{ints}
 use Rattle.std.proofs.lemmas.Fmt.{decimal_is_IsNumeral}
-use Rattle.std.specs.Prelude.{ℤ, pos, negsuc, neg_ℤ, ◌≤ℤ◌, int_le, bytes_eq, option_map}
+use Rattle.std.specs.Prelude.{ℤ, pos, negsuc, neg_ℤ, bytes_eq, option_map}
 use Rattle.std.specs.Cmp.Lexicographic.{bytes_decides}
 use Rattle.std.specs.Int.{w128}
 use Rattle.std.specs.Char.{is_ascii_digit}
 use Rattle.std.specs.Fmt.{decimal, signed_decimal}
-use Rattle.std.specs.Str.Parse.{IsNumeral, digits_value, starts_with_minus, without_leading_plus, without_leading_sign}
+use Rattle.std.specs.Str.Parse.{IsNumeral, starts_with_minus, without_leading_plus, without_leading_sign}
 use Rattle.aas_names.specs.declared.value_type.ValueType.{ValueType}
 use Rattle.aas_names.specs.declared.value_type.ValueType.TheVariants as xs
 use Rattle.aas_lexical.specs.declared.natives.Native.{Native}

@@ -1,9 +1,8 @@
 -- What is cut for a time is its form.
-use Rattle.std.proofs.Common.{◌≡◌, ℕ, ◌↔◌, ◌≤◌, Bool, true, false, ◌&&◌, ◌==◌, nat_le, List, [], ◌∷◌, ◌++◌, Option, Some, None, refl, arith, Decides, codes}
+use Rattle.std.proofs.Common.{◌≡◌, ℕ, ◌↔◌, Bool, true, false, ◌&&◌, List, [], ◌∷◌, ◌++◌, Some, refl, arith, Decides, codes}
 use Rattle.std.proofs.lemmas.Bool.Decides.{nat_tests, Decides-and, Decides-eqb}
 use Rattle.std.specs.Char.{is_ascii_digit}
-use Rattle.aas_forms.specs.Form.{lit, among, run, maybe, digits, such, ◌∣◌, ◌▸◌, ◌▸=◌}
-use Rattle.aas_forms.specs.Cut.{after_lit, after_run, after_two_digits, cut_then, cut_maybe, cut_either, cut_with, cut_such}
+use Rattle.aas_forms.specs.Form.{among}
 use Rattle.aas_forms.proofs.Begin.{Stops, Apart-among, Avoids-lit, Avoids-either, Needs-word, Needs-then}
 use Rattle.aas_forms.proofs.Cuts.{Cuts, Anything, End, Cuts-lit, Cuts-run, Cuts-then, Cuts-next, Cuts-either, Cuts-either_by, Cuts-maybe, whole}
 use Rattle.aas_forms.proofs.Values.{Reads-two_digits, Cuts-with, Cuts-such}
@@ -54,8 +53,8 @@ clock_cuts = Cuts-with Reads-two_digits (λ h. Cuts-next (Cuts-lit ":") (Cuts-wi
 
 time_cuts : Cuts time End after_time
 time_cuts = Cuts-then clock_cuts zone_cuts (λ y z h k. (
-    zone_past is_ascii_digit refl (Apart-among "+-" is_ascii_digit refl) y z h k,
-    zone_past (among ".") refl (Apart-among "+-" (among ".") refl) y z h k,
+  zone_past is_ascii_digit refl (Apart-among "+-" is_ascii_digit refl) y z h k,
+  zone_past (among ".") refl (Apart-among "+-" (among ".") refl) y z h k,
 ))
 
 pub time_exact : (t : List ℕ) → (after_time t ≡ Some []) ↔ time t
@@ -66,8 +65,8 @@ moment_cuts = Cuts-next day_cuts (Cuts-next (Cuts-lit "T") clock_cuts)
 
 date_time_cuts : Cuts date_time End after_date_time
 date_time_cuts = Cuts-then moment_cuts zone_cuts (λ y z h k. (
-    zone_past is_ascii_digit refl (Apart-among "+-" is_ascii_digit refl) y z h k,
-    zone_past (among ".") refl (Apart-among "+-" (among ".") refl) y z h k,
+  zone_past is_ascii_digit refl (Apart-among "+-" is_ascii_digit refl) y z h k,
+  zone_past (among ".") refl (Apart-among "+-" (among ".") refl) y z h k,
 ))
 
 pub date_time_exact : (t : List ℕ) → (after_date_time t ≡ Some []) ↔ date_time t

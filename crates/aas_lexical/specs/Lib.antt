@@ -7,4 +7,5 @@ pub mod Media
 pub mod Names
 pub mod Values
 pub mod Natives
+pub mod Texts
 pub mod Cut

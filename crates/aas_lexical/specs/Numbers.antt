@@ -1,5 +1,5 @@
 -- Numbers. XML Schema Part 2 (Second Edition), sections 3.2.3 to 3.2.5 and 3.3.13 to 3.3.25.
-use Rattle.std.specs.Prelude.{◌≡◌, ℕ, ◌-◌, ◌^◌, Bool, ℤ, pos, neg_ℤ, ◌≤ℤ◌, List}
+use Rattle.std.specs.Prelude.{ℕ, ◌-◌, ◌^◌, Bool, ℤ, pos, neg_ℤ, ◌≤ℤ◌, List}
 use Rattle.std.specs.Char.{is_ascii_digit}
 use Rattle.std.specs.Str.Parse.{signed_digits_value}
 use Rattle.aas_forms.specs.Form.{lit, among, one, any, run, maybe, ◌∣◌, ◌▸◌}

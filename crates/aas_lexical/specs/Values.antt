@@ -1,6 +1,6 @@
 -- The form of each value type: IDTA-01001-3-0, DataTypeDefXsd, and the sections of XML Schema Part 2 (Second Edition) that
 -- the types are named after. White space is not collapsed, which is this profile's own rule.
-use Rattle.std.specs.Prelude.{◌⊎◌, ℕ, ℤ, pos, neg_ℤ, List, ⊤}
+use Rattle.std.specs.Prelude.{ℕ, pos, neg_ℤ, List, ⊤}
 use Rattle.aas_forms.specs.Form.{lit, ◌∣◌}
 use Rattle.aas_names.specs.declared.value_type.ValueType.{ValueType}
 use Rattle.aas_names.specs.declared.value_type.ValueType.TheVariants as xs

@@ -27,7 +27,21 @@ impl ByteClass for Base64Byte {
             Base64Byte::SixBits => byte.is_ascii_alphanumeric() || matches!(byte, b'+' | b'/'),
             Base64Byte::FourBits => matches!(
                 byte,
-                b'A' | b'E' | b'I' | b'M' | b'Q' | b'U' | b'Y' | b'c' | b'g' | b'k' | b'o' | b's' | b'w' | b'0' | b'4' | b'8'
+                b'A' | b'E'
+                    | b'I'
+                    | b'M'
+                    | b'Q'
+                    | b'U'
+                    | b'Y'
+                    | b'c'
+                    | b'g'
+                    | b'k'
+                    | b'o'
+                    | b's'
+                    | b'w'
+                    | b'0'
+                    | b'4'
+                    | b'8'
             ),
             Base64Byte::TwoBits => matches!(byte, b'A' | b'Q' | b'g' | b'w'),
         }

@@ -78,7 +78,7 @@ fn after_month(text: &[u8]) -> Option<&[u8]>
     ensures { option_map (λ x. x.now) result ≡ cut.after_month text.now }
 {
     let (month, rest) = after_two_digits(text)?;
-    if 1 <= month && month <= 12 {
+    if (1..=12).contains(&month) {
         Some(rest)
     } else {
         None
@@ -90,7 +90,7 @@ fn after_day_of_month(text: &[u8]) -> Option<&[u8]>
     ensures { option_map (λ x. x.now) result ≡ cut.after_day_of_month text.now }
 {
     let (day, rest) = after_two_digits(text)?;
-    if 1 <= day && day <= 31 {
+    if (1..=31).contains(&day) {
         Some(rest)
     } else {
         None

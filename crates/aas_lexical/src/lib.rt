@@ -20,3 +20,6 @@ pub use name::{is_id_short, is_identifier, is_language, is_string, is_version};
 pub use natives::Native;
 pub use time::is_utc_date_time;
 pub use value::{fits, native};
+
+#[cfg(test)]
+mod tests;

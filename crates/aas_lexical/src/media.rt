@@ -33,12 +33,26 @@ impl ByteClass for MediaByte {
                 byte.is_ascii_alphanumeric()
                     || matches!(
                         byte,
-                        b'!' | b'#' | b'$' | b'%' | b'&' | b'\'' | b'*' | b'+' | b'-' | b'.' | b'^' | b'_' | b'`' | b'|' | b'~'
+                        b'!' | b'#'
+                            | b'$'
+                            | b'%'
+                            | b'&'
+                            | b'\''
+                            | b'*'
+                            | b'+'
+                            | b'-'
+                            | b'.'
+                            | b'^'
+                            | b'_'
+                            | b'`'
+                            | b'|'
+                            | b'~'
                     )
             },
             MediaByte::Space => matches!(byte, b' ' | b'\t'),
             MediaByte::Printable => matches!(byte, b'\t' | 0x20..=0x7e),
-            MediaByte::Plain => matches!(byte, b'\t' | 0x20..=0x7e) && !matches!(byte, b'"' | b'\\'),
+            MediaByte::Plain => matches!(byte, b'\t' | 0x20..=0x7e)
+                && !matches!(byte, b'"' | b'\\'),
             MediaByte::Lead => matches!(byte, 0xc2..=0xc3),
             MediaByte::Continuation => matches!(byte, 0x80..=0xbf),
         }

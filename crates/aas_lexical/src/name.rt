@@ -119,8 +119,7 @@ fn character_count(text: &str) -> usize
 pub fn is_identifier(text: &str) -> bool
     ensures { IsTrue result ↔ form.IsIdentifier (chars text.now) }
 {
-    let count = character_count(text);
-    1 <= count && count <= MOST_IDENTIFIER_CHARACTERS
+    (1..=MOST_IDENTIFIER_CHARACTERS).contains(&character_count(text))
 }
 
 /// Whether a text may have the character.

@@ -48,7 +48,10 @@ fn after_exponent(text: &[u8]) -> Option<&[u8]>
     ensures { option_map (λ x. x.now) result ≡ cut.after_exponent text.now }
 {
     let signed = after_one(NumberByte::ExponentMark, text)?;
-    after_run(Ascii::Digit, after_one(NumberByte::Sign, signed).unwrap_or(signed))
+    after_run(
+        Ascii::Digit,
+        after_one(NumberByte::Sign, signed).unwrap_or(signed),
+    )
 }
 
 /// The text behind a decimal number and an exponent, which may be left out.
@@ -63,7 +66,10 @@ fn after_decimal_with_exponent(text: &[u8]) -> Option<&[u8]>
 fn after_integer(text: &[u8]) -> Option<&[u8]>
     ensures { option_map (λ x. x.now) result ≡ cut.after_integer text.now }
 {
-    after_run(Ascii::Digit, after_one(NumberByte::Sign, text).unwrap_or(text))
+    after_run(
+        Ascii::Digit,
+        after_one(NumberByte::Sign, text).unwrap_or(text),
+    )
 }
 
 /// Whether the text is an xs:decimal.
@@ -103,10 +109,7 @@ pub(crate) fn integer_value(text: &str) -> Option<i128>
     ensures some { IfSome result (λ z. form.integer text.now × (z ≡ form.integer_value text.now)) }
     ensures none { IfNone result (form.integer text.now → FitsSigned w128 (form.integer_value text.now) → ⊥) }
 {
-    match text.parse::<i128>() {
-        Ok(value) => Some(value),
-        Err(_) => None,
-    }
+    text.parse().ok()
 }
 
 /// Whether a minus stands at the front.
@@ -122,7 +125,7 @@ pub(crate) fn is_between(least: i128, greatest: i128, text: &str) -> bool
     ensures { IsTrue result ↔ form.integer_between least greatest text.now }
 {
     match integer_value(text) {
-        Some(value) => least <= value && value <= greatest,
+        Some(value) => (least..=greatest).contains(&value),
         None => false,
     }
 }

@@ -7,7 +7,9 @@ use crate::binary::{is_base64, is_hex};
 use crate::date::{is_date, is_g_day, is_g_month, is_g_month_day, is_g_year, is_g_year_month};
 use crate::duration::is_duration;
 use crate::natives::Native;
-use crate::number::{integer_value, is_at_least, is_at_most, is_between, is_decimal, is_float, is_integer};
+use crate::number::{
+    integer_value, is_at_least, is_at_most, is_between, is_decimal, is_float, is_integer,
+};
 use crate::time::{is_date_time, is_time};
 use aas_names::ValueType;
 use itoa::Buffer;
@@ -72,7 +74,7 @@ fn is_same(a: &[u8], b: &[u8]) -> bool
 fn is_written(value: i128) -> bool
     ensures { result ≡ is_written value }
 {
-    -9_223_372_036_854_775_808 <= value && value <= 18_446_744_073_709_551_615
+    (-9_223_372_036_854_775_808..=18_446_744_073_709_551_615).contains(&value)
 }
 
 /// The whole number of which the text is the decimal text, if it is written natively.
@@ -92,10 +94,7 @@ fn whole(text: &str) -> Option<i128>
 fn is_boolean(value_type: ValueType) -> bool
     ensures { result ≡ is_boolean value_type }
 {
-    match value_type {
-        ValueType::Boolean => true,
-        _ => false,
-    }
+    matches!(value_type, ValueType::Boolean)
 }
 
 /// Whether whole numbers of the type are written natively.
