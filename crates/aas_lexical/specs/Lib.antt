@@ -1,0 +1,11 @@
+pub mod Numbers
+pub mod Binary
+pub mod Dates
+pub mod Times
+pub mod Durations
+pub mod Media
+pub mod Names
+pub mod Values
+pub mod Natives
+pub mod Texts
+pub mod Cut
