@@ -1,0 +1,188 @@
+-- The rows of the attribute table: their names rise in byte order, so that none stands twice, and no row is of kept data itself.
+use Rattle.std.proofs.Common.{◌≡◌, ℕ, List, [], ◌∷◌, ◌&&◌, Bool, true, false, Option, Some, None, option_map, option_and_then, if◌then◌else◌, Ordering, Less, Equal, Greater, nat_cmp, is_eq, is_lt, not, codes, bytes_eq, refl, sym, ap, ◌∙◌, subst, true≢false}
+use Rattle.std.specs.Cmp.Lexicographic.{slice_cmp}
+use Rattle.std.proofs.lemmas.Slice.Eq.{bytes_eq-Decides}
+use Rattle.std.proofs.lemmas.Map.Text.{is_eq-slice_cmp}
+use Rattle.serde_json.specs.Data.{Data, Members}
+use Rattle.serde_json.specs.Find.{get_member, as_str}
+use Rattle.aas_table.specs.Table.{Sort, reference, key, lang_text, extension, qualifier, specific_asset_id, administration, asset_information, resource, operation_variable, environment, shell, submodel, concept, element, data_element, simple_element, Form, text, flag, word, one, many, kept, any, Row, parts, model_types}
+use Rattle.aas_table.specs.Rows.{find, sorted, row_named, choose, rows_of}
+
+pub and_left : (a b : Bool) → a && b ≡ true → a ≡ true
+and_left true b e = refl
+and_left false b e = e
+
+pub and_right : (a b : Bool) → a && b ≡ true → b ≡ true
+and_right true b e = e
+and_right false b e = absurd (true≢false (sym e))
+
+-- ---- names that rise
+
+-- n is below each row's name
+abbrev pub is_below : List ℕ → List Row → Bool
+is_below n [] = true
+is_below n (r ∷ rs) = is_lt (slice_cmp nat_cmp n r.name) && is_below n rs
+
+abbrev pub rising : List Row → Bool
+rising [] = true
+rising (r ∷ rs) = is_below r.name rs && rising rs
+
+pub same_text : (a b : List ℕ) → slice_cmp nat_cmp a b ≡ Equal → a ≡ b
+same_text a b e = (bytes_eq-Decides a b).0 (sym (is_eq-slice_cmp a b) ∙ ap is_eq e)
+
+pub itself : (n : List ℕ) → is_eq (slice_cmp nat_cmp n n) ≡ true
+itself n = is_eq-slice_cmp n n ∙ (bytes_eq-Decides n n).1 refl
+
+less : (o : Ordering) → is_lt o ≡ true → not (is_eq o) ≡ true
+less Less e = refl
+less Equal e = absurd (true≢false (sym e))
+less Greater e = refl
+
+-- a lesser name is another one
+pub other : (l n : List ℕ) → is_lt (slice_cmp nat_cmp l n) ≡ true → not (is_eq (slice_cmp nat_cmp l n)) ≡ true
+other l n e = less (slice_cmp nat_cmp l n) e
+
+pub other_name : (l n : List ℕ) → is_lt (slice_cmp nat_cmp l n) ≡ true → bytes_eq n l ≡ false
+other_name l n e = by_bytes (bytes_eq n l) refl
+  where
+    by_bytes : (b : Bool) → bytes_eq n l ≡ b → bytes_eq n l ≡ false
+    by_bytes false d = d
+    by_bytes true d =
+        let same : n ≡ l = (bytes_eq-Decides n l).0 d in
+        absurd (true≢false (sym (other l n e) ∙ ap (λ x. not (is_eq (slice_cmp nat_cmp l x))) same ∙ ap not (itself l)))
+
+pub other_back : (l n : List ℕ) → is_lt (slice_cmp nat_cmp l n) ≡ true → not (is_eq (slice_cmp nat_cmp n l)) ≡ true
+other_back l n e = ap not (is_eq-slice_cmp n l ∙ other_name l n e)
+
+-- ---- each row is the one of its name
+
+abbrev pub AllNamed : List Row → List Row → Type 0
+AllNamed rows [] = Unit {0}
+AllNamed rows (r ∷ rs) = (row_named r.name rows ≡ Some r) × AllNamed rows rs
+
+named_past : (x : Row) (all rows : List Row) → is_below x.name rows ≡ true → AllNamed all rows → AllNamed (x ∷ all) rows
+named_past x all [] e n = tt
+named_past x all (r ∷ rs) e n = (
+  ap (λ b. if b then Some x else row_named r.name all) (other_name x.name r.name (and_left _ _ e)) ∙ n.0,
+  named_past x all rs (and_right _ _ e) n.1,
+)
+
+pub named : (rows : List Row) → rising rows ≡ true → AllNamed rows rows
+named [] e = tt
+named (r ∷ rs) e = (
+  ap (λ b. if b then Some r else row_named r.name rs) ((bytes_eq-Decides r.name r.name).1 refl),
+  named_past r rs rs (and_left _ _ e) (named rs (and_right _ _ e)),
+)
+
+-- ---- what holds of the rows of every object
+
+-- not kept data itself, of which an empty list is not as if absent
+abbrev pub is_attribute : Form → Bool
+is_attribute any = false
+is_attribute f = true
+
+abbrev pub are_attributes : List Row → Bool
+are_attributes [] = true
+are_attributes (r ∷ rs) = is_attribute r.form && are_attributes rs
+
+abbrev is_text : Form → Bool
+is_text text = true
+is_text f = false
+
+abbrev is_text_row : Option Row → Bool
+is_text_row None = false
+is_text_row (Some r) = is_text r.form
+
+abbrev are_sound : List Row → Bool
+are_sound rows = rising rows && are_attributes rows
+
+-- the rows of each modelType are sound, and one of them is the modelType
+abbrev models_sound : List (List ℕ × List Row) → Bool
+models_sound [] = true
+models_sound (k ∷ ks) = (are_sound (sorted k.1) && is_text_row (row_named (codes "modelType") (sorted k.1))) && models_sound ks
+
+table_sound : (s : Sort) → models_sound (model_types s) && are_sound (sorted (parts s)) ≡ true
+table_sound reference = refl
+table_sound key = refl
+table_sound lang_text = refl
+table_sound extension = refl
+table_sound qualifier = refl
+table_sound specific_asset_id = refl
+table_sound administration = refl
+table_sound asset_information = refl
+table_sound resource = refl
+table_sound operation_variable = refl
+table_sound environment = refl
+table_sound shell = refl
+table_sound submodel = refl
+table_sound concept = refl
+table_sound element = refl
+table_sound data_element = refl
+table_sound simple_element = refl
+
+-- what is known of rows under a modelType
+abbrev Known : List Row → Type 0
+Known rows = (are_sound rows ≡ true) × (is_text_row (row_named (codes "modelType") rows) ≡ true)
+
+found : (ks : List (List ℕ × List Row)) → models_sound ks ≡ true → (n : List ℕ) (rows : List Row) → option_map sorted (find n ks) ≡ Some rows → Known rows
+found [] h n rows e = cc
+found (k ∷ ks) h n rows e = by_name (bytes_eq n k.0) e (found ks (and_right _ _ h) n rows)
+  where
+    by_name : (b : Bool) → option_map sorted (if b then Some k.1 else find n ks) ≡ Some rows → (option_map sorted (find n ks) ≡ Some rows → Known rows) → Known rows
+    by_name true e later =
+        let same : sorted k.1 ≡ rows = cc in
+        let here = and_left (are_sound (sorted k.1) && is_text_row (row_named (codes "modelType") (sorted k.1))) (models_sound ks) h in
+        subst Known same (and_left _ _ here, and_right (are_sound (sorted k.1)) _ here)
+    by_name false e later = later e
+
+some_found : (n : Option (List ℕ)) (ks : List (List ℕ × List Row)) → models_sound ks ≡ true → (rows : List Row) → option_map sorted (option_and_then (λ x. find x ks) n) ≡ Some rows → Known rows
+some_found None ks h rows e = cc
+some_found (Some x) ks h rows e = found ks h x rows e
+
+chosen : (ks : List (List ℕ × List Row)) (mine : List Row) (d : Option Data) (rows : List Row) → models_sound ks ≡ true → are_sound (sorted mine) ≡ true
+    → option_map sorted (choose ks mine d) ≡ Some rows → are_sound rows ≡ true
+chosen [] mine d rows h own e = let same : sorted mine ≡ rows = cc in subst (λ rs. are_sound rs ≡ true) same own
+chosen (k ∷ ks) mine d rows h own e = (some_found (option_and_then as_str d) (k ∷ ks) h rows e).0
+
+-- another modelType of the same text chooses the same rows
+chosen_again : (ks : List (List ℕ × List Row)) (mine : List Row) (d e : Option Data) (rows : List Row) → models_sound ks ≡ true → option_map sorted (choose ks mine d) ≡ Some rows
+    → (is_text_row (row_named (codes "modelType") rows) ≡ true → option_and_then as_str e ≡ option_and_then as_str d) → option_map sorted (choose ks mine e) ≡ Some rows
+chosen_again [] mine d e rows h is same = is
+chosen_again (k ∷ ks) mine d e rows h is same =
+    let known = some_found (option_and_then as_str d) (k ∷ ks) h rows is in
+    ap (λ n. option_map sorted (option_and_then (λ x. find x (k ∷ ks)) n)) (same known.1) ∙ is
+
+sound : (s : Sort) (ms : Members) (rows : List Row) → rows_of s ms ≡ Some rows → are_sound rows ≡ true
+unfolding rows_of
+sound s ms rows e =
+    chosen (model_types s) (parts s) (get_member (codes "modelType") ms) rows (and_left _ _ (table_sound s)) (and_right (models_sound (model_types s)) _ (table_sound s)) e
+
+-- The names of an object's rows rise.
+pub rows_rise : (s : Sort) (ms : Members) (rows : List Row) → rows_of s ms ≡ Some rows → rising rows ≡ true
+rows_rise s ms rows e = and_left (rising rows) (are_attributes rows) (sound s ms rows e)
+
+-- No row of an object is of kept data itself.
+pub rows_attributes : (s : Sort) (ms : Members) (rows : List Row) → rows_of s ms ≡ Some rows → are_attributes rows ≡ true
+rows_attributes s ms rows e = and_right (rising rows) (are_attributes rows) (sound s ms rows e)
+
+text_form : (f : Form) → is_text f ≡ true → f ≡ text
+text_form text e = refl
+text_form flag e = absurd (true≢false (sym e))
+text_form (word ws) e = absurd (true≢false (sym e))
+text_form (one s) e = absurd (true≢false (sym e))
+text_form (many s) e = absurd (true≢false (sym e))
+text_form kept e = absurd (true≢false (sym e))
+text_form any e = absurd (true≢false (sym e))
+
+text_row : (o : Option Row) → is_text_row o ≡ true → (r : Row) × (o ≡ Some r) × (r.form ≡ text)
+text_row None e = absurd (true≢false (sym e))
+text_row (Some r) e = (r, refl, text_form r.form e)
+
+-- An object with the same text as its modelType has the same rows.
+pub rows_again : (s : Sort) (ms ns : Members) (rows : List Row) → rows_of s ms ≡ Some rows
+    → ((r : Row) → row_named (codes "modelType") rows ≡ Some r → r.form ≡ text → option_and_then as_str (get_member (codes "modelType") ns) ≡ option_and_then as_str (get_member (codes "modelType") ms))
+    → rows_of s ns ≡ Some rows
+unfolding rows_of
+rows_again s ms ns rows e same =
+    chosen_again (model_types s) (parts s) (get_member (codes "modelType") ms) (get_member (codes "modelType") ns) rows (and_left _ _ (table_sound s)) e
+    (λ t. let r = text_row (row_named (codes "modelType") rows) t in same r.0 r.1 r.2)

@@ -1,0 +1,6 @@
+pub mod Good
+pub mod Kept
+pub mod Reading
+pub mod Reads
+pub mod Spells
+pub mod Values
