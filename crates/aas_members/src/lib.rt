@@ -21,4 +21,4 @@ pub use object::Object;
 pub use parts::{Part, list_member, one_member};
 pub use plains::kept_value;
 pub use values::{flag_value, optional_word, string_value, text_value, word_value};
-pub use written::{Written, list_value, optional_value};
+pub use written::{Flags, Texts, Written, list_value, optional_value};
