@@ -1,4 +1,6 @@
-ghost use Rattle.std.specs.Prelude.{◌≡◌, [], ◌∷◌, IfOk};
+ghost use Rattle.std.specs.Prelude.{◌≡◌, [], ◌∷◌, ◌++◌, IfOk, OnOk, flat_map, string_bytes, encode_utf8};
+ghost use Rattle.std.specs.Str.{encode_utf8_all};
+ghost use Rattle.aas_table.specs.Pointer.{pointer_text, token_text, escaped_byte};
 ghost use Rattle.aas_table.specs.Rows.{in_member};
 
 use aas_text::{Many, NoMemory, Text};
@@ -15,13 +17,26 @@ pub enum Token {
 }
 
 impl Token {
-    ghost use Rattle.aas_table.specs.Tokens.{token_of};
+    ghost use Rattle.std.specs.Prelude.{◌≡◌, ◌++◌, IfOk, OnOk, string_bytes};
+    ghost use Rattle.aas_table.specs.Pointer.{token_text};
+    ghost use Rattle.aas_table.specs.Rows.{in_member};
+    ghost use Rattle.aas_table.specs.Seen.{token_of};
 
     /// The step into the member of this name.
     pub fn member(alloc: Global, name: &str) -> Result<Token, NoMemory>
         ensures { IfOk result (λ token. token_of token ≡ in_member name.now) }
     {
         Ok(Token::Member(Text::from_str(alloc, name)?))
+    }
+
+    fn push_onto(&self, text: &mut String) -> Result<(), NoMemory>
+        ensures { OnOk result (string_bytes text.new ≡ string_bytes text.old ++ token_text (token_of self.now)) }
+    {
+        text.push('/')?;
+        match self {
+            Token::Member(name) => push_name(text, name.as_str()),
+            Token::Item(place) => Ok(write!(text, "{place}")?),
+        }
     }
 }
 
@@ -35,7 +50,7 @@ pub struct Trail {
 impl Model for Trail {
     ghost use Rattle.std.specs.Prelude.{map, reverse};
     ghost use Rattle.aas_table.specs.Rows.{Pointer};
-    ghost use Rattle.aas_table.specs.Tokens.{token_of};
+    ghost use Rattle.aas_table.specs.Seen.{token_of};
 
     ghost Value = { Pointer };
 
@@ -43,7 +58,7 @@ impl Model for Trail {
 }
 
 impl Trail {
-    ghost use Rattle.aas_table.specs.Tokens.{token_of};
+    ghost use Rattle.aas_table.specs.Seen.{token_of};
 
     /// The way to the value itself.
     pub fn here(alloc: Global) -> Trail
@@ -61,4 +76,39 @@ impl Trail {
         self.inside_out.push(token)?;
         Ok(self)
     }
+}
+
+/// The text of the pointer (RFC 6901, sections 3 and 5). The empty pointer is `$`.
+pub fn pointer(alloc: Global, trail: &Trail) -> Result<Text, NoMemory>
+    ensures { IfOk result (λ text. encode_utf8_all text ≡ pointer_text trail.now) }
+{
+    if trail.inside_out.is_empty() {
+        return Text::from_str(alloc, "$");
+    }
+    let mut text = String::new(alloc);
+    for token in trail.inside_out.as_slice().iter().rev() {
+        token.push_onto(&mut text)?;
+    }
+    Text::from_str(alloc, text.as_str())
+}
+
+fn push_name(text: &mut String, name: &str) -> Result<(), NoMemory>
+    ensures { OnOk result (string_bytes text.new ≡ string_bytes text.old ++ flat_map escaped_byte name.now) }
+{
+    for character in name.chars() {
+        push_escaped(text, character)?;
+    }
+    Ok(())
+}
+
+#[tactic(auto, using(crate::proofs::Escapes::escaped_plain))]
+fn push_escaped(text: &mut String, character: char) -> Result<(), NoMemory>
+    ensures { OnOk result (string_bytes text.new ≡ string_bytes text.old ++ flat_map escaped_byte (encode_utf8 character)) }
+{
+    match character {
+        '~' => text.push_str("~0")?,
+        '/' => text.push_str("~1")?,
+        _ => text.push(character)?,
+    }
+    Ok(())
 }
