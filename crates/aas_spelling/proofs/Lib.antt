@@ -1,3 +1,4 @@
+pub mod Back
 pub mod Exists
 pub mod Fits
 pub mod Forms
@@ -6,4 +7,5 @@ pub mod Laws
 pub mod Members
 pub mod Objects
 pub mod Plains
+pub mod Reading
 pub mod Rows
