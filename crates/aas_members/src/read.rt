@@ -4,7 +4,7 @@ ghost use Rattle.aas_table.specs.Table.{one};
 ghost use Rattle.serde_json.specs.View.{view};
 ghost use Rattle.aas_table.specs.Seen.{sort_of, levels_of};
 ghost use Rattle.aas_spelling.specs.Reading.{reading};
-ghost use Rattle.aas_spelling.specs.Reads.{Reads};
+ghost use Rattle.aas_spelling.specs.Reads.{Reads, ReadsBytes};
 ghost use Rattle.aas_members.specs.Said.{said, Checks, GivesValue};
 
 use crate::parts::Part;
@@ -73,4 +73,13 @@ pub fn read_part<P: Part>(alloc: Global, sort: Sort, value: &Value, left: Levels
         Ok(None) => unreachable!(),
         Err(_) => Err(ReadFault::NoMemory),
     }
+}
+
+/// The part that the bytes spell as a JSON text, where so many levels are left, or the first fault.
+pub fn read_bytes<P: Part>(alloc: Global, sort: Sort, bytes: &[u8], left: Levels) -> Result<P::Tree, ReadFault>
+    requires { sort_of sort ≡ P.sort }
+    ensures { ReadsBytes (said P.sort P.spell) (levels_of left) result bytes.now }
+{
+    let value = read_value(alloc, bytes)?;
+    read_part::<P>(alloc, sort, &value, left)
 }
