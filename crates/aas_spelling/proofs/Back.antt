@@ -156,7 +156,7 @@ read_back d o w shallow =
     let ts = tree.json_tokens j in
     let same : tokens (compact_text d) ≡ ts = ap tokens (sym (print-outline d)) ∙ tokens-print ts (ArePrintable-json_tokens j (numbers_outline d w)) in
     let whole : json.value max_depth (tokens (compact_text d)) ≡ Some (j, []) =
-        ap (json.value max_depth) (same ∙ sym (append-nil ts)) ∙ value-json_tokens j max_depth [] (omega (arith, shallow, depth_outline d)) in
+    ap (json.value max_depth) (same ∙ sym (append-nil ts)) ∙ value-json_tokens j max_depth [] (omega (arith, shallow, depth_outline d)) in
     ap (λ r. option_and_then of_json (option_and_then (λ p. json.if_last p.0 p.1) r)) whole ∙ of_outline d o w
 
 -- ---- the text is UTF-8
