@@ -1,4 +1,7 @@
 pub mod Array
 pub mod Building
 pub mod Exact
+pub mod Kept
 pub mod Object
+pub mod Ordered
+pub mod Said
