@@ -1,5 +1,7 @@
 pub mod Fits
 pub mod Forms
+pub mod Kept
+pub mod Members
 pub mod Objects
 pub mod Plains
 pub mod Rows

@@ -7,8 +7,8 @@ use Rattle.serde_json.specs.Data.{Data, null, boolean, number, string, array, ob
 use Rattle.serde_json.specs.Find.{get_member, as_str}
 use Rattle.aas_table.specs.Names.{has}
 use Rattle.aas_table.specs.Table.{Sort, Form, text, flag, word, one, many, kept, any, Row}
-use Rattle.aas_table.specs.Rows.{Pointer, in_member, in_item, first_of, row_named, rows_of, is_there}
-use Rattle.aas_table.specs.Misfit.{misfit_items, misfit_all}
+use Rattle.aas_table.specs.Rows.{in_member, in_item, first_of, row_named, rows_of, is_there}
+use Rattle.aas_table.specs.Misfit.{misfit_items}
 use Rattle.aas_table.specs.TooDeep.{Levels, too_deep, too_deep_items, too_deep_members, too_deep_member, too_deep_object, too_deep_all, within, enter, enter_kept}
 use Rattle.aas_table.specs.Plain.{plain, plain_items, plain_member, plain_object, plain_all, are_there, members_by, listed, add_item, add}
 use Rattle.aas_spelling.specs.Values.{IsOrdered, AreOrdered, HasOrder, AreAbove}
@@ -16,6 +16,7 @@ use Rattle.aas_spelling.specs.Good.{Good}
 use Rattle.aas_spelling.proofs.Rows.{rising, rows_rise, rows_attributes, rows_again, AllNamed, named, same_text, is_attribute, are_attributes, and_left, and_right}
 use Rattle.aas_spelling.proofs.Fits.{first_none, map_none}
 use Rattle.aas_spelling.proofs.Objects.{Agree, AreGood, are_full, object_good, finds, plain_member_is}
+use Rattle.aas_spelling.proofs.Members.{entered, GoodMembers, none_members, one_member, map_good}
 use Rattle.aas_spelling.proofs.Forms.{none_good, string_good, word_good}
 
 -- ---- what the table says of an object, it says of its plain form
@@ -135,12 +136,6 @@ listed_kept l inner (item d ds) n h = record { again = ap listed h.again; fits =
 array_kept : (l inner : Levels) (ds : Items) → enter_kept l ≡ Some inner → GoodItems inner any ds → Good l any (Some (array ds))
 array_kept l inner ds n h = record { again = ap (λ x. Some (array x)) h.again; fits = h.fit 0; low = ap (λ o. within o (too_deep_items ds any 0)) n ∙ h.low 0; order = h.order }
 
-record GoodMembers (l : Levels) (ms : Members) : Type 0 where
-  again : plain_all ms ≡ ms
-  fit : misfit_all ms ≡ None
-  low : too_deep_all ms l ≡ None
-  order : HasOrder ms
-
 added_above : (k l : List ℕ) (o : Option Data) (ms : Members) → slice_cmp nat_cmp k l ≡ Less → AreAbove k ms → AreAbove k (add l o ms)
 added_above k l None ms e a = a
 added_above k l (Some d) ms e a = (e, a)
@@ -148,26 +143,6 @@ added_above k l (Some d) ms e a = (e, a)
 plain_above : (k : List ℕ) (ms : Members) → AreAbove k ms → AreAbove k (plain_all ms)
 plain_above k no_members a = tt
 plain_above k (member l d ms) a = added_above k l (plain any d) (plain_all ms) a.0 (plain_above k ms a.1)
-
-one_member : (l : Levels) (k : List ℕ) (o : Option Data) (ms : Members) → Good l any o → AreAbove k ms → GoodMembers l ms → GoodMembers l (add k o ms)
-one_member l k None ms g a h = h
-one_member l k (Some d) ms g a h = record {
-  again = ap₂ (add k) g.again h.again;
-  fit = ap₂ first_of (ap (option_map (λ p. in_member k ∷ p)) g.fits) h.fit;
-  low = ap₂ first_of (ap (option_map (λ p. in_member k ∷ p)) g.low) h.low;
-  order = (a, g.order, h.order);
-}
-
-object_kept : (l inner : Levels) (ms : Members) → enter_kept l ≡ Some inner → GoodMembers inner ms → Good l any (Some (object ms))
-object_kept l inner ms n h = record { again = ap (λ x. Some (object x)) h.again; fits = h.fit; low = ap (λ o. within o (too_deep_all ms)) n ∙ h.low; order = h.order }
-
--- the level that is entered
-entered : (l : Levels) (inside : Levels → Option Pointer) → within (enter_kept l) inside ≡ None → (inner : Levels) × (enter_kept l ≡ Some inner) × (inside inner ≡ None)
-entered l inside e = by_level (enter_kept l) refl e
-  where
-    by_level : (o : Option Levels) → enter_kept l ≡ o → within o inside ≡ None → (inner : Levels) × (enter_kept l ≡ Some inner) × (inside inner ≡ None)
-    by_level None n e = cc
-    by_level (Some inner) n e = (inner, n, e)
 
 each_good : (rows all : List Row) (l : Levels) (ms : Members) → AllNamed all rows → ((n : List ℕ) (r : Row) → row_named n all ≡ Some r → Good l r.form (plain_member ms n r.form)) → AreGood l rows (plain_member ms)
 each_good [] all l ms n each = tt
@@ -216,7 +191,7 @@ mutual
   plain_good (boolean b) any l o e = record { again = refl; fits = refl; low = e; order = tt }
   plain_good (string s) any l o e = record { again = refl; fits = refl; low = e; order = tt }
   plain_good (array ds) any l o e = let i = entered l (too_deep_items ds any 0) e in array_kept l i.0 (plain_items ds any) i.1 (items_good ds any i.0 0 o i.2)
-  plain_good (object ms) any l o e = let i = entered l (too_deep_all ms) e in object_kept l i.0 (plain_all ms) i.1 (all_good ms i.0 o i.2)
+  plain_good (object ms) any l o e = let i = entered l (too_deep_all ms) e in map_good l i.0 (plain_all ms) i.1 (all_good ms i.0 o i.2)
   plain_good null text l o e = none_good l text
   plain_good null flag l o e = none_good l flag
   plain_good null (word ws) l o e = none_good l (word ws)
@@ -244,7 +219,7 @@ mutual
       member_plain (slice_cmp nat_cmp n k) k n d ms rows l r refl both.0 named (λ f. plain_good d f l o.1) (members_good ms rows l o.2 both.1 n r named)
 
   all_good : (ms : Members) (l : Levels) → HasOrder ms → too_deep_all ms l ≡ None → GoodMembers l (plain_all ms)
-  all_good no_members l o e = record { again = refl; fit = refl; low = refl; order = tt }
+  all_good no_members l o e = none_members l
   all_good (member k d ms) l o e =
       let both = first_none (option_map (λ p. in_member k ∷ p) (too_deep any d l)) (too_deep_all ms l) e in
       one_member l k (plain any d) (plain_all ms) (plain_good d any l o.1 (map_none (λ p. in_member k ∷ p) (too_deep any d l) both.0)) (plain_above k ms o.0) (all_good ms l o.2 both.1)
