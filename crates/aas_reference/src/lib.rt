@@ -1,3 +1,5 @@
 //! References.
 
 #![tactic(auto)]
+
+mod read;
