@@ -51,11 +51,11 @@ proved P step (Plain-F.Map ms) = step (Plain-F.Map (map (λ e. e.0) ms)) (each_p
 pub by_levels : (P : Plain → Type 0) → ((x : Level) → Inside P x → P (roll-Plain x)) → (p : Plain) → P p
 by_levels P step = ind-Plain P (λ m. P m.value) (λ x y is. subst (λ z. P (roll-Plain z)) is (proved P step y)) (λ x y is. subst P (ap (λ z. z.value) is) y.value.1)
 
-abbrev spell_members : List PlainPair → Members
+abbrev pub spell_members : List PlainPair → Members
 spell_members [] = no_members
 spell_members (m ∷ ms) = member (encode_utf8_all m.name) (spell_plain m.value) (spell_members ms)
 
-abbrev spelled_at : Level → Data
+abbrev pub spelled_at : Level → Data
 spelled_at Plain-F.Null = null
 spelled_at (Plain-F.Bool b) = boolean b
 spelled_at (Plain-F.Str s) = text_of s

@@ -1,6 +1,8 @@
+pub mod Exists
 pub mod Fits
 pub mod Forms
 pub mod Kept
+pub mod Laws
 pub mod Members
 pub mod Objects
 pub mod Plains

@@ -1,5 +1,5 @@
 -- What a reader answers for a JSON value, and for bytes: the one tree that is spelled, or the first fault. The order of faults is this profile's own rule. Want of memory may come at any time.
-use Rattle.std.specs.Prelude.{◌≡◌, ◌⊎◌, ℕ, List, Option, Some, None, option_map, MatchOption, Result, Ok, Err, ⊤}
+use Rattle.std.specs.Prelude.{◌≡◌, ◌⊎◌, ℕ, List, Option, Some, None, option_map, Result, Ok, Err, ⊤}
 use Rattle.std.specs.Str.{encode_utf8_all}
 use Rattle.serde_json.specs.Data.{Data}
 use Rattle.aas_table.specs.Table.{one}
@@ -32,9 +32,18 @@ Reads trees levels (Err fault) j = IsFault trees levels fault j
 abbrev pub ReadsEach : {A : Type 0} → Trees A → Levels → Result A ReadFault → Data → Type 0
 ReadsEach {A = A} trees levels result j = (t : A) → Spells trees levels j t → (result ≡ Ok t) ⊎ (result ≡ Err NoMemory)
 
--- NotJson exactly where the bytes have no reading
+-- the same, where there may be no value: NotJson exactly there
+abbrev pub ReadsIf : {A : Type 0} → Trees A → Levels → Result A ReadFault → Option Data → Type 0
+ReadsIf trees levels result None = (result ≡ Err NotJson) ⊎ (result ≡ Err NoMemory)
+ReadsIf trees levels result (Some j) = Reads trees levels result j
+
+abbrev pub ReadsEachIf : {A : Type 0} → Trees A → Levels → Result A ReadFault → Option Data → Type 0
+ReadsEachIf trees levels result None = ⊤
+ReadsEachIf trees levels result (Some j) = ReadsEach trees levels result j
+
+-- what is answered for bytes, by the value that they are read as
 abbrev pub ReadsBytes : {A : Type 0} → Trees A → Levels → Result A ReadFault → List ℕ → Type 0
-ReadsBytes trees levels result bytes = MatchOption (reading bytes) ((result ≡ Err NotJson) ⊎ (result ≡ Err NoMemory)) (λ j. Reads trees levels result j)
+ReadsBytes trees levels result bytes = ReadsIf trees levels result (reading bytes)
 
 abbrev pub ReadsEachOfBytes : {A : Type 0} → Trees A → Levels → Result A ReadFault → List ℕ → Type 0
-ReadsEachOfBytes trees levels result bytes = MatchOption (reading bytes) ⊤ (λ j. ReadsEach trees levels result j)
+ReadsEachOfBytes trees levels result bytes = ReadsEachIf trees levels result (reading bytes)
