@@ -1,4 +1,5 @@
 pub mod Array
 pub mod Building
 pub mod Exact
+pub mod Kept
 pub mod Object

@@ -5,6 +5,7 @@
 
 mod array;
 mod exact;
+mod kept;
 mod members;
 mod object;
 mod parts;
@@ -13,6 +14,7 @@ mod written;
 
 pub use array::Array;
 pub use exact::Exact;
+pub use kept::kept_member;
 pub use members::{flag_member, member, string_member, text_member, word_member};
 pub use object::Object;
 pub use parts::{Part, list_member, one_member};
