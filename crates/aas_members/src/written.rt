@@ -10,58 +10,71 @@ use crate::values::{flag_value, text_value};
 use aas_text::{NoMemory, Text};
 use std::alloc::Global;
 
-/// What is written as one JSON value.
+/// A sort of things that are each written as one JSON value.
 pub trait Written {
-    ghost spell: { Self → Data };
+    /// What is written.
+    type Tree;
 
-    /// The value that spells it.
-    fn value(&self, alloc: Global) -> Result<Exact, NoMemory>
-        ensures { IfOk result (λ exact. data_of exact ≡ spell self.now) };
+    ghost spell: { Self.Tree → Data };
+
+    /// The value that spells `tree`.
+    fn value(alloc: Global, tree: &Self::Tree) -> Result<Exact, NoMemory>
+        ensures { IfOk result (λ exact. data_of exact ≡ spell tree.now) };
 }
 
-impl Written for Text {
+/// Texts, each written as a string.
+pub struct Texts;
+
+impl Written for Texts {
+    type Tree = Text;
+
     ghost spell = { text_of };
 
-    fn value(&self, alloc: Global) -> Result<Exact, NoMemory> {
-        text_value(alloc, self)
+    fn value(alloc: Global, text: &Text) -> Result<Exact, NoMemory> {
+        text_value(alloc, text)
     }
 }
 
-impl Written for bool {
+/// Truth values.
+pub struct Flags;
+
+impl Written for Flags {
+    type Tree = bool;
+
     ghost spell = { boolean };
 
-    fn value(&self, _alloc: Global) -> Result<Exact, NoMemory> {
-        Ok(flag_value(*self))
+    fn value(_alloc: Global, flag: &bool) -> Result<Exact, NoMemory> {
+        Ok(flag_value(*flag))
     }
 }
 
 /// The value that spells what may be absent.
-pub fn optional_value<T: Written>(
+pub fn optional_value<P: Written>(
     alloc: Global,
-    part: &Option<T>,
+    part: &Option<P::Tree>,
 ) -> Result<Option<Exact>, NoMemory>
-    ensures { IfOk result (λ exact. option_map data_of exact ≡ option_map T.spell part.now) }
+    ensures { IfOk result (λ exact. option_map data_of exact ≡ option_map P.spell part.now) }
 {
     match part {
-        Some(part) => Ok(Some(part.value(alloc)?)),
+        Some(part) => Ok(Some(P::value(alloc, part)?)),
         None => Ok(None),
     }
 }
 
 /// The array that spells a list, or `None` for the empty list.
-pub fn list_value<T: Written>(alloc: Global, parts: &[T]) -> Result<Option<Exact>, NoMemory>
-    ensures { IfOk result (λ exact. option_map data_of exact ≡ list_of T.spell parts.now) }
+pub fn list_value<P: Written>(alloc: Global, parts: &[P::Tree]) -> Result<Option<Exact>, NoMemory>
+    ensures { IfOk result (λ exact. option_map data_of exact ≡ list_of P.spell parts.now) }
 {
-    let values = values_of(alloc, parts)?;
+    let values = values_of::<P>(alloc, parts)?;
     Ok(values.close_listed())
 }
 
-fn values_of<T: Written>(alloc: Global, parts: &[T]) -> Result<Array, NoMemory>
-    ensures { IfOk result (λ values. items_of values ≡ map T.spell parts.now) }
+fn values_of<P: Written>(alloc: Global, parts: &[P::Tree]) -> Result<Array, NoMemory>
+    ensures { IfOk result (λ values. items_of values ≡ map P.spell parts.now) }
 {
     let mut values = Array::new(alloc);
     for part in parts {
-        values.push(part.value(alloc)?)?;
+        values.push(P::value(alloc, part)?)?;
     }
     Ok(values)
 }

@@ -8,4 +8,4 @@ use Rattle.aas_members.proofs.parts.list_in.Given as goal
 -- what was found, before what the items that are left say, is what all items say
 abbrev pub invariant-loop-item : goal.invariant-loop-item
 invariant-loop-item g l =
-    onto (map g.T.Part.spell l.found) (plain_items (items_view (drop l.item-index l.item-items)) (one g.T.Part.sort)) ≡ plain_items (items_view l.item-items) (one g.T.Part.sort)
+    onto (map g.P.Part.spell l.found) (plain_items (items_view (drop l.item-index l.item-items)) (one g.P.Part.sort)) ≡ plain_items (items_view l.item-items) (one g.P.Part.sort)

@@ -4,4 +4,4 @@ use Rattle.aas_members.proofs.written.values_of.Given as goal
 
 -- so far as the loop has come
 abbrev pub invariant-loop-part : goal.invariant-loop-part
-invariant-loop-part g l = items_of l.values ≡ map g.T.Written.spell (take l.part-index l.parts)
+invariant-loop-part g l = items_of l.values ≡ map g.P.Written.spell (take l.part-index l.parts)
