@@ -6,18 +6,21 @@ ghost use Rattle.aas_table.specs.Spelled.{list_of};
 ghost use Rattle.aas_table.specs.Table.{one, parts, key, reference};
 ghost use Rattle.aas_reference.specs.Spelling.{spell_key, spell_reference};
 
+use crate::sorts::{Keys, References};
 use aas_members::{Part, list_member, member, string_member, word_member};
 use aas_model::{Boxed, Key, Many, NoMemory, Reference};
 use serde_json::{Map, Value};
 use std::alloc::Global;
 
-impl Part for Key {
+impl Part for Keys {
+    type Tree = Key;
+
     ghost sort = { key };
 
     ghost spell = { spell_key };
 
     #[tactic(auto, unfolding(aas_table::specs::Rows::rows_of))]
-    fn of(alloc: Global, value: &Value) -> Result<Option<Key>, NoMemory> {
+    fn tree(alloc: Global, value: &Value) -> Result<Option<Key>, NoMemory> {
         match value {
             Value::Object(members) => Ok(key_in(alloc, members)?),
             _ => Ok(None),
@@ -25,12 +28,14 @@ impl Part for Key {
     }
 }
 
-impl Part for Reference {
+impl Part for References {
+    type Tree = Reference;
+
     ghost sort = { reference };
 
     ghost spell = { spell_reference };
 
-    fn of(alloc: Global, value: &Value) -> Result<Option<Reference>, NoMemory> {
+    fn tree(alloc: Global, value: &Value) -> Result<Option<Reference>, NoMemory> {
         reference_of(alloc, value)
     }
 }
@@ -59,13 +64,10 @@ fn reference_of(alloc: Global, value: &Value) -> Result<Option<Reference>, NoMem
 }
 
 #[cycle(reference)]
-fn reference_in(
-    alloc: Global,
-    members: &Map<String, Value>,
-) -> Result<Option<Reference>, NoMemory>
+fn reference_in(alloc: Global, members: &Map<String, Value>) -> Result<Option<Reference>, NoMemory>
     ensures { IfOk result (λ found. option_map spell_reference found ≡ plain_object (Some (sorted (parts reference))) (plain_member (members_view members.now.entries))) }
 {
-    let keys = list_member(alloc, members, "keys")?;
+    let keys = list_member::<Keys>(alloc, members, "keys")?;
     if !has_any(&keys) {
         return Ok(None);
     }
