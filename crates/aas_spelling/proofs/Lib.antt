@@ -1,9 +1,12 @@
+pub mod Back
 pub mod Exists
 pub mod Fits
 pub mod Forms
 pub mod Kept
 pub mod Laws
 pub mod Members
+pub mod Nesting
 pub mod Objects
 pub mod Plains
+pub mod Reading
 pub mod Rows

@@ -1,5 +1,5 @@
 -- The rows of the attribute table: their names rise in byte order, so that none stands twice, and no row is of kept data itself.
-use Rattle.std.proofs.Common.{◌≡◌, ℕ, List, [], ◌∷◌, ◌&&◌, Bool, true, false, Option, Some, None, option_map, option_and_then, if◌then◌else◌, Ordering, Less, Equal, Greater, nat_cmp, is_eq, is_lt, not, codes, bytes_eq, refl, sym, ap, ◌∙◌, subst, true≢false}
+use Rattle.std.proofs.Common.{◌≡◌, ℕ, List, [], ◌∷◌, ◌&&◌, Bool, true, false, Option, Some, None, option_map, option_and_then, if◌then◌else◌, Ordering, Less, Equal, Greater, nat_cmp, is_eq, is_lt, not, codes, bytes_eq, refl, sym, ap, ◌∙◌, true≢false}
 use Rattle.std.specs.Cmp.Lexicographic.{slice_cmp}
 use Rattle.std.proofs.lemmas.Slice.Eq.{bytes_eq-Decides}
 use Rattle.std.proofs.lemmas.Map.Text.{is_eq-slice_cmp}
@@ -96,12 +96,49 @@ is_text_row (Some r) = is_text r.form
 abbrev are_sound : List Row → Bool
 are_sound rows = rising rows && are_attributes rows
 
--- the rows of each modelType are sound, and one of them is the modelType
-abbrev models_sound : List (List ℕ × List Row) → Bool
-models_sound [] = true
-models_sound (k ∷ ks) = (are_sound (sorted k.1) && is_text_row (row_named (codes "modelType") (sorted k.1))) && models_sound ks
+-- one of the rows is the modelType
+abbrev has_model : List Row → Bool
+has_model rows = is_text_row (row_named (codes "modelType") rows)
 
-table_sound : (s : Sort) → models_sound (model_types s) && are_sound (sorted (parts s)) ≡ true
+-- p holds of the rows of each modelType
+abbrev pub each_model : (List Row → Bool) → List (List ℕ × List Row) → Bool
+each_model p [] = true
+each_model p (k ∷ ks) = p (sorted k.1) && each_model p ks
+
+-- p holds of the rows of each object of a sort
+abbrev pub each_rows : (List Row → Bool) → Sort → Bool
+each_rows p s = each_model p (model_types s) && p (sorted (parts s))
+
+found : (p : List Row → Bool) (ks : List (List ℕ × List Row)) → each_model p ks ≡ true → (n : List ℕ) (rows : List Row) → option_map sorted (find n ks) ≡ Some rows → p rows ≡ true
+found p [] h n rows e = cc
+found p (k ∷ ks) h n rows e = by_name (bytes_eq n k.0) e (found p ks (and_right (p (sorted k.1)) _ h) n rows)
+  where
+    by_name : (b : Bool) → option_map sorted (if b then Some k.1 else find n ks) ≡ Some rows → (option_map sorted (find n ks) ≡ Some rows → p rows ≡ true) → p rows ≡ true
+    by_name true e later = let same : sorted k.1 ≡ rows = cc in ap p (sym same) ∙ and_left _ _ h
+    by_name false e later = later e
+
+some_found : (p : List Row → Bool) (n : Option (List ℕ)) (ks : List (List ℕ × List Row)) → each_model p ks ≡ true → (rows : List Row) → option_map sorted (option_and_then (λ x. find x ks) n) ≡ Some rows → p rows ≡ true
+some_found p None ks h rows e = cc
+some_found p (Some x) ks h rows e = found p ks h x rows e
+
+chosen : (p : List Row → Bool) (ks : List (List ℕ × List Row)) (mine : List Row) (d : Option Data) (rows : List Row) → each_model p ks ≡ true → p (sorted mine) ≡ true
+    → option_map sorted (choose ks mine d) ≡ Some rows → p rows ≡ true
+chosen p [] mine d rows h own e = let same : sorted mine ≡ rows = cc in ap p (sym same) ∙ own
+chosen p (k ∷ ks) mine d rows h own e = some_found p (option_and_then as_str d) (k ∷ ks) h rows e
+
+-- What holds of all rows of a sort holds of an object's.
+pub every : (p : List Row → Bool) (s : Sort) → each_rows p s ≡ true → (ms : Members) (rows : List Row) → rows_of s ms ≡ Some rows → p rows ≡ true
+unfolding rows_of
+every p s h ms rows e = chosen p (model_types s) (parts s) (get_member (codes "modelType") ms) rows (and_left _ _ h) (and_right (each_model p (model_types s)) _ h) e
+
+-- another modelType of the same text chooses the same rows
+chosen_again : (ks : List (List ℕ × List Row)) (mine : List Row) (d e : Option Data) (rows : List Row) → each_model has_model ks ≡ true → option_map sorted (choose ks mine d) ≡ Some rows
+    → (has_model rows ≡ true → option_and_then as_str e ≡ option_and_then as_str d) → option_map sorted (choose ks mine e) ≡ Some rows
+chosen_again [] mine d e rows h is same = is
+chosen_again (k ∷ ks) mine d e rows h is same =
+    ap (λ n. option_map sorted (option_and_then (λ x. find x (k ∷ ks)) n)) (same (some_found has_model (option_and_then as_str d) (k ∷ ks) h rows is)) ∙ is
+
+table_sound : (s : Sort) → each_rows are_sound s ≡ true
 table_sound reference = refl
 table_sound key = refl
 table_sound lang_text = refl
@@ -120,42 +157,27 @@ table_sound element = refl
 table_sound data_element = refl
 table_sound simple_element = refl
 
--- what is known of rows under a modelType
-abbrev Known : List Row → Type 0
-Known rows = (are_sound rows ≡ true) × (is_text_row (row_named (codes "modelType") rows) ≡ true)
-
-found : (ks : List (List ℕ × List Row)) → models_sound ks ≡ true → (n : List ℕ) (rows : List Row) → option_map sorted (find n ks) ≡ Some rows → Known rows
-found [] h n rows e = cc
-found (k ∷ ks) h n rows e = by_name (bytes_eq n k.0) e (found ks (and_right _ _ h) n rows)
-  where
-    by_name : (b : Bool) → option_map sorted (if b then Some k.1 else find n ks) ≡ Some rows → (option_map sorted (find n ks) ≡ Some rows → Known rows) → Known rows
-    by_name true e later =
-        let same : sorted k.1 ≡ rows = cc in
-        let here = and_left (are_sound (sorted k.1) && is_text_row (row_named (codes "modelType") (sorted k.1))) (models_sound ks) h in
-        subst Known same (and_left _ _ here, and_right (are_sound (sorted k.1)) _ here)
-    by_name false e later = later e
-
-some_found : (n : Option (List ℕ)) (ks : List (List ℕ × List Row)) → models_sound ks ≡ true → (rows : List Row) → option_map sorted (option_and_then (λ x. find x ks) n) ≡ Some rows → Known rows
-some_found None ks h rows e = cc
-some_found (Some x) ks h rows e = found ks h x rows e
-
-chosen : (ks : List (List ℕ × List Row)) (mine : List Row) (d : Option Data) (rows : List Row) → models_sound ks ≡ true → are_sound (sorted mine) ≡ true
-    → option_map sorted (choose ks mine d) ≡ Some rows → are_sound rows ≡ true
-chosen [] mine d rows h own e = let same : sorted mine ≡ rows = cc in subst (λ rs. are_sound rs ≡ true) same own
-chosen (k ∷ ks) mine d rows h own e = (some_found (option_and_then as_str d) (k ∷ ks) h rows e).0
-
--- another modelType of the same text chooses the same rows
-chosen_again : (ks : List (List ℕ × List Row)) (mine : List Row) (d e : Option Data) (rows : List Row) → models_sound ks ≡ true → option_map sorted (choose ks mine d) ≡ Some rows
-    → (is_text_row (row_named (codes "modelType") rows) ≡ true → option_and_then as_str e ≡ option_and_then as_str d) → option_map sorted (choose ks mine e) ≡ Some rows
-chosen_again [] mine d e rows h is same = is
-chosen_again (k ∷ ks) mine d e rows h is same =
-    let known = some_found (option_and_then as_str d) (k ∷ ks) h rows is in
-    ap (λ n. option_map sorted (option_and_then (λ x. find x (k ∷ ks)) n)) (same known.1) ∙ is
+table_models : (s : Sort) → each_model has_model (model_types s) ≡ true
+table_models reference = refl
+table_models key = refl
+table_models lang_text = refl
+table_models extension = refl
+table_models qualifier = refl
+table_models specific_asset_id = refl
+table_models administration = refl
+table_models asset_information = refl
+table_models resource = refl
+table_models operation_variable = refl
+table_models environment = refl
+table_models shell = refl
+table_models submodel = refl
+table_models concept = refl
+table_models element = refl
+table_models data_element = refl
+table_models simple_element = refl
 
 sound : (s : Sort) (ms : Members) (rows : List Row) → rows_of s ms ≡ Some rows → are_sound rows ≡ true
-unfolding rows_of
-sound s ms rows e =
-    chosen (model_types s) (parts s) (get_member (codes "modelType") ms) rows (and_left _ _ (table_sound s)) (and_right (models_sound (model_types s)) _ (table_sound s)) e
+sound s ms rows e = every are_sound s (table_sound s) ms rows e
 
 -- The names of an object's rows rise.
 pub rows_rise : (s : Sort) (ms : Members) (rows : List Row) → rows_of s ms ≡ Some rows → rising rows ≡ true
@@ -184,5 +206,5 @@ pub rows_again : (s : Sort) (ms ns : Members) (rows : List Row) → rows_of s ms
     → rows_of s ns ≡ Some rows
 unfolding rows_of
 rows_again s ms ns rows e same =
-    chosen_again (model_types s) (parts s) (get_member (codes "modelType") ms) (get_member (codes "modelType") ns) rows (and_left _ _ (table_sound s)) e
+    chosen_again (model_types s) (parts s) (get_member (codes "modelType") ms) (get_member (codes "modelType") ns) rows (table_models s) e
     (λ t. let r = text_row (row_named (codes "modelType") rows) t in same r.0 r.1 r.2)

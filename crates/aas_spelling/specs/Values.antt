@@ -1,10 +1,10 @@
 -- JSON values (RFC 8259): strings and names are UTF-8 (section 8.1). The names of an object are distinct and rise in byte order: this profile's own rule, which any value that is read keeps.
-use Rattle.std.specs.Prelude.{◌≡◌, ℕ, List, ⊤}
+use Rattle.std.specs.Prelude.{◌≡◌, ℕ, ◌^◌, ◌<◌, pos, negsuc, List, ⊤}
 use Rattle.std.specs.Str.{IsUtf8}
 use Rattle.std.specs.Ordering.{nat_cmp}
 use Rattle.std.specs.declared.cmp.Ordering.TheVariants.{Less}
 use Rattle.std.specs.Cmp.Lexicographic.{slice_cmp}
-use Rattle.serde_json.specs.Data.{Data, string, array, object, Items, no_items, item, Members, no_members, member}
+use Rattle.serde_json.specs.Data.{Num, unsigned, negative, float, Data, number, string, array, object, Items, no_items, item, Members, no_members, member}
 
 abbrev mutual
   pub IsText : Data → Type 0
@@ -43,3 +43,28 @@ abbrev mutual
 pub record IsValue (j : Data) : Type 0 where
   pub text : IsText j
   pub order : IsOrdered j
+
+-- ---- numbers
+
+-- a whole number from -2^63 to 2^64 - 1
+abbrev pub IsWholeNumber : Num → Type 0
+IsWholeNumber (unsigned n) = n < 2 ^ 64
+IsWholeNumber (negative (pos n)) = ⊥
+IsWholeNumber (negative (negsuc n)) = n < 2 ^ 63
+IsWholeNumber (float x) = ⊥
+
+-- each number is whole
+abbrev mutual
+  pub HasWholeNumbers : Data → Type 0
+  HasWholeNumbers (number n) = IsWholeNumber n
+  HasWholeNumbers (array ds) = HaveWholeNumbers ds
+  HasWholeNumbers (object ms) = MembersHaveWholeNumbers ms
+  HasWholeNumbers d = ⊤
+
+  pub HaveWholeNumbers : Items → Type 0
+  HaveWholeNumbers no_items = ⊤
+  HaveWholeNumbers (item d ds) = HasWholeNumbers d × HaveWholeNumbers ds
+
+  pub MembersHaveWholeNumbers : Members → Type 0
+  MembersHaveWholeNumbers no_members = ⊤
+  MembersHaveWholeNumbers (member k d ms) = HasWholeNumbers d × MembersHaveWholeNumbers ms
