@@ -24,8 +24,8 @@ unfolding encode
 escaped_plain c tilde slash =
     by_cases (nat_lt c 128) _ _ (plain_bytes c [] tilde slash refl)
     (by_cases (nat_lt c 2048) _ _ (wide_bytes (192 + c / 64) _ (omega arith) last)
-      (by_cases (nat_lt c 65536) _ _ (wide_bytes (224 + c / 4096) _ (omega arith) (wide_bytes (128 + c / 64 % 64) _ (omega arith) last))
-        (wide_bytes (240 + c / 262144) _ (omega arith) (wide_bytes (128 + c / 4096 % 64) _ (omega arith) (wide_bytes (128 + c / 64 % 64) _ (omega arith) last)))))
+    (by_cases (nat_lt c 65536) _ _ (wide_bytes (224 + c / 4096) _ (omega arith) (wide_bytes (128 + c / 64 % 64) _ (omega arith) last))
+    (wide_bytes (240 + c / 262144) _ (omega arith) (wide_bytes (128 + c / 4096 % 64) _ (omega arith) (wide_bytes (128 + c / 64 % 64) _ (omega arith) last)))))
   where
     last : flat_map escaped_byte ((128 + c % 64) ∷ []) ≡ (128 + c % 64) ∷ []
     last = wide_bytes (128 + c % 64) [] (omega arith) refl

@@ -1,5 +1,4 @@
 pub mod Examples
-pub mod Left
 pub mod Misfit
 pub mod Names
 pub mod Plain
@@ -8,5 +7,4 @@ pub mod Rows
 pub mod Seen
 pub mod Spelled
 pub mod Table
-pub mod Tokens
 pub mod TooDeep

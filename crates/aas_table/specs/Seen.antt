@@ -1,7 +1,12 @@
 -- What the program's own table, levels and pointers stand for.
 use Rattle.std.specs.Prelude.{ℕ, List, map}
+use Rattle.std.specs.Str.{encode_utf8_all}
 use Rattle.aas_table.specs.Names as names
+use Rattle.aas_table.specs.Rows as rows
 use Rattle.aas_table.specs.Table as table
+use Rattle.aas_table.specs.TooDeep as depth
+use Rattle.aas_table.specs.declared.pointer.Token.{Token}
+use Rattle.aas_table.specs.declared.pointer.Token.TheVariants as tokens
 use Rattle.aas_table.specs.declared.table.Sort.{Sort}
 use Rattle.aas_table.specs.declared.table.Sort.TheVariants as sorts
 use Rattle.aas_table.specs.declared.table.Form.{Form}
@@ -11,6 +16,7 @@ use Rattle.aas_table.specs.declared.table.Class.TheVariants as classes
 use Rattle.aas_table.specs.declared.table.Row.{Row}
 use Rattle.aas_table.specs.declared.table.names.Names.{Names}
 use Rattle.aas_table.specs.declared.table.names.Names.TheVariants as enumerations
+use Rattle.aas_table.specs.declared.too_deep.Levels.{Levels}
 
 abbrev pub sort_of : Sort → table.Sort
 sort_of sorts.Reference = table.reference
@@ -58,3 +64,10 @@ class_of classes.V = table.v
 
 abbrev pub row_of : Row → table.Row
 row_of r = record { name = r.name.now; form = form_of r.form; required = r.required; class = class_of r.class }
+
+abbrev pub levels_of : Levels → depth.Levels
+levels_of l = record { elements = l.elements; references = l.references; kept = l.kept }
+
+abbrev pub token_of : Token → rows.Token
+token_of (tokens.Member name) = rows.in_member (encode_utf8_all name)
+token_of (tokens.Item place) = rows.in_item place

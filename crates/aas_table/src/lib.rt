@@ -5,4 +5,6 @@
 pub mod misfit;
 pub mod pointer;
 pub mod table;
+#[cfg(test)]
+mod tests;
 pub mod too_deep;

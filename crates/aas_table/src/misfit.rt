@@ -2,12 +2,12 @@ ghost use Rattle.std.specs.Prelude.{◌≡◌, [], ◌∷◌, map, Some, IfOk};
 ghost use Rattle.serde_json.specs.Data.{array};
 ghost use Rattle.serde_json.specs.Find.{get_member};
 ghost use Rattle.serde_json.specs.View.{view, items_view, members_view};
-ghost use Rattle.aas_table.specs.Misfit.{misfit, misfit_items, misfit_members, misfit_all, missing};
-ghost use Rattle.aas_table.specs.Rows.{in_member, is_there};
-ghost use Rattle.aas_table.specs.Seen.{row_of, form_of};
+ghost use Rattle.aas_table.specs.Misfit.{misfit, misfit_object, misfit_items, misfit_members, misfit_all, missing};
+ghost use Rattle.aas_table.specs.Rows.{in_member, is_there, rows_of};
+ghost use Rattle.aas_table.specs.Seen.{row_of, form_of, sort_of};
 
 use crate::pointer::{Token, Trail};
-use crate::table::{Form, Row, member, row_named, rows_of};
+use crate::table::{Form, Row, Sort, member, row_named, rows_of};
 use aas_text::NoMemory;
 use serde_json::{Map, Value};
 use std::alloc::Global;
@@ -18,47 +18,34 @@ use std::alloc::Global;
 pub fn misfit(alloc: Global, form: Form, value: &Value) -> Result<Option<Trail>, NoMemory>
     ensures { IfOk result (λ fault. fault ≡ misfit (form_of form) (view value.now)) }
 {
-    match form {
-        Form::Text => match value {
-            Value::String(_) => Ok(None),
-            _ => Ok(Some(Trail::here(alloc))),
-        },
-        Form::Flag => match value {
-            Value::Bool(_) => Ok(None),
-            _ => Ok(Some(Trail::here(alloc))),
-        },
-        Form::Word(names) => match value {
-            Value::String(text) if names.contain(text.as_str()) => Ok(None),
-            _ => Ok(Some(Trail::here(alloc))),
-        },
-        Form::One(sort) => match value {
-            Value::Object(members) => {
-                let Some(rows) = rows_of(sort, members) else {
-                    return Ok(Some(at_member(alloc, "modelType")?));
-                };
-                match misfit_members(alloc, rows, members)? {
-                    Some(trail) => Ok(Some(trail)),
-                    None => missing(alloc, rows, members),
-                }
-            }
-            _ => Ok(Some(Trail::here(alloc))),
-        },
-        Form::Many(sort) => match value {
-            Value::Array(items) => misfit_items(alloc, Form::One(sort), items),
-            _ => Ok(Some(Trail::here(alloc))),
-        },
-        Form::Kept => match value {
-            Value::Array(items) => misfit_items(alloc, Form::Any, items),
-            _ => Ok(Some(Trail::here(alloc))),
-        },
-        Form::Any => match value {
-            Value::Null => Ok(None),
-            Value::Bool(_) => Ok(None),
-            Value::String(_) => Ok(None),
-            Value::Number(_) => Ok(Some(Trail::here(alloc))),
-            Value::Array(items) => misfit_items(alloc, Form::Any, items),
-            Value::Object(members) => misfit_all(alloc, members),
-        },
+    match (form, value) {
+        (Form::Text, Value::String(_)) => Ok(None),
+        (Form::Flag, Value::Bool(_)) => Ok(None),
+        (Form::Word(names), Value::String(text)) if names.contain(text.as_str()) => Ok(None),
+        (Form::One(sort), Value::Object(members)) => misfit_object(alloc, sort, members),
+        (Form::Many(sort), Value::Array(items)) => misfit_items(alloc, Form::One(sort), items),
+        (Form::Kept | Form::Any, Value::Array(items)) => misfit_items(alloc, Form::Any, items),
+        (Form::Any, Value::Null | Value::Bool(_) | Value::String(_)) => Ok(None),
+        (Form::Any, Value::Object(members)) => misfit_all(alloc, members),
+        _ => Ok(Some(Trail::here(alloc))),
+    }
+}
+
+#[cycle(misfit)]
+fn misfit_object(
+    alloc: Global,
+    sort: Sort,
+    members: &Map<String, Value>,
+) -> Result<Option<Trail>, NoMemory>
+    ensures { IfOk result (λ fault. let ms = members_view members.now.entries in
+        fault ≡ misfit_object (rows_of (sort_of sort) ms) (misfit_members ms) ms) }
+{
+    let Some(rows) = rows_of(sort, members) else {
+        return Ok(Some(at_member(alloc, "modelType")?));
+    };
+    match misfit_members(alloc, rows, members)? {
+        Some(trail) => Ok(Some(trail)),
+        None => missing(alloc, rows, members),
     }
 }
 

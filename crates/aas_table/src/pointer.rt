@@ -20,7 +20,7 @@ impl Token {
     ghost use Rattle.std.specs.Prelude.{◌≡◌, ◌++◌, IfOk, OnOk, string_bytes};
     ghost use Rattle.aas_table.specs.Pointer.{token_text};
     ghost use Rattle.aas_table.specs.Rows.{in_member};
-    ghost use Rattle.aas_table.specs.Tokens.{token_of};
+    ghost use Rattle.aas_table.specs.Seen.{token_of};
 
     /// The step into the member of this name.
     pub fn member(alloc: Global, name: &str) -> Result<Token, NoMemory>
@@ -50,7 +50,7 @@ pub struct Trail {
 impl Model for Trail {
     ghost use Rattle.std.specs.Prelude.{map, reverse};
     ghost use Rattle.aas_table.specs.Rows.{Pointer};
-    ghost use Rattle.aas_table.specs.Tokens.{token_of};
+    ghost use Rattle.aas_table.specs.Seen.{token_of};
 
     ghost Value = { Pointer };
 
@@ -58,7 +58,7 @@ impl Model for Trail {
 }
 
 impl Trail {
-    ghost use Rattle.aas_table.specs.Tokens.{token_of};
+    ghost use Rattle.aas_table.specs.Seen.{token_of};
 
     /// The way to the value itself.
     pub fn here(alloc: Global) -> Trail

@@ -1,8 +1,7 @@
 ghost use Rattle.std.specs.Prelude.{◌≡◌, ◌-◌, map, IfOk, option_map};
 ghost use Rattle.serde_json.specs.View.{view, items_view, members_view};
 ghost use Rattle.aas_table.specs.TooDeep.{too_deep, too_deep_items, too_deep_members, too_deep_all, limits, spend, enter, enter_kept};
-ghost use Rattle.aas_table.specs.Seen.{row_of, form_of, sort_of};
-ghost use Rattle.aas_table.specs.Left.{levels_of};
+ghost use Rattle.aas_table.specs.Seen.{row_of, form_of, sort_of, levels_of};
 
 use crate::pointer::{Token, Trail};
 use crate::table::{Form, Row, Sort, row_named, rows_of};
@@ -35,7 +34,7 @@ impl Levels {
         ensures { levels_of result ≡ record limits { elements = 31 - level } }
     {
         Levels {
-            elements: 31u32.saturating_sub(level),
+            elements: (Levels::LIMITS.elements + 1).saturating_sub(level),
             ..Levels::LIMITS
         }
     }
@@ -87,36 +86,20 @@ pub fn too_deep(
 ) -> Result<Option<Trail>, NoMemory>
     ensures { IfOk result (λ place. place ≡ too_deep (form_of form) (view value.now) (levels_of left)) }
 {
-    match form {
-        Form::Text => Ok(None),
-        Form::Flag => Ok(None),
-        Form::Word(_) => Ok(None),
-        Form::One(sort) => match value {
-            Value::Object(members) => {
-                let Some(inside) = left.enter(sort) else {
-                    return Ok(Some(Trail::here(alloc)));
-                };
-                match rows_of(sort, members) {
-                    Some(rows) => too_deep_members(alloc, rows, members, inside),
-                    None => Ok(None),
-                }
+    match (form, value) {
+        (Form::One(sort), Value::Object(members)) => {
+            let Some(inside) = left.enter(sort) else {
+                return Ok(Some(Trail::here(alloc)));
+            };
+            match rows_of(sort, members) {
+                Some(rows) => too_deep_members(alloc, rows, members, inside),
+                None => Ok(None),
             }
-            _ => Ok(None),
-        },
-        Form::Many(sort) => match value {
-            Value::Array(items) => too_deep_items(alloc, Form::One(sort), items, left),
-            _ => Ok(None),
-        },
-        Form::Kept => match value {
-            Value::Array(items) => {
-                let Some(inside) = left.enter_kept() else {
-                    return Ok(Some(Trail::here(alloc)));
-                };
-                too_deep_items(alloc, Form::Any, items, inside)
-            }
-            _ => Ok(None),
-        },
-        Form::Any => {
+        }
+        (Form::Many(sort), Value::Array(items)) => {
+            too_deep_items(alloc, Form::One(sort), items, left)
+        }
+        (Form::Kept, Value::Array(_)) | (Form::Any, _) => {
             let Some(inside) = left.enter_kept() else {
                 return Ok(Some(Trail::here(alloc)));
             };
@@ -126,6 +109,7 @@ pub fn too_deep(
                 _ => Ok(None),
             }
         }
+        _ => Ok(None),
     }
 }
 

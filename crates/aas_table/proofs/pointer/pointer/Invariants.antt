@@ -3,7 +3,7 @@ use Rattle.std.specs.List.{flat_map}
 use Rattle.std.specs.Iterator.Adapters.{rev_source}
 use Rattle.std.specs.Slice.Iter.{iter_rest}
 use Rattle.aas_table.specs.Pointer.{token_text}
-use Rattle.aas_table.specs.Tokens.{token_of}
+use Rattle.aas_table.specs.Seen.{token_of}
 use Rattle.aas_table.proofs.pointer.pointer.Given as goal
 
 abbrev pub invariant-loop-token : goal.invariant-loop-token

@@ -1,8 +1,7 @@
 use Rattle.std.proofs.Common.{◌≡◌, map, drop}
 use Rattle.serde_json.specs.View.{items_view, members_view}
 use Rattle.aas_table.specs.TooDeep.{too_deep_items, too_deep_members, too_deep_all}
-use Rattle.aas_table.specs.Seen.{row_of, form_of}
-use Rattle.aas_table.specs.Left.{levels_of}
+use Rattle.aas_table.specs.Seen.{row_of, form_of, levels_of}
 use Rattle.aas_table.proofs.too_deep.+too_deep.Given as goal
 
 abbrev pub invariant-too_deep_items-loop-place : goal.invariant-too_deep_items-loop-place
