@@ -3,5 +3,6 @@ pub mod Floats
 pub mod Lists
 pub mod Lookup
 pub mod Objects
+pub mod Order
 pub mod Pairs
 pub mod Words

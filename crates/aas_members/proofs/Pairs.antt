@@ -1,9 +1,10 @@
 -- Pairs of kept data before members.
 use Rattle.std.proofs.Common.{◌≡◌, List, [], ◌∷◌, ◌++◌, map, refl, ap, ap₂, ◌∙◌, rules}
 use Rattle.std.specs.Str.{encode_utf8_all}
-use Rattle.serde_json.specs.Data.{Data, Members, no_members, member, object}
-use Rattle.aas_model.specs.declared.plain.Plain.{Map, the_lemmas}
+use Rattle.serde_json.specs.Data.{Data, array, object, no_items, Members, no_members, member}
+use Rattle.aas_model.specs.declared.plain.Plain.{Plain, Map, List as PlainList, the_lemmas}
 use Rattle.aas_model.specs.declared.plain.PlainPair.{PlainPair, fold-PlainPair, fold-roll-PlainPair}
+use Rattle.aas_table.specs.Spelled.{onto}
 use Rattle.aas_spelling.specs.Kept.{Member, members_of, spell_plain, spell_plain_step, spell_pair_step}
 use Rattle.aas_members.specs.Kept.{pairs_onto}
 
@@ -16,6 +17,10 @@ same_members : (ps : List PlainPair) → members_of (map (fold-PlainPair Data Me
 same_members [] = refl
 same_members (p ∷ ps) =
     ap₂ (λ (m : Member) rest. member m.0 m.1 rest) (fold-roll-PlainPair Data Member spell_plain_step spell_pair_step (record { name = p.name; value = p.value })) (same_members ps)
+
+-- a list is spelled as the array of its items
+pub spell_list : (ps : List Plain) → spell_plain (PlainList ps) ≡ array (onto (map spell_plain ps) no_items)
+spell_list ps = search (rules, the_lemmas)
 
 -- a map is spelled as the object of its pairs
 pub spell_map : (ps : List PlainPair) → spell_plain (Map ps) ≡ object (pairs_onto ps no_members)

@@ -9,6 +9,7 @@ mod kept;
 mod members;
 mod object;
 mod parts;
+mod plains;
 mod values;
 mod written;
 
@@ -18,5 +19,6 @@ pub use kept::kept_member;
 pub use members::{flag_member, member, string_member, text_member, word_member};
 pub use object::Object;
 pub use parts::{Part, list_member, one_member};
+pub use plains::kept_value;
 pub use values::{flag_value, optional_word, string_value, text_value, word_value};
 pub use written::{Flags, Texts, Written, list_value, optional_value};
