@@ -1,0 +1,6 @@
+pub mod Exists
+pub mod Laws
+pub mod Levels
+pub mod Said
+pub mod Spelled
+pub mod Whole
