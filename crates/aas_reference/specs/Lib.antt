@@ -1,4 +1,4 @@
-pub mod Levels
+pub mod Faults
 pub mod Rules
 pub mod Same
 pub mod Spelling
