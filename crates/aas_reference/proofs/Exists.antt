@@ -1,5 +1,5 @@
 -- What a value says as a key or as a reference is spelled by one.
-use Rattle.std.proofs.Common.{◌≡◌, ℕ, List, [], ◌∷◌, ◌&&◌, true, Option, Some, None, option_map, is_some, codes, refl, sym, ap, ◌∙◌}
+use Rattle.std.proofs.Common.{ℕ, List, ◌&&◌, true, Option, option_map, is_some, codes, refl, sym, ap, ◌∙◌}
 use Rattle.serde_json.specs.Data.{Data, object, Members}
 use Rattle.aas_names.specs.KeyTypeNames as key_type
 use Rattle.aas_names.specs.ReferenceTypeNames as reference_type

@@ -1,7 +1,6 @@
 -- Keys in their order.
-use Rattle.std.proofs.Common.{◌≡◌, ℕ, ◌+◌, ◌-◌, ◌&&◌, List, [], ◌∷◌, length, drop, Bool, Option, option_map, refl, sym, ap, ◌∙◌, arith}
+use Rattle.std.proofs.Common.{◌≡◌, ◌-◌, ◌&&◌, List, [], ◌∷◌, length, drop, Bool, option_map, refl, sym, ap, ◌∙◌, arith}
 use Rattle.std.specs.List.{list_all, slice_get, zip}
-use Rattle.aas_names.specs.declared.key_type.KeyType.{KeyType}
 use Rattle.aas_model.specs.declared.reference.Key.{Key}
 use Rattle.aas_reference.specs.Rules.{later_keys, last_key, each_pair}
 

@@ -1,6 +1,5 @@
 -- What a whole reference spells is good, and is spelled from one reference.
-use Rattle.std.proofs.Common.{◌≡◌, ℕ, zero, suc, ◌≤◌, ◌&&◌, List, [], ◌∷◌, Bool, true, Option, Some, None, option_map, unwrap_or, refl, sym, ap, ◌∙◌, subst, true≢false, arith}
-use Rattle.serde_json.specs.Data.{Data}
+use Rattle.std.proofs.Common.{◌≡◌, ℕ, zero, suc, ◌≤◌, ◌&&◌, List, [], ◌∷◌, true, Option, Some, None, option_map, unwrap_or, refl, sym, ap, ◌∙◌, subst, true≢false, arith}
 use Rattle.aas_names.specs.KeyTypeNames as key_type
 use Rattle.aas_names.specs.ReferenceTypeNames as reference_type
 use Rattle.aas_names.specs.declared.reference_type.ReferenceType.{ReferenceType}

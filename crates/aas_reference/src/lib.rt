@@ -12,6 +12,8 @@ mod laws;
 mod read;
 mod rules;
 mod sorts;
+#[cfg(test)]
+mod tests;
 mod write;
 
 pub use compare::same;
