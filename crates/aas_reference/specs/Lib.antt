@@ -1,4 +1,6 @@
-pub mod Spelling
-pub mod Same
+pub mod Faults
 pub mod Rules
+pub mod Same
+pub mod Spelling
+pub mod Trees
 pub mod Whole

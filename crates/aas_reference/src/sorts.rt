@@ -1,0 +1,5 @@
+/// Keys, as they are read and written.
+pub struct Keys;
+
+/// References, as they are read and written.
+pub struct References;
