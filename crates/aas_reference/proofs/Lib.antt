@@ -1,0 +1,4 @@
+pub mod Levels
+pub mod Said
+pub mod Spelled
+pub mod Whole

@@ -1,4 +1,5 @@
-pub mod Spelling
-pub mod Same
 pub mod Rules
+pub mod Same
+pub mod Spelling
+pub mod Trees
 pub mod Whole
