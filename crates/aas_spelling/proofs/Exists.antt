@@ -17,9 +17,9 @@ use Rattle.aas_model.specs.declared.plain.Plain.{Plain, roll-Plain}
 use Rattle.aas_model.specs.declared.plain.Plain.TheOpen.{Plain-F}
 use Rattle.aas_model.specs.declared.plain.PlainPair.{PlainPair}
 use Rattle.aas_spelling.specs.Values.{IsText, AreTexts, HasTexts}
+use Rattle.aas_spelling.specs.Lists.{Each}
 use Rattle.aas_spelling.specs.Kept.{spell_plain}
 use Rattle.aas_spelling.proofs.Objects.{plain_member_is}
-use Rattle.aas_spelling.proofs.Forms.{Each}
 use Rattle.aas_spelling.proofs.Kept.{Level, spelled_at, spell_at, spell_members}
 
 -- ---- what is spelled by something
@@ -89,6 +89,14 @@ named_there name all o t e = there (λ v. string (name v)) o (named_if name all 
 pub as_itself : (o : Option Data) → IsSpelled (λ d. d) o
 as_itself None = (None, refl)
 as_itself (Some d) = (Some d, refl)
+
+-- with nothing more shown of it
+pub and_nothing : {A : Type 0} (spell : A → Data) (o : Option Data) → IsSpelled spell o → IsSpelled (λ (t : (t : A) × Unit {0}). spell t.0) o
+and_nothing spell o t = (option_map (λ x. (x, tt)) t.0, by_tree t.0 t.1)
+  where
+    by_tree : (x : Option _) → o ≡ option_map spell x → o ≡ option_map (λ (t : (t : _) × Unit {0}). spell t.0) (option_map (λ y. (y, tt)) x)
+    by_tree None e = e
+    by_tree (Some y) e = e
 
 -- ---- objects
 
@@ -246,3 +254,12 @@ mutual
   pairs : (kinds : Kinds) → Builds kinds → (ms : Members) → HasTexts ms → Pairs (plain_all ms)
   pairs kinds build no_members u = ([], refl)
   pairs kinds build (member k d ms) u = add_pair k (chars k) (plain any d) (plain_all ms) (encodes-chars k u.0) (tree kinds build d any u.1) (pairs kinds build ms u.2)
+
+-- ---- kept data alone
+
+abbrev itself : Kinds
+itself = record { Tree = λ s. Data; spell = λ s d. d }
+
+-- What a value of UTF-8 says as kept data is spelled by a list of kept data.
+pub kept_tree : (d : Data) → IsText d → IsListed spell_plain (plain kept d)
+kept_tree d u = tree itself (λ s ms u each. as_itself (plain (one s) (object ms))) d kept u

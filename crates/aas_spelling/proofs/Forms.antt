@@ -1,5 +1,5 @@
 -- What is spelled in each form is good, and spelled from one thing.
-use Rattle.std.proofs.Common.{◌≡◌, ℕ, ◌+◌, List, [], ◌∷◌, Bool, true, false, Option, Some, None, option_map, if◌then◌else◌, map, refl, sym, ap, ap₂, ◌∙◌, bytes_eq, is_some, true≢false}
+use Rattle.std.proofs.Common.{◌≡◌, ℕ, ◌+◌, List, [], ◌∷◌, Bool, true, false, Option, Some, None, option_map, if◌then◌else◌, map, refl, sym, ap, ap₂, ◌∙◌, subst, bytes_eq, is_some, true≢false}
 use Rattle.std.specs.List.{find}
 use Rattle.std.specs.Str.{encode_utf8_all}
 use Rattle.std.proofs.lemmas.Str.{encodes_same}
@@ -14,7 +14,9 @@ use Rattle.aas_table.specs.TooDeep.{Levels, too_deep, too_deep_items, within, en
 use Rattle.aas_table.specs.Plain.{plain, plain_items, listed, add_item}
 use Rattle.aas_table.specs.Spelled.{list_of, onto, text_of}
 use Rattle.aas_spelling.specs.Values.{AreOrdered}
+pub use Rattle.aas_spelling.specs.Lists.{Each}
 use Rattle.aas_spelling.specs.Good.{Good}
+pub use Rattle.aas_spelling.proofs.Lists.{each_of}
 use Rattle.aas_spelling.proofs.Fits.{first_none, map_none, fits_one, fits_any}
 
 pub none_good : (l : Levels) (f : Form) → Good l f None
@@ -31,6 +33,13 @@ string_good l s = record { again = refl; fits = refl; low = refl; order = tt }
 pub flag_good : (l : Levels) (o : Option Bool) → Good l flag (option_map boolean o)
 flag_good l None = none_good l flag
 flag_good l (Some b) = record { again = refl; fits = refl; low = refl; order = tt }
+
+pub option_good : {A : Type 0} (l : Levels) (f : Form) (spell : A → Data) (o : Option A) → ((x : A) → o ≡ Some x → Good l f (Some (spell x))) → Good l f (option_map spell o)
+option_good l f spell None h = none_good l f
+option_good l f spell (Some x) h = h x refl
+
+pub option_back : {A : Type 0} (l : Levels) (f : Form) (spell : A → Data) (o : Option A) → Good l f (option_map spell o) → (x : A) → o ≡ Some x → Good l f (Some (spell x))
+option_back l f spell o g x is = subst (λ p. Good l f (option_map spell p)) is g
 
 -- ---- names of an enumeration
 
@@ -67,14 +76,6 @@ named_if_good l name all found None = none_good l (word (names_of name all))
 named_if_good l name all found (Some v) = named_good l name all found v
 
 -- ---- lists
-
-abbrev pub Each : {A : Type 0} → (A → Type 0) → List A → Type 0
-Each P [] = Unit {0}
-Each P (x ∷ xs) = P x × Each P xs
-
-pub each_of : {A : Type 0} (P : A → Type 0) → ((x : A) → P x) → (xs : List A) → Each P xs
-each_of P h [] = tt
-each_of P h (x ∷ xs) = (h x, each_of P h xs)
 
 -- each of the list spells what is good
 abbrev pub EachGood : {A : Type 0} → Levels → Form → (A → Data) → List A → Type 0

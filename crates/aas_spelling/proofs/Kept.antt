@@ -11,10 +11,12 @@ use Rattle.aas_model.specs.declared.plain.Plain.{Plain, out-Plain, roll-Plain, r
 use Rattle.aas_model.specs.declared.plain.Plain.TheOpen.{Plain-F, PlainPair-F}
 use Rattle.aas_model.specs.declared.plain.PlainPair.{PlainPair, fold-PlainPair, fold-roll-PlainPair}
 use Rattle.aas_spelling.specs.Values.{AreAbove}
+use Rattle.aas_spelling.specs.Lists.{Each, each_true, most}
 use Rattle.aas_spelling.specs.Good.{Good}
-use Rattle.aas_spelling.specs.Kept.{Member, members_of, spell_plain, spell_plain_step, spell_pair_step, spell_kept, most, plain_depth, plain_depth_step, is_below, are_rising, each_true, Named, is_ordered, is_ordered_step, IsWholeKept}
+use Rattle.aas_spelling.specs.Kept.{Member, members_of, spell_plain, spell_plain_step, spell_pair_step, spell_kept, plain_depth, plain_depth_step, is_below, are_rising, Named, is_ordered, is_ordered_step, IsWholeKept}
+use Rattle.aas_spelling.proofs.Lists.{each_of}
 use Rattle.aas_spelling.proofs.Rows.{and_left, and_right}
-use Rattle.aas_spelling.proofs.Forms.{Each, EachGood, none_good, kept_good, kept_back, array_good, array_back, same_lists}
+use Rattle.aas_spelling.proofs.Forms.{EachGood, none_good, kept_good, kept_back, array_good, array_back, same_lists}
 use Rattle.aas_spelling.proofs.Members.{GoodMembers, none_members, one_member, map_good, map_back, member_back}
 
 -- ---- induction, and one level
@@ -51,9 +53,13 @@ proved P step (Plain-F.Map ms) = step (Plain-F.Map (map (λ e. e.0) ms)) (each_p
 pub by_levels : (P : Plain → Type 0) → ((x : Level) → Inside P x → P (roll-Plain x)) → (p : Plain) → P p
 by_levels P step = ind-Plain P (λ m. P m.value) (λ x y is. subst (λ z. P (roll-Plain z)) is (proved P step y)) (λ x y is. subst P (ap (λ z. z.value) is) y.value.1)
 
+-- a member as it is spelled
+abbrev pub spell_pair : PlainPair → Member
+spell_pair m = (encode_utf8_all m.name, spell_plain m.value)
+
 abbrev pub spell_members : List PlainPair → Members
 spell_members [] = no_members
-spell_members (m ∷ ms) = member (encode_utf8_all m.name) (spell_plain m.value) (spell_members ms)
+spell_members (m ∷ ms) = member (spell_pair m).0 (spell_pair m).1 (spell_members ms)
 
 abbrev pub spelled_at : Level → Data
 spelled_at Plain-F.Null = null
@@ -74,7 +80,7 @@ spell_at (Plain-F.Str s) = fold-roll-Plain Data Member spell_plain_step spell_pa
 spell_at (Plain-F.List ps) = fold-roll-Plain Data Member spell_plain_step spell_pair_step (Plain-F.List ps)
 spell_at (Plain-F.Map ms) = fold-roll-Plain Data Member spell_plain_step spell_pair_step (Plain-F.Map ms) ∙ ap object (members_at ms)
 
-abbrev depth_of : Level → ℕ
+abbrev pub depth_of : Level → ℕ
 depth_of (Plain-F.List ps) = suc (most (map plain_depth ps))
 depth_of (Plain-F.Map ms) = suc (most (map (λ m. plain_depth m.value) ms))
 depth_of x = 1
@@ -83,17 +89,17 @@ depths_at : (ms : List PlainPair) → map (fold-PlainPair ℕ ℕ plain_depth_st
 depths_at [] = refl
 depths_at (m ∷ ms) = ap₂ (λ n ns. n ∷ ns) (fold-roll-PlainPair ℕ ℕ plain_depth_step (λ p. p.value) (record { name = m.name; value = m.value })) (depths_at ms)
 
-depth_at : (x : Level) → plain_depth (roll-Plain x) ≡ depth_of x
+pub depth_at : (x : Level) → plain_depth (roll-Plain x) ≡ depth_of x
 depth_at Plain-F.Null = fold-roll-Plain ℕ ℕ plain_depth_step (λ p. p.value) Plain-F.Null
 depth_at (Plain-F.Bool b) = fold-roll-Plain ℕ ℕ plain_depth_step (λ p. p.value) (Plain-F.Bool b)
 depth_at (Plain-F.Str s) = fold-roll-Plain ℕ ℕ plain_depth_step (λ p. p.value) (Plain-F.Str s)
 depth_at (Plain-F.List ps) = fold-roll-Plain ℕ ℕ plain_depth_step (λ p. p.value) (Plain-F.List ps)
 depth_at (Plain-F.Map ms) = fold-roll-Plain ℕ ℕ plain_depth_step (λ p. p.value) (Plain-F.Map ms) ∙ ap (λ ns. suc (most ns)) (depths_at ms)
 
-abbrev name_of : PlainPair → List ℕ
+abbrev pub name_of : PlainPair → List ℕ
 name_of m = encode_utf8_all m.name
 
-abbrev ordered_of : Level → Bool
+abbrev pub ordered_of : Level → Bool
 ordered_of (Plain-F.List ps) = each_true (map is_ordered ps)
 ordered_of (Plain-F.Map ms) = are_rising (map name_of ms) && each_true (map (λ m. is_ordered m.value) ms)
 ordered_of x = true
@@ -109,7 +115,7 @@ orders_at : (ms : List PlainPair) → map (λ n. n.1) (map (fold-PlainPair Bool 
 orders_at [] = refl
 orders_at (m ∷ ms) = ap₂ (λ (n : Named) ns. n.1 ∷ ns) (fold-roll-PlainPair Bool Named is_ordered_step named (record { name = m.name; value = m.value })) (orders_at ms)
 
-ordered_at : (x : Level) → is_ordered (roll-Plain x) ≡ ordered_of x
+pub ordered_at : (x : Level) → is_ordered (roll-Plain x) ≡ ordered_of x
 ordered_at Plain-F.Null = fold-roll-Plain Bool Named is_ordered_step named Plain-F.Null
 ordered_at (Plain-F.Bool b) = fold-roll-Plain Bool Named is_ordered_step named (Plain-F.Bool b)
 ordered_at (Plain-F.Str s) = fold-roll-Plain Bool Named is_ordered_step named (Plain-F.Str s)
@@ -169,11 +175,7 @@ pub whole_good : (ps : List Plain) (l : Levels) → IsWholeKept l ps → Good l 
 whole_good [] l w = none_good l kept
 whole_good (p ∷ ps) l w =
     let left = level_left l (most (map plain_depth (p ∷ ps))) w.low in
-    kept_good l left.0 spell_plain (p ∷ ps) left.1 (list_each left.0 (p ∷ ps) (plain_good p, each_plain ps) w.order left.2)
-  where
-    each_plain : (ps : List Plain) → Each IsGood ps
-    each_plain [] = tt
-    each_plain (p ∷ ps) = (plain_good p, each_plain ps)
+    kept_good l left.0 spell_plain (p ∷ ps) left.1 (list_each left.0 (p ∷ ps) (each_of IsGood plain_good (p ∷ ps)) w.order left.2)
 
 -- ---- and back
 
@@ -244,12 +246,8 @@ pub whole_back : (ps : List Plain) (l : Levels) → Good l kept (spell_kept ps) 
 whole_back [] l g = record { order = refl; low = omega arith }
 whole_back (p ∷ ps) l g =
     let inside = kept_back l spell_plain p ps g in
-    let back = list_back inside.0 (p ∷ ps) (plain_back p, each_back ps) inside.2 in
+    let back = list_back inside.0 (p ∷ ps) (each_of IsBack plain_back (p ∷ ps)) inside.2 in
     record { order = back.0; low = omega (arith, back.1, spent l inside.0 inside.1) }
-  where
-    each_back : (ps : List Plain) → Each IsBack ps
-    each_back [] = tt
-    each_back (p ∷ ps) = (plain_back p, each_back ps)
 
 -- ---- the same spelling
 

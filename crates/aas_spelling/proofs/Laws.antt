@@ -9,13 +9,15 @@ use Rattle.aas_table.specs.Plain.{plain}
 use Rattle.aas_model.specs.declared.read_fault.ReadFault.{ReadFault}
 use Rattle.aas_model.specs.declared.read_fault.ReadFault.TheVariants.{NotJson, NotMapping, TooDeep, NoMemory}
 use Rattle.aas_spelling.specs.Values.{IsText, IsOrdered, IsValue}
-use Rattle.aas_spelling.specs.Spells.{Trees, Spells, SpellsOne, ExactlyOne}
+use Rattle.aas_spelling.specs.Spells.{Trees, Spells, SpellsOne, ExactlyOne, ReadsBack}
 use Rattle.aas_spelling.specs.Good.{Good}
 use Rattle.aas_spelling.specs.Reading.{reading}
 use Rattle.aas_spelling.specs.Reads.{IsPointer, Reads, ReadsEach, ReadsIf, ReadsEachIf, ReadsBytes, ReadsEachOfBytes}
 use Rattle.aas_spelling.proofs.Fits.{fits_one}
 use Rattle.aas_spelling.proofs.Plains.{plain_good}
 use Rattle.aas_spelling.proofs.Exists.{IsSpelled, there}
+use Rattle.aas_spelling.proofs.Nesting.{fits_whole, nests}
+use Rattle.aas_spelling.proofs.Back.{read_back}
 
 -- What is to be shown of the trees of a sort. The shape of a tree is what its spelling doesn't show.
 pub record Laws {A : Type 0} (trees : Trees A) (Shape : A → Type 0) : Type 0 where
@@ -62,6 +64,13 @@ module _ {A : Type 0} (trees : Trees A) (Shape : A → Type 0) (laws : Laws tree
       by_faults (Some m) p a b = inr (inl refl)
       by_faults None (Some p) a b = inr (inr (refl, refl))
       by_faults None None a b = inl (spells_one l j v a b)
+
+  -- The canonical text of a whole tree reads back.
+  pub reads_back : ReadsBack trees
+  reads_back l t h w =
+      let g = laws.good l t w in
+      let d = trees.spell t in
+      (d, read_back d g.order (fits_whole d (one trees.sort) g.fits) (nests d trees.sort l h.elements h.references h.kept g.fits g.low), spells_itself l t w)
 
   -- ---- readers
 

@@ -1,11 +1,12 @@
 -- Kept data, the contents of data specifications (IDTA-01001-3-0, class HasDataSpecification), of which nothing is read: how it is spelled, and when it is whole. This profile's own rules.
-use Rattle.std.specs.Prelude.{◌≡◌, ◌≤◌, ℕ, suc, max, ◌&&◌, List, [], ◌∷◌, Bool, true, map, Option}
+use Rattle.std.specs.Prelude.{◌≡◌, ◌≤◌, ℕ, suc, ◌&&◌, List, [], ◌∷◌, Bool, true, map, Option}
 use Rattle.std.specs.Ordering.{nat_cmp, is_lt}
 use Rattle.std.specs.Cmp.Lexicographic.{slice_cmp}
 use Rattle.std.specs.Str.{encode_utf8_all}
 use Rattle.serde_json.specs.Data.{Data, null, boolean, array, object, no_items, Members, no_members, member}
 use Rattle.aas_table.specs.TooDeep.{Levels}
 use Rattle.aas_table.specs.Spelled.{list_of, onto, text_of}
+pub use Rattle.aas_spelling.specs.Lists.{each_true, most}
 use Rattle.aas_model.specs.declared.plain.Plain.{Plain, fold-Plain}
 use Rattle.aas_model.specs.declared.plain.Plain.TheOpen.{Plain-F, PlainPair-F}
 
@@ -37,10 +38,6 @@ spell_kept = list_of spell_plain
 
 -- ---- when it is whole
 
-abbrev pub most : List ℕ → ℕ
-most [] = 0
-most (n ∷ ns) = max n (most ns)
-
 -- how deep it is: each value counts, a text too
 abbrev pub plain_depth_step : Plain-F ℕ ℕ → ℕ
 plain_depth_step (Plain-F.List ns) = suc (most ns)
@@ -63,10 +60,6 @@ is_below n (m ∷ ms) = is_lt (slice_cmp nat_cmp n m) && is_below n ms
 abbrev pub are_rising : List (List ℕ) → Bool
 are_rising [] = true
 are_rising (n ∷ ns) = is_below n ns && are_rising ns
-
-abbrev pub each_true : List Bool → Bool
-each_true [] = true
-each_true (b ∷ bs) = b && each_true bs
 
 -- a name, and whether what it names is in order
 abbrev pub Named : Type 0

@@ -1,5 +1,6 @@
 pub mod Good
 pub mod Kept
+pub mod Lists
 pub mod Reading
 pub mod Reads
 pub mod Spells
