@@ -7,6 +7,7 @@ use Rattle.serde_json.specs.Data.{Data, Members, no_members, member, put}
 use Rattle.aas_table.specs.Table.{Form, Row}
 use Rattle.aas_table.specs.Rows.{insert_row}
 use Rattle.aas_table.specs.Plain.{members_by, add}
+use Rattle.aas_spelling.proofs.Rows.{and_left, and_right}
 use Rattle.aas_members.specs.Building.{put_some, built}
 
 -- ---- names of rows
@@ -25,14 +26,6 @@ Rises (r ∷ rs) = IsBelow r.name rs × Rises rs
 abbrev pub is_new : List ℕ → List Row → Bool
 is_new n [] = true
 is_new n (r ∷ rs) = match_ordering (slice_cmp nat_cmp n r.name) true false true && is_new n rs
-
-and_left : (a b : Bool) → a && b ≡ true → a ≡ true
-and_left true b e = refl
-and_left false b e = e
-
-and_right : (a b : Bool) → a && b ≡ true → b ≡ true
-and_right true b e = e
-and_right false b e = absurd (true≢false (sym e))
 
 below_lower : (n m : List ℕ) (rows : List Row) → slice_cmp nat_cmp n m ≡ Less → IsBelow m rows → IsBelow n rows
 unfolding IsBelow

@@ -1,4 +1,5 @@
 pub mod Built
+pub mod FaultLemmas
 pub mod Floats
 pub mod Lists
 pub mod Lookup

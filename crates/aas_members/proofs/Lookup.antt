@@ -6,18 +6,8 @@ use Rattle.serde_json.specs.Data.{Data, Members, no_members, member, depth, memb
 use Rattle.serde_json.specs.Find.{get_member}
 use Rattle.serde_json.specs.View.{view}
 use Rattle.serde_json.specs.declared.value.Value.{Value}
-use Rattle.aas_table.specs.Table.{Form}
-use Rattle.aas_table.specs.Plain.{plain, plain_member}
-
-by_order : (o : Ordering) (f : Form) (d : Data) (a : Option Data) (b : Option Data) → a ≡ option_and_then (plain f) b → match_ordering o a (plain f d) a ≡ option_and_then (plain f) (match_ordering o b (Some d) b)
-by_order Less f d a b e = e
-by_order Equal f d a b e = refl
-by_order Greater f d a b e = e
-
--- the member that a name finds, read in a form
-pub plain_member_is : (n : List ℕ) (f : Form) (ms : Members) → plain_member ms n f ≡ option_and_then (plain f) (get_member n ms)
-plain_member_is n f no_members = refl
-plain_member_is n f (member k d ms) = by_order (slice_cmp nat_cmp n k) f d _ _ (plain_member_is n f ms)
+-- what a member says is what the value under its name says
+pub use Rattle.aas_spelling.proofs.Objects.{plain_member_is}
 
 at_most : (o : Ordering) (n : ℕ) (a : Option Data) (d e : Data) → (a ≡ Some e → depth e ≤ n) → match_ordering o a (Some d) a ≡ Some e → depth e ≤ max (depth d) n
 at_most Less n a d e h is = let below : depth e ≤ n = h is in omega arith

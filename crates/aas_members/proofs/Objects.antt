@@ -6,21 +6,11 @@ use Rattle.aas_table.specs.Table.{Form, Row}
 use Rattle.aas_table.specs.Rows.{sorted, row_named}
 use Rattle.aas_table.specs.Plain.{plain_object, members_by, are_there, add}
 use Rattle.aas_table.specs.Spelled.{Attributes, attribute, spelled}
+use Rattle.aas_spelling.proofs.Objects.{same_members, same_there}
+-- that two find the same under each row
+pub use Rattle.aas_spelling.proofs.Objects.{Agree}
 
 -- ---- an object with all that its rows demand
-
--- g and h find the same under each row
-abbrev pub Agree : List Row → (List ℕ → Form → Option Data) → (List ℕ → Form → Option Data) → Type 0
-Agree [] g h = Unit {0}
-Agree (r ∷ rs) g h = (g r.name r.form ≡ h r.name r.form) × Agree rs g h
-
-same_members : (rows : List Row) (g h : List ℕ → Form → Option Data) → Agree rows g h → members_by rows g ≡ members_by rows h
-same_members [] g h e = refl
-same_members (r ∷ rs) g h e = ap₂ (add r.name) e.0 (same_members rs g h e.1)
-
-same_there : (rows : List Row) (g h : List ℕ → Form → Option Data) → Agree rows g h → are_there rows g ≡ are_there rows h
-same_there [] g h e = refl
-same_there (r ∷ rs) g h e = ap₂ (λ o b. if r.required then is_some o && b else b) e.0 (same_there rs g h e.1)
 
 -- what finds the same reads the same
 pub same_object : (rows : List Row) (g h : List ℕ → Form → Option Data) → Agree rows g h → plain_object (Some rows) g ≡ plain_object (Some rows) h

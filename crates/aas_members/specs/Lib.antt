@@ -4,3 +4,4 @@ pub mod Exact
 pub mod Kept
 pub mod Object
 pub mod Ordered
+pub mod Said

@@ -18,7 +18,7 @@ pub fn member<'v>(members: &'v Map<String, Value>, name: &str) -> Option<&'v Val
     ensures plain { (f : Form) → plain_member (members_view members.now.entries) name.now f ≡ option_and_then (plain f) (option_map (λ v. view v.now) result) }
     ensures depth { IfSome result (λ v. depth (view v.now) ≤ members_depth (members_view members.now.entries)) }
 {
-    members.get(name)
+    aas_table::table::member(members, name)
 }
 
 /// The string under a name, or `None` where the object has no string there.
