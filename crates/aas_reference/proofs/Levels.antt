@@ -1,5 +1,5 @@
 -- References by levels: induction, and what is said of one level.
-use Rattle.std.proofs.Common.{◌≡◌, ℕ, suc, ◌&&◌, List, Bool, true, Option, Some, None, option_map, unwrap_or, subst}
+use Rattle.std.proofs.Common.{◌≡◌, ℕ, suc, ◌≤◌, ◌&&◌, List, Bool, true, Option, Some, None, option_map, unwrap_or, subst}
 use Rattle.serde_json.specs.Data.{Data}
 use Rattle.aas_table.specs.Table.{parts, reference}
 use Rattle.aas_table.specs.Spelled.{Attributes, spelled}
@@ -37,6 +37,10 @@ pub by_levels : (P : Reference → Type 0) → ((t : ReferenceType) (ks : List K
 by_levels P step = ind-Reference P (λ x y is. subst (λ z. P (roll-Reference z)) is (at_level P step y.ref_type y.keys y.referred))
 
 -- ---- one level
+
+-- the reference and those within it have keys, and there are levels for it
+abbrev pub Fits : ℕ → Reference → Type 0
+Fits n r = (has_keys r ≡ true) × (reference_levels r ≤ n)
 
 -- the attributes of a level, with the reference within it already spelled
 abbrev pub attributes_at : ReferenceType → List Key → Option Data → Attributes

@@ -15,7 +15,7 @@ use Rattle.aas_spelling.proofs.Objects.{object_good, same_attributes}
 use Rattle.aas_spelling.proofs.Forms.{none_good, text_good, named_good, list_good, each_of, same_texts, same_words, same_options, same_lists}
 use Rattle.aas_reference.specs.Spelling.{key_attributes, spell_key, spell_reference}
 use Rattle.aas_reference.specs.Whole.{is_any, has_keys, reference_levels}
-use Rattle.aas_reference.proofs.Levels.{made, made_out, Within, by_levels, attributes_at, spell_at, keys_at, levels_at}
+use Rattle.aas_reference.proofs.Levels.{made, made_out, Within, by_levels, Fits, attributes_at, spell_at, keys_at, levels_at}
 
 -- ---- good
 
@@ -25,12 +25,8 @@ key_good l k =
     object_good key l l (sorted (parts key)) (attribute (key_attributes k)) refl refl refl refl refl
     (named_good l key_type.name_of key_type.all key_type.found k.key_type, (text_good l (Some k.value), tt))
 
--- has keys, and no more levels than these
-abbrev Fitting : ℕ → Reference → Type 0
-Fitting n r = (has_keys r ≡ true) × (reference_levels r ≤ n)
-
 abbrev IsGood : Reference → Type 0
-IsGood r = (l : Levels) → Fitting l.references r → Good l (one reference) (Some (spell_reference r))
+IsGood r = (l : Levels) → Fits l.references r → Good l (one reference) (Some (spell_reference r))
 
 within_good : (l : Levels) (o : Option Reference) → Within IsGood o → unwrap_or (option_map has_keys o) true ≡ true → unwrap_or (option_map reference_levels o) 0 ≤ l.references
     → Good l (one reference) (option_map spell_reference o)

@@ -1,7 +1,7 @@
 -- What the definitions say of a few values.
 use Rattle.std.specs.Prelude.{◌≡◌, ℕ, List, [], ◌∷◌, refl, codes, Option, Some, None, option_map}
-use Rattle.serde_json.specs.Data.{Data, null, boolean, number, string, array, object, Items, no_items, item, Members, no_members, member, unsigned}
-use Rattle.aas_table.specs.Table.{Form, text, one, element, data_element, reference, submodel, concept}
+use Rattle.serde_json.specs.Data.{Data, null, number, string, array, object, no_items, item, Members, no_members, member, unsigned}
+use Rattle.aas_table.specs.Table.{Form, one, element, data_element, reference, submodel, concept}
 use Rattle.aas_table.specs.Rows.{in_member, in_item, rows_of}
 use Rattle.aas_table.specs.Misfit.{misfit}
 use Rattle.aas_table.specs.TooDeep.{too_deep, limits}

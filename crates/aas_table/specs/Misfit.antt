@@ -2,7 +2,7 @@
 -- a value that is no object; a modelType that is absent or wrong, where the table demands one; the members in byte order, each with all that lies in it, an unknown
 -- one being a fault; the first required member that is absent, in byte order. An array is walked from its front.
 use Rattle.std.specs.Prelude.{ℕ, ◌+◌, List, [], ◌∷◌, codes, if◌then◌else◌, Option, Some, None}
-use Rattle.serde_json.specs.Data.{Data, null, boolean, number, string, array, object, Items, no_items, item, Members, no_members, member}
+use Rattle.serde_json.specs.Data.{Data, null, boolean, string, array, object, Items, no_items, item, Members, no_members, member}
 use Rattle.serde_json.specs.Find.{get_member}
 use Rattle.aas_table.specs.Names.{has}
 use Rattle.aas_table.specs.Table.{Form, text, flag, word, one, many, kept, any, Row}

@@ -3,7 +3,7 @@
 use Rattle.std.specs.Prelude.{ℕ, ◌&&◌, List, [], ◌∷◌, Bool, true, is_some, if◌then◌else◌, Option, Some, None}
 use Rattle.std.specs.Ordering.{nat_cmp, match_ordering}
 use Rattle.std.specs.Cmp.Lexicographic.{slice_cmp}
-use Rattle.serde_json.specs.Data.{Data, null, boolean, number, string, array, object, Items, no_items, item, Members, no_members, member}
+use Rattle.serde_json.specs.Data.{Data, null, boolean, string, array, object, Items, no_items, item, Members, no_members, member}
 use Rattle.aas_table.specs.Names.{has}
 use Rattle.aas_table.specs.Table.{Form, text, flag, word, one, many, kept, any, Row}
 use Rattle.aas_table.specs.Rows.{rows_of}

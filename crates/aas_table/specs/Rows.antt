@@ -5,7 +5,7 @@ use Rattle.std.specs.Ordering.{nat_cmp, match_ordering}
 use Rattle.std.specs.Cmp.Lexicographic.{slice_cmp}
 use Rattle.serde_json.specs.Data.{Data, Members, array, no_items}
 use Rattle.serde_json.specs.Find.{get_member, as_str}
-use Rattle.aas_table.specs.Table.{Sort, Form, Row, model_types, parts}
+use Rattle.aas_table.specs.Table.{Sort, Row, model_types, parts}
 
 -- ---- pointers
 

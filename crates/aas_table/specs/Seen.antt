@@ -1,5 +1,6 @@
 -- What the program's own table, levels and pointers stand for.
-use Rattle.std.specs.Prelude.{ℕ, List, map}
+use Rattle.std.specs.Prelude.{ℕ, List, map, Option, option_map}
+use Rattle.std.specs.Borrow.{Bor}
 use Rattle.std.specs.Str.{encode_utf8_all}
 use Rattle.aas_table.specs.Names as names
 use Rattle.aas_table.specs.Rows as rows
@@ -64,6 +65,9 @@ class_of classes.V = table.v
 
 abbrev pub row_of : Row → table.Row
 row_of r = record { name = r.name.now; form = form_of r.form; required = r.required; class = class_of r.class }
+
+abbrev pub rows_seen : Option (Bor (List Row)) → Option (List table.Row)
+rows_seen = option_map (λ rows. map row_of rows.now)
 
 abbrev pub levels_of : Levels → depth.Levels
 levels_of l = record { elements = l.elements; references = l.references; kept = l.kept }

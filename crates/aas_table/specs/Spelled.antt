@@ -1,5 +1,5 @@
 -- How a tree is spelled: its attributes by name, put in the order of the table. One line an attribute says which member spells it.
-use Rattle.std.specs.Prelude.{ℕ, List, [], ◌∷◌, map, Option, Some, None, if◌then◌else◌}
+use Rattle.std.specs.Prelude.{ℕ, List, [], ◌∷◌, map, Option, None, if◌then◌else◌}
 use Rattle.std.specs.Str.{bytes_eq, encode_utf8_all}
 use Rattle.serde_json.specs.Data.{Data, string, object, Items, no_items, item}
 use Rattle.aas_table.specs.Table.{Form, Row}

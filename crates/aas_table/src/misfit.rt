@@ -2,7 +2,8 @@ ghost use Rattle.std.specs.Prelude.{◌≡◌, [], ◌∷◌, map, Some, IfOk};
 ghost use Rattle.serde_json.specs.Data.{array};
 ghost use Rattle.serde_json.specs.Find.{get_member};
 ghost use Rattle.serde_json.specs.View.{view, items_view, members_view};
-ghost use Rattle.aas_table.specs.Misfit.{misfit, misfit_object, misfit_items, misfit_members, misfit_all, missing};
+ghost use Rattle.aas_table.specs.Misfit.{misfit, misfit_object, misfit_items, misfit_members};
+ghost use Rattle.aas_table.specs.Misfit.{misfit_all, missing};
 ghost use Rattle.aas_table.specs.Rows.{in_member, is_there, rows_of};
 ghost use Rattle.aas_table.specs.Seen.{row_of, form_of, sort_of};
 
@@ -12,8 +13,8 @@ use aas_text::NoMemory;
 use serde_json::{Map, Value};
 use std::alloc::Global;
 
-/// The first mapping fault of a JSON value in a form: where it first departs from the attribute table. `None` where it
-/// does not.
+/// The first mapping fault of a JSON value in a form: where it first departs from the attribute
+/// table. `None` where it does not.
 #[cycle(misfit)]
 pub fn misfit(alloc: Global, form: Form, value: &Value) -> Result<Option<Trail>, NoMemory>
     ensures { IfOk result (λ fault. fault ≡ misfit (form_of form) (view value.now)) }
@@ -51,7 +52,8 @@ fn misfit_object(
 
 #[cycle(misfit)]
 fn misfit_items(alloc: Global, form: Form, items: &Vec<Value>) -> Result<Option<Trail>, NoMemory>
-    ensures { IfOk result (λ fault. fault ≡ misfit_items (items_view items.now.items) (form_of form) 0) }
+    ensures { IfOk result (λ fault. fault
+        ≡ misfit_items (items_view items.now.items) (form_of form) 0) }
 {
     for (place, item) in items.iter().enumerate() {
         if let Some(trail) = misfit(alloc, form, item)? {
@@ -67,7 +69,8 @@ fn misfit_members(
     rows: &'static [Row],
     members: &Map<String, Value>,
 ) -> Result<Option<Trail>, NoMemory>
-    ensures { IfOk result (λ fault. fault ≡ misfit_members (members_view members.now.entries) (map row_of rows.now)) }
+    ensures { IfOk result (λ fault. fault
+        ≡ misfit_members (members_view members.now.entries) (map row_of rows.now)) }
 {
     for (name, value) in members.iter() {
         let Some(row) = row_named(name.as_str(), rows) else {
@@ -99,7 +102,8 @@ fn missing(
     rows: &[Row],
     members: &Map<String, Value>,
 ) -> Result<Option<Trail>, NoMemory>
-    ensures { IfOk result (λ fault. fault ≡ missing (map row_of rows.now) (members_view members.now.entries)) }
+    ensures { IfOk result (λ fault. fault
+        ≡ missing (map row_of rows.now) (members_view members.now.entries)) }
 {
     for row in rows {
         if row.required && !is_there(members, row.name) {

@@ -1,4 +1,5 @@
-ghost use Rattle.std.specs.Prelude.{◌≡◌, [], ◌∷◌, ◌++◌, IfOk, OnOk, flat_map, string_bytes, encode_utf8};
+ghost use Rattle.std.specs.Prelude.{◌≡◌, [], ◌∷◌, ◌++◌, IfOk, OnOk, string_bytes, encode_utf8};
+ghost use Rattle.std.specs.List.{flat_map};
 ghost use Rattle.std.specs.Str.{encode_utf8_all};
 ghost use Rattle.aas_table.specs.Pointer.{pointer_text, token_text, escaped_byte};
 ghost use Rattle.aas_table.specs.Rows.{in_member};
@@ -30,7 +31,8 @@ impl Token {
     }
 
     fn push_onto(&self, text: &mut String) -> Result<(), NoMemory>
-        ensures { OnOk result (string_bytes text.new ≡ string_bytes text.old ++ token_text (token_of self.now)) }
+        ensures { OnOk result (string_bytes text.new
+            ≡ string_bytes text.old ++ token_text (token_of self.now)) }
     {
         text.push('/')?;
         match self {
@@ -93,7 +95,8 @@ pub fn pointer(alloc: Global, trail: &Trail) -> Result<Text, NoMemory>
 }
 
 fn push_name(text: &mut String, name: &str) -> Result<(), NoMemory>
-    ensures { OnOk result (string_bytes text.new ≡ string_bytes text.old ++ flat_map escaped_byte name.now) }
+    ensures { OnOk result (string_bytes text.new
+        ≡ string_bytes text.old ++ flat_map escaped_byte name.now) }
 {
     for character in name.chars() {
         push_escaped(text, character)?;
@@ -101,9 +104,11 @@ fn push_name(text: &mut String, name: &str) -> Result<(), NoMemory>
     Ok(())
 }
 
+// In a name `~` is written `~0`, and `/` is written `~1`.
 #[tactic(auto, using(crate::proofs::Escapes::escaped_plain))]
 fn push_escaped(text: &mut String, character: char) -> Result<(), NoMemory>
-    ensures { OnOk result (string_bytes text.new ≡ string_bytes text.old ++ flat_map escaped_byte (encode_utf8 character)) }
+    ensures { OnOk result (string_bytes text.new
+        ≡ string_bytes text.old ++ flat_map escaped_byte (encode_utf8 character)) }
 {
     match character {
         '~' => text.push_str("~0")?,

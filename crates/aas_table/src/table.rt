@@ -2,7 +2,7 @@ ghost use Rattle.std.specs.Prelude.{◌≡◌, map, codes, option_map, option_an
 ghost use Rattle.serde_json.specs.Find.{get_member, as_str};
 ghost use Rattle.serde_json.specs.View.{view, members_view};
 ghost use Rattle.aas_table.specs.Rows.{rows_of, row_named};
-ghost use Rattle.aas_table.specs.Seen.{row_of, sort_of};
+ghost use Rattle.aas_table.specs.Seen.{row_of, rows_seen, sort_of};
 
 use serde_json::{Map, Value};
 
@@ -29,28 +29,33 @@ mod parts;
 
 pub use names::Names;
 
-/// A sort of object: a class of the metamodel, or what an element of a list may be.
+/// A sort of object: a class of the metamodel of IDTA-01001-3-0, or some of its classes.
 #[derive(Clone, Copy)]
 pub enum Sort {
     Reference,
     Key,
+    /// AbstractLangString and its subclasses.
     LangText,
     Extension,
     Qualifier,
     SpecificAssetId,
+    /// AdministrativeInformation.
     Administration,
     AssetInformation,
     Resource,
     OperationVariable,
+    /// The documents of a file.
     Environment,
+    /// AssetAdministrationShell.
     Shell,
     Submodel,
+    /// ConceptDescription.
     Concept,
-    /// Any submodel element.
+    /// SubmodelElement.
     Element,
-    /// A submodel element whose class is under DataElement.
+    /// DataElement.
     DataElement,
-    /// A Property or a SubmodelElementCollection of these, with a name and a value alone.
+    /// A Property or a SubmodelElementCollection with a name and a value alone.
     SimpleElement,
 }
 
@@ -85,24 +90,29 @@ pub enum Class {
 /// A member that an object may have.
 #[derive(Clone, Copy)]
 pub struct Row {
+    /// The name of the member.
     pub name: &'static str,
+    /// What its value may be.
     pub form: Form,
+    /// Whether the object must have it.
     pub required: bool,
+    /// Whether the metadata form shows it.
     pub class: Class,
 }
 
-/// The member of a name.
+/// The member of a name, or `None` where no member has it.
 pub fn member<'v>(members: &'v Map<String, Value>, name: &str) -> Option<&'v Value>
-    ensures { option_map (λ x. view x.now) result ≡ get_member name.now (members_view members.now.entries) }
+    ensures { option_map (λ found. view found.now) result
+        ≡ get_member name.now (members_view members.now.entries) }
 {
     members.get(name)
 }
 
-/// The rows of an object in byte order, by its `modelType` where the table demands one: `None` where that is absent or
-/// wrong.
+/// The rows of an object in byte order of their names, by its `modelType` where the table demands
+/// one. `None` where that is absent or wrong.
 #[tactic(auto, unfolding(crate::specs::Rows::rows_of))]
 pub fn rows_of(sort: Sort, members: &Map<String, Value>) -> Option<&'static [Row]>
-    ensures { option_map (λ rs. map row_of rs.now) result ≡ rows_of (sort_of sort) (members_view members.now.entries) }
+    ensures { rows_seen result ≡ rows_of (sort_of sort) (members_view members.now.entries) }
 {
     match sort {
         Sort::Reference => Some(&parts::REFERENCE),
@@ -125,7 +135,7 @@ pub fn rows_of(sort: Sort, members: &Map<String, Value>) -> Option<&'static [Row
     }
 }
 
-/// The row of a name.
+/// The row of a name, or `None` where no row has it.
 pub fn row_named(name: &str, rows: &[Row]) -> Option<Row>
     ensures { option_map row_of result ≡ row_named name.now (map row_of rows.now) }
 {
@@ -137,9 +147,10 @@ pub fn row_named(name: &str, rows: &[Row]) -> Option<Row>
     None
 }
 
-/// The `modelType` of an object, where it is there and a string.
+// The `modelType` of an object, where it is there and a string.
 fn model_type(members: &Map<String, Value>) -> Option<&str>
-    ensures { option_map (λ s. s.now) result ≡ option_and_then as_str (get_member (codes "modelType") (members_view members.now.entries)) }
+    ensures { option_map (λ text. text.now) result
+        ≡ option_and_then as_str (get_member (codes "modelType") (members_view members.now.entries)) }
 {
     match member(members, "modelType") {
         Some(value) => value.as_str(),

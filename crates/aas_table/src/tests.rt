@@ -25,7 +25,8 @@ fn first_faults(rt: HostRuntime) {
         (element, r#"{"a/b~":1,"modelType":"Capability"}"#, "/a~1b~0"),
         (
             element,
-            r#"{"annotations":[{"modelType":"Blob","contentType":"a/b"},{"modelType":"Capability"}],"modelType":"AnnotatedRelationshipElement"}"#,
+            r#"{"annotations":[{"contentType":"a/b","modelType":"Blob"},{"modelType":"Capability"}],
+               "modelType":"AnnotatedRelationshipElement"}"#,
             "/annotations/1/modelType",
         ),
         (
@@ -55,19 +56,25 @@ fn first_places_that_lie_too_deep(rt: HostRuntime) {
     for (form, json, left, expected) in [
         (
             Form::One(Sort::Reference),
-            r#"{"keys":[{"type":"Submodel","value":"x"}],"referredSemanticId":{"keys":[{"type":"Submodel","value":"x"}],"referredSemanticId":{"keys":[{"type":"Submodel","value":"x"}],"referredSemanticId":{"keys":[{"type":"Submodel","value":"x"}],"referredSemanticId":{"keys":[{"type":"Submodel","value":"x"}],"type":"ModelReference"},"type":"ModelReference"},"type":"ModelReference"},"type":"ModelReference"},"type":"ModelReference"}"#,
+            r#"{"keys":[{"type":"Submodel","value":"x"}],"type":"ModelReference","referredSemanticId":
+               {"keys":[{"type":"Submodel","value":"x"}],"type":"ModelReference","referredSemanticId":
+               {"keys":[{"type":"Submodel","value":"x"}],"type":"ModelReference","referredSemanticId":
+               {"keys":[{"type":"Submodel","value":"x"}],"type":"ModelReference","referredSemanticId":
+               {"keys":[{"type":"Submodel","value":"x"}],"type":"ModelReference"}}}}}"#,
             Levels::LIMITS,
             "/referredSemanticId/referredSemanticId/referredSemanticId/referredSemanticId",
         ),
         (
             element,
-            r#"{"embeddedDataSpecifications":[[[[[[[[[[["as deep as can be",["too deep"]]]]]]]]]]]],"modelType":"Capability"}"#,
+            r#"{"embeddedDataSpecifications":[[[[[[[[[[["as deep as can be",["too deep"]]]]]]]]]]]],
+               "modelType":"Capability"}"#,
             Levels::LIMITS,
             "/embeddedDataSpecifications/0/0/0/0/0/0/0/0/0/0/1/0",
         ),
         (
             element,
-            r#"{"modelType":"SubmodelElementCollection","value":[{"modelType":"SubmodelElementCollection","value":[{"modelType":"Capability"}]}]}"#,
+            r#"{"modelType":"SubmodelElementCollection","value":[
+               {"modelType":"SubmodelElementCollection","value":[{"modelType":"Capability"}]}]}"#,
             Levels::at_level(29),
             "/value/0/value/0",
         ),

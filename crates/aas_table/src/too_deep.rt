@@ -1,6 +1,7 @@
 ghost use Rattle.std.specs.Prelude.{◌≡◌, ◌-◌, map, IfOk, option_map};
 ghost use Rattle.serde_json.specs.View.{view, items_view, members_view};
-ghost use Rattle.aas_table.specs.TooDeep.{too_deep, too_deep_items, too_deep_members, too_deep_all, limits, spend, enter, enter_kept};
+ghost use Rattle.aas_table.specs.TooDeep.{too_deep, too_deep_items, too_deep_members, too_deep_all};
+ghost use Rattle.aas_table.specs.TooDeep.{limits, spend, enter, enter_kept};
 ghost use Rattle.aas_table.specs.Seen.{row_of, form_of, sort_of, levels_of};
 
 use crate::pointer::{Token, Trail};
@@ -21,15 +22,17 @@ pub struct Levels {
 }
 
 impl Levels {
-    /// What is left at the outside of a document: 30 levels of elements, 4 of references and 12 of kept data.
+    /// What is left at the outside of a document: 30 levels of elements, 4 of references and 12 of
+    /// kept data.
     pub const LIMITS: Levels = Levels {
         elements: 30,
         references: 4,
         kept: 12,
     };
 
-    /// What is left where a submodel element stands at this level. A direct child of a submodel has level 1, a child
-    /// one more than its parent. Above level 30 none is left for the element itself.
+    /// What is left where a submodel element stands at this level. A direct child of a submodel has
+    /// level 1, a child one more than its parent. From level 31 on none is left for the element
+    /// itself.
     pub fn at_level(level: u32) -> Levels
         ensures { levels_of result ≡ record limits { elements = 31 - level } }
     {
@@ -75,8 +78,9 @@ fn spend(left: u32) -> Option<u32>
     left.checked_sub(1)
 }
 
-/// The first place in a JSON value that lies too deep, where `left` says how many levels are left for it. Places come in
-/// the order of the first mapping fault, and what has no place in the form is passed over.
+/// The first place in a JSON value that lies too deep, where `left` says how many levels are left
+/// for it. Places come in the order of the first mapping fault. What does not fit the form is passed
+/// over.
 #[cycle(too_deep)]
 pub fn too_deep(
     alloc: Global,
@@ -84,7 +88,8 @@ pub fn too_deep(
     value: &Value,
     left: Levels,
 ) -> Result<Option<Trail>, NoMemory>
-    ensures { IfOk result (λ place. place ≡ too_deep (form_of form) (view value.now) (levels_of left)) }
+    ensures { IfOk result (λ place. place
+        ≡ too_deep (form_of form) (view value.now) (levels_of left)) }
 {
     match (form, value) {
         (Form::One(sort), Value::Object(members)) => {
@@ -120,7 +125,8 @@ fn too_deep_items(
     items: &Vec<Value>,
     left: Levels,
 ) -> Result<Option<Trail>, NoMemory>
-    ensures { IfOk result (λ place. place ≡ too_deep_items (items_view items.now.items) (form_of form) 0 (levels_of left)) }
+    ensures { IfOk result (λ place. place
+        ≡ too_deep_items (items_view items.now.items) (form_of form) 0 (levels_of left)) }
 {
     for (place, item) in items.iter().enumerate() {
         if let Some(trail) = too_deep(alloc, form, item, left)? {
@@ -137,8 +143,8 @@ fn too_deep_members(
     members: &Map<String, Value>,
     left: Levels,
 ) -> Result<Option<Trail>, NoMemory>
-    ensures { IfOk result
-        (λ place. place ≡ too_deep_members (members_view members.now.entries) (map row_of rows.now) (levels_of left)) }
+    ensures { IfOk result (λ place. place
+        ≡ too_deep_members (members_view members.now.entries) (map row_of rows.now) (levels_of left)) }
 {
     for (name, value) in members.iter() {
         if let Some(row) = row_named(name.as_str(), rows) {
@@ -157,7 +163,8 @@ fn too_deep_all(
     members: &Map<String, Value>,
     left: Levels,
 ) -> Result<Option<Trail>, NoMemory>
-    ensures { IfOk result (λ place. place ≡ too_deep_all (members_view members.now.entries) (levels_of left)) }
+    ensures { IfOk result (λ place. place
+        ≡ too_deep_all (members_view members.now.entries) (levels_of left)) }
 {
     for (name, value) in members.iter() {
         if let Some(trail) = too_deep(alloc, Form::Any, value, left)? {

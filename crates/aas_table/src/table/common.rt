@@ -1,8 +1,8 @@
 use super::Form::{Kept, Many, One, Text};
 use super::{Class, Row, Sort};
 
-// Rows that several classes have: those of Referable, Identifiable, HasSemantics, Qualifiable, HasExtensions and
-// HasDataSpecification, and the JSON mapping's modelType.
+// Rows that several classes have: those of Referable, Identifiable, HasSemantics, Qualifiable,
+// HasExtensions and HasDataSpecification, and the JSON mapping's modelType.
 
 pub(super) const ADMINISTRATION: Row = optional!("administration", One(Sort::Administration));
 

@@ -1,6 +1,6 @@
-ghost use Rattle.std.specs.Prelude.{◌≡◌, map, option_map};
+ghost use Rattle.std.specs.Prelude.{◌≡◌, option_map};
 ghost use Rattle.aas_table.specs.Rows.{sorted, find};
-ghost use Rattle.aas_table.specs.Seen.{row_of};
+ghost use Rattle.aas_table.specs.Seen.{rows_seen};
 ghost use Rattle.aas_table.specs.Table.{model_types, shell, submodel, concept};
 
 use super::Form::{Many, One, Word};
@@ -58,33 +58,33 @@ static CONCEPT: [Row; 10] = [
     MODEL_TYPE,
 ];
 
-/// The rows of an AssetAdministrationShell, where that is the name.
-pub(super) fn shell_rows(name: &str) -> Option<&'static [Row]>
-    ensures { option_map (λ rs. map row_of rs.now) result ≡ option_map sorted (find name.now (model_types shell)) }
+/// The rows of an AssetAdministrationShell, where that is the modelType.
+pub(super) fn shell_rows(model_type: &str) -> Option<&'static [Row]>
+    ensures { rows_seen result ≡ option_map sorted (find model_type.now (model_types shell)) }
 {
-    if name == "AssetAdministrationShell" {
+    if model_type == "AssetAdministrationShell" {
         Some(&SHELL)
     } else {
         None
     }
 }
 
-/// The rows of a Submodel, where that is the name.
-pub(super) fn submodel_rows(name: &str) -> Option<&'static [Row]>
-    ensures { option_map (λ rs. map row_of rs.now) result ≡ option_map sorted (find name.now (model_types submodel)) }
+/// The rows of a Submodel, where that is the modelType.
+pub(super) fn submodel_rows(model_type: &str) -> Option<&'static [Row]>
+    ensures { rows_seen result ≡ option_map sorted (find model_type.now (model_types submodel)) }
 {
-    if name == "Submodel" {
+    if model_type == "Submodel" {
         Some(&SUBMODEL)
     } else {
         None
     }
 }
 
-/// The rows of a ConceptDescription, where that is the name.
-pub(super) fn concept_rows(name: &str) -> Option<&'static [Row]>
-    ensures { option_map (λ rs. map row_of rs.now) result ≡ option_map sorted (find name.now (model_types concept)) }
+/// The rows of a ConceptDescription, where that is the modelType.
+pub(super) fn concept_rows(model_type: &str) -> Option<&'static [Row]>
+    ensures { rows_seen result ≡ option_map sorted (find model_type.now (model_types concept)) }
 {
-    if name == "ConceptDescription" {
+    if model_type == "ConceptDescription" {
         Some(&CONCEPT)
     } else {
         None

@@ -2,8 +2,9 @@ ghost use Rattle.std.specs.Prelude.{◌≡◌, map, Some, option_map};
 ghost use Rattle.aas_names.specs.KindNames.{name_of};
 ghost use Rattle.aas_table.specs.Names.{has};
 ghost use Rattle.aas_table.specs.Rows.{sorted, find};
-ghost use Rattle.aas_table.specs.Seen.{row_of};
-ghost use Rattle.aas_table.specs.Table.{model_types, data_elements, element, data_element, simple_element};
+ghost use Rattle.aas_table.specs.Seen.{row_of, rows_seen};
+ghost use Rattle.aas_table.specs.Table.{model_types, data_elements, element, data_element};
+ghost use Rattle.aas_table.specs.Table.{simple_element};
 
 use super::Form::{Flag, Many, One, Text, Word};
 use super::common::{
@@ -265,7 +266,7 @@ static SIMPLE_COLLECTION: [Row; 3] = [
 
 /// The rows of a submodel element whose kind has this name.
 pub(super) fn element_rows(name: &str) -> Option<&'static [Row]>
-    ensures { option_map (λ rs. map row_of rs.now) result ≡ option_map sorted (find name.now (model_types element)) }
+    ensures { rows_seen result ≡ option_map sorted (find name.now (model_types element)) }
 {
     match Kind::from_name(name) {
         Some(kind) => Some(rows_of_kind(kind)),
@@ -275,7 +276,7 @@ pub(super) fn element_rows(name: &str) -> Option<&'static [Row]>
 
 /// The rows of a data element whose kind has this name.
 pub(super) fn data_element_rows(name: &str) -> Option<&'static [Row]>
-    ensures { option_map (λ rs. map row_of rs.now) result ≡ option_map sorted (find name.now (model_types data_element)) }
+    ensures { rows_seen result ≡ option_map sorted (find name.now (model_types data_element)) }
 {
     match Kind::from_name(name) {
         Some(kind) => data_rows_of_kind(kind),
@@ -285,7 +286,7 @@ pub(super) fn data_element_rows(name: &str) -> Option<&'static [Row]>
 
 /// The rows of an element with a name and a value alone, whose kind has this name.
 pub(super) fn simple_element_rows(name: &str) -> Option<&'static [Row]>
-    ensures { option_map (λ rs. map row_of rs.now) result ≡ option_map sorted (find name.now (model_types simple_element)) }
+    ensures { rows_seen result ≡ option_map sorted (find name.now (model_types simple_element)) }
 {
     match Kind::from_name(name) {
         Some(kind) => simple_rows_of_kind(kind),
@@ -315,7 +316,7 @@ fn rows_of_kind(kind: Kind) -> &'static [Row]
 }
 
 fn data_rows_of_kind(kind: Kind) -> Option<&'static [Row]>
-    ensures { option_map (λ rs. map row_of rs.now) result ≡ option_map sorted (find (name_of kind) (model_types data_element)) }
+    ensures { rows_seen result ≡ option_map sorted (find (name_of kind) (model_types data_element)) }
 {
     if is_data_element(kind) {
         Some(rows_of_kind(kind))
@@ -339,7 +340,7 @@ fn is_data_element(kind: Kind) -> bool
 }
 
 fn simple_rows_of_kind(kind: Kind) -> Option<&'static [Row]>
-    ensures { option_map (λ rs. map row_of rs.now) result ≡ option_map sorted (find (name_of kind) (model_types simple_element)) }
+    ensures { rows_seen result ≡ option_map sorted (find (name_of kind) (model_types simple_element)) }
 {
     match kind {
         Kind::Property => Some(&SIMPLE_PROPERTY),
