@@ -1,5 +1,5 @@
 -- A function that cuts a form off the front of a text, and when it does so exactly.
-use Rattle.std.proofs.Common.{◌≡◌, ℕ, ◌==◌, Bool, true, false, ◌↔◌, List, [], ◌∷◌, ◌++◌, Option, Some, None, refl, sym, ap, ◌∙◌, inl, inr, append_assoc, append-nil, if◌then◌else◌, codes}
+use Rattle.std.proofs.Common.{IsTrue, ◌≡◌, ℕ, ◌==◌, Bool, true, false, ◌↔◌, List, [], ◌∷◌, ◌++◌, Option, Some, None, refl, sym, ap, ◌∙◌, inl, inr, append_assoc, append-nil, if◌then◌else◌, codes}
 use Rattle.std.proofs.lemmas.Bool.Decides.{Decides-eqb}
 use Rattle.std.specs.List.{list_all}
 use Rattle.std.specs.Option.{option_and_then, MatchOption}
@@ -160,6 +160,10 @@ module _ {A NextA : List ℕ → Type 0} {p : List ℕ → Option (List ℕ)} (a
     λ e. let x = a.sound t [] e in let same : t ≡ x.0 = x.1 ∙ append-nil x.0 in rw same x.2,
     λ h. ap p (sym (append-nil t)) ∙ a.full t [] h next,
   )
+
+-- what a call answers that asks whether nothing is left
+pub answered : (A : List ℕ → Type 0) (p : List ℕ → Option (List ℕ)) (t : List ℕ) (o : Option (List ℕ)) (r : Bool) → ((p t ≡ Some []) ↔ A t) → o ≡ p t → (IsTrue r ↔ (o ≡ Some [])) → IsTrue r ↔ A t
+answered A p t o r f e g = (λ h. f.0 (sym e ∙ g.0 h), λ h. g.1 (e ∙ f.1 h))
 
 pub Cuts-maybe_one : (class : ℕ → Bool) → Cuts (maybe (one class)) (Stops class) (cut_maybe (after_one class))
 Cuts-maybe_one class = Cuts-maybe (Cuts-one class) (Needs-one class) (λ z k. (tt, k))

@@ -120,9 +120,43 @@ module _ {A NextA : List ℕ → Type 0} {p : List ℕ → Option (List ℕ)} (a
 
 -- ---- a loop that cuts as long as something is found
 
--- one turn
-pub cut_times_turn : (p : List ℕ → Option (List ℕ)) (n i : ℕ) (t : List ℕ) → i < n → cut_times (n - i) p t ≡ option_map_or (cut_times (n - (i + 1)) p) (p t) t
-cut_times_turn p n i t h = let more : n - i ≡ suc (n - (i + 1)) = omega arith in rw more refl
+-- what the cut leaves is shorter
+pub record Shrinks (p : List ℕ → Option (List ℕ)) : Type 0 where
+  pub shrinks : (t rest : List ℕ) → p t ≡ Some rest → length rest < length t
 
-pub cut_times_end : (p : List ℕ → Option (List ℕ)) (n : ℕ) (t : List ℕ) → cut_times (n - n) p t ≡ t
-cut_times_end p n t = let over : n - n ≡ 0 = omega arith in rw over refl
+-- as it is, if no text of the form is empty
+pub Shrinks-cut : {A Next : List ℕ → Type 0} {p : List ℕ → Option (List ℕ)} → Cuts A Next p → Nonempty A → Shrinks p
+Shrinks-cut a n = record {
+  shrinks = λ t rest e.
+      let x = a.sound t rest e in let front = n.long x.0 x.2 in
+      let sum : length t ≡ length x.0 + length rest = ap length x.1 ∙ length-append x.0 rest in omega arith;
+}
+
+module _ {p : List ℕ → Option (List ℕ)} (s : Shrinks p) where
+  enough_by : (m n : ℕ) (t : List ℕ) (o : Option (List ℕ)) → p t ≡ o → length t ≤ suc m → length t ≤ suc n
+      → ((r : List ℕ) → length r ≤ m → length r ≤ n → cut_times m p r ≡ cut_times n p r) → option_map_or (cut_times m p) o t ≡ option_map_or (cut_times n p) o t
+  enough_by m n t None e h k same = refl
+  enough_by m n t (Some r) e h k same = let less = s.shrinks t r e in same r (omega arith) (omega arith)
+
+  none_left : (n : ℕ) (t : List ℕ) (o : Option (List ℕ)) → p t ≡ o → length t ≤ 0 → t ≡ option_map_or (cut_times n p) o t
+  none_left n t None e h = refl
+  none_left n t (Some r) e h = let less = s.shrinks t r e in absurd (omega arith)
+
+  -- more times than there are bytes change nothing
+  times_enough : (m n : ℕ) (t : List ℕ) → length t ≤ m → length t ≤ n → cut_times m p t ≡ cut_times n p t
+  times_enough zero zero t h k = refl
+  times_enough zero (suc n) t h k = none_left n t (p t) refl h
+  times_enough (suc m) zero t h k = sym (none_left m t (p t) refl k)
+  times_enough (suc m) (suc n) t h k = enough_by m n t (p t) refl h k (times_enough m n)
+
+  -- one turn of the loop
+  pub cut_many_turn : (t rest : List ℕ) → p t ≡ Some rest → cut_many p t ≡ cut_many p rest
+  cut_many_turn [] rest e = let less = s.shrinks [] rest e in absurd (omega arith)
+  cut_many_turn (b ∷ t) rest e =
+      let less = s.shrinks (b ∷ t) rest e in
+      ap (λ o. option_map_or (cut_times (length t) p) o (b ∷ t)) e ∙ times_enough (length t) (length rest) rest (omega arith) (omega arith)
+
+-- its end
+pub cut_many_end : (p : List ℕ → Option (List ℕ)) (t : List ℕ) → p t ≡ None → cut_many p t ≡ t
+cut_many_end p [] e = refl
+cut_many_end p (b ∷ t) e = ap (λ o. option_map_or (cut_times (length t) p) o (b ∷ t)) e

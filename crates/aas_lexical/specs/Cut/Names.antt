@@ -1,0 +1,26 @@
+-- What is cut for a name, a language and a version.
+use Rattle.std.specs.Prelude.{ℕ, Bool, List, Option}
+use Rattle.std.specs.Char.{is_ascii_digit, is_ascii_alphabetic, is_ascii_alphanumeric}
+use Rattle.aas_forms.specs.Cut.{after_lit, after_one, after_any, after_run, cut_all, cut_then, cut_either, cut_many, cut_up_to}
+use Rattle.aas_lexical.specs.Names.{is_nonzero_digit, is_name_byte}
+use Rattle.aas_lexical.specs.declared.name.NameByte.{NameByte}
+use Rattle.aas_lexical.specs.declared.name.NameByte.TheVariants.{NonzeroDigit, Name}
+
+abbrev pub is_in : NameByte → ℕ → Bool
+is_in NonzeroDigit = is_nonzero_digit
+is_in Name = is_name_byte
+
+abbrev pub after_subtag : List ℕ → Option (List ℕ)
+after_subtag = cut_then (after_lit "-") (cut_up_to 8 (after_run is_ascii_alphanumeric))
+
+abbrev pub after_subtags : List ℕ → List ℕ
+after_subtags = cut_many after_subtag
+
+abbrev pub after_language : List ℕ → Option (List ℕ)
+after_language = cut_then (cut_up_to 8 (after_run is_ascii_alphabetic)) (cut_all after_subtags)
+
+abbrev pub after_version : List ℕ → Option (List ℕ)
+after_version = cut_either (after_lit "0") (cut_then (after_one is_nonzero_digit) (cut_up_to 3 (cut_all (after_any is_ascii_digit))))
+
+abbrev pub after_id_short : List ℕ → Option (List ℕ)
+after_id_short = cut_then (after_one is_ascii_alphabetic) (cut_up_to 127 (cut_all (after_any is_name_byte)))

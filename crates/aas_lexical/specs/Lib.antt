@@ -1,0 +1,10 @@
+pub mod Numbers
+pub mod Binary
+pub mod Dates
+pub mod Times
+pub mod Durations
+pub mod Media
+pub mod Names
+pub mod Values
+pub mod Natives
+pub mod Cut

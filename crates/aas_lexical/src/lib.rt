@@ -1,0 +1,22 @@
+//! The lexical rules of the Asset Administration Shell: which texts are of a value type of XML Schema, and which are an
+//! identifier, a short name, a language, a version or a media type.
+//!
+//! A text is judged as it is: white space is not collapsed. Each call takes a text of any length, takes no memory, and
+//! goes over the text a bounded number of times.
+#![tactic(auto)]
+
+mod binary;
+mod date;
+mod duration;
+mod media;
+mod name;
+mod natives;
+mod number;
+mod time;
+mod value;
+
+pub use media::is_media_type;
+pub use name::{is_id_short, is_identifier, is_language, is_string, is_version};
+pub use natives::Native;
+pub use time::is_utc_date_time;
+pub use value::{fits, native};
