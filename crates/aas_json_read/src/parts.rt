@@ -1,0 +1,244 @@
+ghost use Rattle.std.specs.Prelude.{◌≡◌, IfOk, Some, option_map};
+ghost use Rattle.serde_json.specs.View.{view, members_view};
+ghost use Rattle.aas_table.specs.Plain.{plain, plain_member, plain_object};
+ghost use Rattle.aas_table.specs.Rows.{sorted};
+ghost use Rattle.aas_table.specs.Table.{one, parts, lang_text, extension, qualifier, specific_asset_id, administration, asset_information, resource};
+ghost use Rattle.aas_mapping.specs.Parts.{spell_lang_text, spell_extension, spell_qualifier, spell_specific_asset_id, spell_administration, spell_asset_information, spell_resource};
+
+use crate::semantics::semantics_in;
+use crate::sorts::{
+    Administrations, AssetInformations, Extensions, LangTexts, Qualifiers, Resources, SpecificAssetIds,
+};
+use aas_members::{Part, kept_member, list_member, one_member, string_member, word_member};
+use aas_model::{
+    Administration, AssetInformation, Extension, LangText, NoMemory, Qualifier, Resource, SpecificAssetId,
+};
+use aas_reference::References;
+use serde_json::{Map, Value};
+use std::alloc::Global;
+
+impl Part for LangTexts {
+    type Tree = LangText;
+
+    ghost sort = { lang_text };
+
+    ghost spell = { spell_lang_text };
+
+    #[tactic(auto, unfolding(aas_table::specs::Rows::rows_of))]
+    fn tree(alloc: Global, value: &Value) -> Result<Option<LangText>, NoMemory> {
+        match value {
+            Value::Object(members) => Ok(lang_text_in(alloc, members)?),
+            _ => Ok(None),
+        }
+    }
+}
+
+fn lang_text_in(alloc: Global, members: &Map<String, Value>) -> Result<Option<LangText>, NoMemory>
+    ensures { IfOk result (λ found. option_map spell_lang_text found ≡ plain_object (Some (sorted (parts lang_text))) (plain_member (members_view members.now.entries))) }
+{
+    let Some(language) = string_member(alloc, members, "language")? else {
+        return Ok(None);
+    };
+    let Some(text) = string_member(alloc, members, "text")? else {
+        return Ok(None);
+    };
+    Ok(Some(LangText { language, text }))
+}
+
+impl Part for Extensions {
+    type Tree = Extension;
+
+    ghost sort = { extension };
+
+    ghost spell = { spell_extension };
+
+    #[tactic(auto, unfolding(aas_table::specs::Rows::rows_of))]
+    fn tree(alloc: Global, value: &Value) -> Result<Option<Extension>, NoMemory> {
+        match value {
+            Value::Object(members) => Ok(extension_in(alloc, members)?),
+            _ => Ok(None),
+        }
+    }
+}
+
+fn extension_in(alloc: Global, members: &Map<String, Value>) -> Result<Option<Extension>, NoMemory>
+    ensures { IfOk result (λ found. option_map spell_extension found ≡ plain_object (Some (sorted (parts extension))) (plain_member (members_view members.now.entries))) }
+{
+    let value_type = word_member(members, "valueType");
+    let Some(name) = string_member(alloc, members, "name")? else {
+        return Ok(None);
+    };
+    Ok(Some(Extension {
+        name,
+        value_type,
+        value: string_member(alloc, members, "value")?,
+        refers_to: list_member::<References>(alloc, members, "refersTo")?,
+        semantics: semantics_in(alloc, members)?,
+    }))
+}
+
+impl Part for Qualifiers {
+    type Tree = Qualifier;
+
+    ghost sort = { qualifier };
+
+    ghost spell = { spell_qualifier };
+
+    #[tactic(auto, unfolding(aas_table::specs::Rows::rows_of))]
+    fn tree(alloc: Global, value: &Value) -> Result<Option<Qualifier>, NoMemory> {
+        match value {
+            Value::Object(members) => Ok(qualifier_in(alloc, members)?),
+            _ => Ok(None),
+        }
+    }
+}
+
+fn qualifier_in(alloc: Global, members: &Map<String, Value>) -> Result<Option<Qualifier>, NoMemory>
+    ensures { IfOk result (λ found. option_map spell_qualifier found ≡ plain_object (Some (sorted (parts qualifier))) (plain_member (members_view members.now.entries))) }
+{
+    let kind = word_member(members, "kind");
+    let Some(value_type) = word_member(members, "valueType") else {
+        return Ok(None);
+    };
+    let Some(qualifier_type) = string_member(alloc, members, "type")? else {
+        return Ok(None);
+    };
+    Ok(Some(Qualifier {
+        kind,
+        qualifier_type,
+        value_type,
+        value: string_member(alloc, members, "value")?,
+        value_id: one_member::<References>(alloc, members, "valueId")?,
+        semantics: semantics_in(alloc, members)?,
+    }))
+}
+
+impl Part for SpecificAssetIds {
+    type Tree = SpecificAssetId;
+
+    ghost sort = { specific_asset_id };
+
+    ghost spell = { spell_specific_asset_id };
+
+    #[tactic(auto, unfolding(aas_table::specs::Rows::rows_of))]
+    fn tree(alloc: Global, value: &Value) -> Result<Option<SpecificAssetId>, NoMemory> {
+        match value {
+            Value::Object(members) => Ok(specific_asset_id_in(alloc, members)?),
+            _ => Ok(None),
+        }
+    }
+}
+
+fn specific_asset_id_in(
+    alloc: Global,
+    members: &Map<String, Value>,
+) -> Result<Option<SpecificAssetId>, NoMemory>
+    ensures { IfOk result (λ found. option_map spell_specific_asset_id found ≡ plain_object (Some (sorted (parts specific_asset_id))) (plain_member (members_view members.now.entries))) }
+{
+    let Some(name) = string_member(alloc, members, "name")? else {
+        return Ok(None);
+    };
+    let Some(value) = string_member(alloc, members, "value")? else {
+        return Ok(None);
+    };
+    let external_subject_id = one_member::<References>(alloc, members, "externalSubjectId")?;
+    let semantics = semantics_in(alloc, members)?;
+    Ok(Some(SpecificAssetId {
+        name,
+        value,
+        external_subject_id,
+        semantics,
+    }))
+}
+
+impl Part for Administrations {
+    type Tree = Administration;
+
+    ghost sort = { administration };
+
+    ghost spell = { spell_administration };
+
+    #[tactic(auto, unfolding(aas_table::specs::Rows::rows_of))]
+    fn tree(alloc: Global, value: &Value) -> Result<Option<Administration>, NoMemory> {
+        match value {
+            Value::Object(members) => Ok(Some(administration_in(alloc, members)?)),
+            _ => Ok(None),
+        }
+    }
+}
+
+fn administration_in(alloc: Global, members: &Map<String, Value>) -> Result<Administration, NoMemory>
+    ensures { IfOk result (λ found. Some (spell_administration found) ≡ plain_object (Some (sorted (parts administration))) (plain_member (members_view members.now.entries))) }
+{
+    Ok(Administration {
+        version: string_member(alloc, members, "version")?,
+        revision: string_member(alloc, members, "revision")?,
+        creator: one_member::<References>(alloc, members, "creator")?,
+        template_id: string_member(alloc, members, "templateId")?,
+        embedded_data_specifications: kept_member(alloc, members, "embeddedDataSpecifications")?,
+    })
+}
+
+impl Part for AssetInformations {
+    type Tree = AssetInformation;
+
+    ghost sort = { asset_information };
+
+    ghost spell = { spell_asset_information };
+
+    #[tactic(auto, unfolding(aas_table::specs::Rows::rows_of))]
+    fn tree(alloc: Global, value: &Value) -> Result<Option<AssetInformation>, NoMemory> {
+        match value {
+            Value::Object(members) => Ok(asset_information_in(alloc, members)?),
+            _ => Ok(None),
+        }
+    }
+}
+
+fn asset_information_in(
+    alloc: Global,
+    members: &Map<String, Value>,
+) -> Result<Option<AssetInformation>, NoMemory>
+    ensures { IfOk result (λ found. option_map spell_asset_information found ≡ plain_object (Some (sorted (parts asset_information))) (plain_member (members_view members.now.entries))) }
+{
+    let Some(asset_kind) = word_member(members, "assetKind") else {
+        return Ok(None);
+    };
+    let global_asset_id = string_member(alloc, members, "globalAssetId")?;
+    let specific_asset_ids = list_member::<SpecificAssetIds>(alloc, members, "specificAssetIds")?;
+    let asset_type = string_member(alloc, members, "assetType")?;
+    let default_thumbnail = one_member::<Resources>(alloc, members, "defaultThumbnail")?;
+    Ok(Some(AssetInformation {
+        asset_kind,
+        global_asset_id,
+        specific_asset_ids,
+        asset_type,
+        default_thumbnail,
+    }))
+}
+
+impl Part for Resources {
+    type Tree = Resource;
+
+    ghost sort = { resource };
+
+    ghost spell = { spell_resource };
+
+    #[tactic(auto, unfolding(aas_table::specs::Rows::rows_of))]
+    fn tree(alloc: Global, value: &Value) -> Result<Option<Resource>, NoMemory> {
+        match value {
+            Value::Object(members) => Ok(resource_in(alloc, members)?),
+            _ => Ok(None),
+        }
+    }
+}
+
+fn resource_in(alloc: Global, members: &Map<String, Value>) -> Result<Option<Resource>, NoMemory>
+    ensures { IfOk result (λ found. option_map spell_resource found ≡ plain_object (Some (sorted (parts resource))) (plain_member (members_view members.now.entries))) }
+{
+    let content_type = string_member(alloc, members, "contentType")?;
+    let Some(path) = string_member(alloc, members, "path")? else {
+        return Ok(None);
+    };
+    Ok(Some(Resource { path, content_type }))
+}

@@ -1,0 +1,199 @@
+ghost use Rattle.std.specs.Prelude.{◌≡◌, IfOk};
+ghost use Rattle.aas_members.specs.Exact.{data_of};
+ghost use Rattle.aas_mapping.specs.Parts.{spell_lang_text, spell_extension, spell_qualifier, spell_specific_asset_id, spell_resource, spell_asset_information};
+
+use crate::sorts::{
+    AssetInformations, Extensions, LangTexts, Qualifiers, Resources, SpecificAssetIds,
+};
+use aas_members::{
+    Exact, Object, Texts, Written, list_value, optional_value, optional_word, text_value,
+    word_value,
+};
+use aas_model::{
+    AssetInformation, Extension, LangText, NoMemory, Qualifier, Resource, SpecificAssetId,
+};
+use aas_reference::References;
+use std::alloc::Global;
+
+impl Written for LangTexts {
+    type Tree = LangText;
+
+    ghost spell = { spell_lang_text };
+
+    fn value(alloc: Global, lang_text: &LangText) -> Result<Exact, NoMemory> {
+        let mut object = Object::new(alloc);
+        object.put(
+            alloc,
+            "language",
+            Some(text_value(alloc, &lang_text.language)?),
+        )?;
+        object.put(alloc, "text", Some(text_value(alloc, &lang_text.text)?))?;
+        Ok(object.close())
+    }
+}
+
+impl Written for SpecificAssetIds {
+    type Tree = SpecificAssetId;
+
+    ghost spell = { spell_specific_asset_id };
+
+    fn value(alloc: Global, id: &SpecificAssetId) -> Result<Exact, NoMemory> {
+        let mut object = Object::new(alloc);
+        object.put(
+            alloc,
+            "externalSubjectId",
+            optional_value::<References>(alloc, &id.external_subject_id)?,
+        )?;
+        object.put(alloc, "name", Some(text_value(alloc, &id.name)?))?;
+        object.put(
+            alloc,
+            "semanticId",
+            optional_value::<References>(alloc, &id.semantics.semantic_id)?,
+        )?;
+        object.put(
+            alloc,
+            "supplementalSemanticIds",
+            list_value::<References>(alloc, id.semantics.supplemental_semantic_ids.as_slice())?,
+        )?;
+        object.put(alloc, "value", Some(text_value(alloc, &id.value)?))?;
+        Ok(object.close())
+    }
+}
+
+impl Written for Extensions {
+    type Tree = Extension;
+
+    ghost spell = { spell_extension };
+
+    fn value(alloc: Global, extension: &Extension) -> Result<Exact, NoMemory> {
+        let mut object = Object::new(alloc);
+        object.put(alloc, "name", Some(text_value(alloc, &extension.name)?))?;
+        object.put(
+            alloc,
+            "refersTo",
+            list_value::<References>(alloc, extension.refers_to.as_slice())?,
+        )?;
+        object.put(
+            alloc,
+            "semanticId",
+            optional_value::<References>(alloc, &extension.semantics.semantic_id)?,
+        )?;
+        object.put(
+            alloc,
+            "supplementalSemanticIds",
+            list_value::<References>(
+                alloc,
+                extension.semantics.supplemental_semantic_ids.as_slice(),
+            )?,
+        )?;
+        object.put(
+            alloc,
+            "value",
+            optional_value::<Texts>(alloc, &extension.value)?,
+        )?;
+        object.put(
+            alloc,
+            "valueType",
+            optional_word(alloc, extension.value_type)?,
+        )?;
+        Ok(object.close())
+    }
+}
+
+impl Written for Qualifiers {
+    type Tree = Qualifier;
+
+    ghost spell = { spell_qualifier };
+
+    fn value(alloc: Global, qualifier: &Qualifier) -> Result<Exact, NoMemory> {
+        let mut object = Object::new(alloc);
+        object.put(alloc, "kind", optional_word(alloc, qualifier.kind)?)?;
+        object.put(
+            alloc,
+            "semanticId",
+            optional_value::<References>(alloc, &qualifier.semantics.semantic_id)?,
+        )?;
+        object.put(
+            alloc,
+            "supplementalSemanticIds",
+            list_value::<References>(
+                alloc,
+                qualifier.semantics.supplemental_semantic_ids.as_slice(),
+            )?,
+        )?;
+        object.put(
+            alloc,
+            "type",
+            Some(text_value(alloc, &qualifier.qualifier_type)?),
+        )?;
+        object.put(
+            alloc,
+            "value",
+            optional_value::<Texts>(alloc, &qualifier.value)?,
+        )?;
+        object.put(
+            alloc,
+            "valueId",
+            optional_value::<References>(alloc, &qualifier.value_id)?,
+        )?;
+        object.put(
+            alloc,
+            "valueType",
+            Some(word_value(alloc, qualifier.value_type)?),
+        )?;
+        Ok(object.close())
+    }
+}
+
+impl Written for Resources {
+    type Tree = Resource;
+
+    ghost spell = { spell_resource };
+
+    fn value(alloc: Global, resource: &Resource) -> Result<Exact, NoMemory> {
+        let mut object = Object::new(alloc);
+        object.put(
+            alloc,
+            "contentType",
+            optional_value::<Texts>(alloc, &resource.content_type)?,
+        )?;
+        object.put(alloc, "path", Some(text_value(alloc, &resource.path)?))?;
+        Ok(object.close())
+    }
+}
+
+impl Written for AssetInformations {
+    type Tree = AssetInformation;
+
+    ghost spell = { spell_asset_information };
+
+    fn value(alloc: Global, asset: &AssetInformation) -> Result<Exact, NoMemory> {
+        let mut object = Object::new(alloc);
+        object.put(
+            alloc,
+            "assetKind",
+            Some(word_value(alloc, asset.asset_kind)?),
+        )?;
+        object.put(
+            alloc,
+            "assetType",
+            optional_value::<Texts>(alloc, &asset.asset_type)?,
+        )?;
+        object.put(
+            alloc,
+            "defaultThumbnail",
+            optional_value::<Resources>(alloc, &asset.default_thumbnail)?,
+        )?;
+        object.put(
+            alloc,
+            "globalAssetId",
+            optional_value::<Texts>(alloc, &asset.global_asset_id)?,
+        )?;
+        object.put(
+            alloc,
+            "specificAssetIds",
+            list_value::<SpecificAssetIds>(alloc, asset.specific_asset_ids.as_slice())?,
+        )?;
+        Ok(object.close())
+    }
+}

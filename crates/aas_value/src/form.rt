@@ -1,0 +1,159 @@
+ghost use Rattle.std.specs.Prelude.{◌≡◌, false, map, IfOk, IfSome, option_map};
+ghost use Rattle.serde_json.specs.View.{view};
+ghost use Rattle.serde_json.specs.Written.{has_float};
+ghost use Rattle.aas_members.specs.Exact.{data_of};
+ghost use Rattle.aas_names.specs.declared.modifiers.Extent.{Extent};
+ghost use Rattle.aas_model.specs.declared.element.Element.{out-Element};
+ghost use Rattle.aas_value.specs.ValueForm.{child_of, value_form, submodel_value, named, in_order, annotation_value};
+
+use crate::children::{push_child, put_child};
+use crate::kinds::{
+    annotated_value, blob_value, entity_members, event_value, file_value, languages_value,
+    range_value, reference_or_null, relationship_value,
+};
+use crate::single::single_value;
+use aas_members::{Array, Exact, Object};
+use aas_model::{Element, Extent, Many, NoMemory, Payload, Submodel};
+use serde_json::Value;
+use std::alloc::Global;
+
+/// The value form of an element, or `None` exactly for a Capability and an Operation.
+pub fn value_of(alloc: Global, element: &Element, extent: Extent) -> Result<Option<Value>, NoMemory>
+    ensures form { IfOk result (λ found. option_map view found ≡ value_form extent element.now) }
+    ensures no_float { IfOk result (λ found. IfSome found (λ value. has_float (view value) ≡ false)) }
+{
+    match element_value(alloc, element, extent)? {
+        Some(exact) => Ok(Some(exact.into_value())),
+        None => Ok(None),
+    }
+}
+
+/// The value form of a submodel: the value forms of its elements by their names.
+pub fn value_of_submodel(
+    alloc: Global,
+    submodel: &Submodel,
+    extent: Extent,
+) -> Result<Value, NoMemory>
+    ensures form { IfOk result (λ value. view value ≡ submodel_value extent submodel.now) }
+    ensures no_float { IfOk result (λ value. has_float (view value) ≡ false) }
+{
+    Ok(named_values(alloc, &submodel.kids, extent)?.into_value())
+}
+
+/// The value form of an element, as a value whose text is known.
+#[cycle(value)]
+#[tactic(auto, using(crate::proofs::Forms::form_out))]
+pub fn element_value(
+    alloc: Global,
+    element: &Element,
+    extent: Extent,
+) -> Result<Option<Exact>, NoMemory>
+    ensures { IfOk result (λ found. option_map data_of found ≡ value_form extent element.now) }
+{
+    match &element.payload {
+        Payload::Property {
+            value_type,
+            value,
+            ..
+        } => Ok(Some(single_value(alloc, *value_type, value)?)),
+        Payload::MultiLanguageProperty { value, .. } => Ok(Some(languages_value(alloc, value)?)),
+        Payload::Range {
+            value_type,
+            min,
+            max,
+        } => Ok(Some(range_value(alloc, *value_type, min, max)?)),
+        Payload::File {
+            content_type,
+            value,
+        } => Ok(Some(file_value(alloc, content_type, value)?)),
+        Payload::Blob {
+            content_type,
+            value,
+        } => Ok(Some(blob_value(alloc, extent, content_type, value)?)),
+        Payload::ReferenceElement { value } => Ok(Some(reference_or_null(alloc, value)?)),
+        Payload::RelationshipElement { first, second } => Ok(Some(relationship_value(
+            alloc, first, second,
+        )?)),
+        Payload::AnnotatedRelationshipElement { first, second } => {
+            let annotations = annotation_values(alloc, &element.kids, extent)?;
+            Ok(Some(annotated_value(alloc, annotations, first, second)?))
+        }
+        Payload::Entity {
+            entity_type,
+            global_asset_id,
+            specific_asset_ids,
+        } => {
+            let statements = named_values(alloc, &element.kids, extent)?;
+            Ok(Some(entity_members(
+                alloc,
+                *entity_type,
+                global_asset_id,
+                specific_asset_ids,
+                statements,
+            )?))
+        }
+        Payload::BasicEventElement { observed, .. } => Ok(Some(event_value(alloc, observed)?)),
+        Payload::Capability => Ok(None),
+        Payload::Operation => Ok(None),
+        Payload::SubmodelElementCollection => Ok(Some(named_values(alloc, &element.kids, extent)?)),
+        Payload::SubmodelElementList { .. } => Ok(Some(ordered_values(
+            alloc,
+            &element.kids,
+            extent,
+        )?)),
+    }
+}
+
+/// An annotation, as an object with its name.
+#[cycle(value)]
+#[tactic(auto, using(crate::proofs::Forms::name_out))]
+fn annotation(alloc: Global, kid: &Element, extent: Extent) -> Result<Option<Exact>, NoMemory>
+    ensures { IfOk result (λ found. option_map data_of found ≡ (annotation_value (child_of extent kid.now)).form) }
+{
+    match element_value(alloc, kid, extent)? {
+        Some(value) => {
+            let mut object = Object::new(alloc);
+            put_child(&mut object, alloc, &kid.common.id_short, Some(value))?;
+            Ok(Some(object.close()))
+        }
+        None => Ok(None),
+    }
+}
+
+/// The object of the children under their names.
+#[cycle(value)]
+#[tactic(auto, using(crate::proofs::Forms::name_out))]
+fn named_values(alloc: Global, kids: &Many<Element>, extent: Extent) -> Result<Exact, NoMemory>
+    ensures { IfOk result (λ exact. data_of exact ≡ named (map (child_of extent) kids.now)) }
+{
+    let mut object = Object::new(alloc);
+    for kid in kids.as_slice() {
+        let value = element_value(alloc, kid, extent)?;
+        put_child(&mut object, alloc, &kid.common.id_short, value)?;
+    }
+    Ok(object.close())
+}
+
+/// The array of the children in order.
+#[cycle(value)]
+fn ordered_values(alloc: Global, kids: &Many<Element>, extent: Extent) -> Result<Exact, NoMemory>
+    ensures { IfOk result (λ exact. data_of exact ≡ in_order (map (child_of extent) kids.now)) }
+{
+    let mut array = Array::new(alloc);
+    for kid in kids.as_slice() {
+        push_child(&mut array, element_value(alloc, kid, extent)?)?;
+    }
+    Ok(array.close())
+}
+
+/// The array of the annotations in order, each an object with its name.
+#[cycle(value)]
+fn annotation_values(alloc: Global, kids: &Many<Element>, extent: Extent) -> Result<Exact, NoMemory>
+    ensures { IfOk result (λ exact. data_of exact ≡ in_order (map annotation_value (map (child_of extent) kids.now))) }
+{
+    let mut array = Array::new(alloc);
+    for kid in kids.as_slice() {
+        push_child(&mut array, annotation(alloc, kid, extent)?)?;
+    }
+    Ok(array.close())
+}

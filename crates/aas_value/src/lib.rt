@@ -1,0 +1,10 @@
+//! The value form of elements and submodels (IDTA-01002-3-0, serialization ValueOnly).
+
+#![tactic(auto)]
+
+mod children;
+mod form;
+mod kinds;
+mod single;
+
+pub use form::{element_value, value_of, value_of_submodel};
