@@ -15,6 +15,7 @@ import time
 
 HERE = os.path.dirname(os.path.abspath(__file__))
 SCRIPT = os.path.join(HERE, '..', 'aasd')
+PROGRAM = os.path.join(HERE, '..', 'crates', 'aasd', 'out', 'aasd')
 COUNTS = (1_000, 10_000, 40_000)
 LIMIT = 4_194_304
 RUNS = 5
@@ -64,13 +65,13 @@ FAMILIES = [
 ]
 
 
-def measured(program, words, path):
+def measured(words, path):
     """The best time of some runs in seconds, and the peak memory in bytes."""
     best, peak = None, 0
     for _ in range(RUNS):
         with open(path, 'rb') as given, open(os.devnull, 'wb') as out:
             start = time.perf_counter()
-            process = subprocess.Popen([program, *words], stdin=given, stdout=out)
+            process = subprocess.Popen([PROGRAM, *words], stdin=given, stdout=out)
             _, status, usage = os.wait4(process.pid, 0)
             took = time.perf_counter() - start
         process.returncode = os.waitstatus_to_exitcode(status)
@@ -82,12 +83,13 @@ def measured(program, words, path):
 
 
 def main():
-    program = subprocess.run([SCRIPT, '--program'], capture_output=True, text=True, check=True).stdout.strip()
+    # With no words the script builds the program where that hasn't been done, and the program ends at once.
+    subprocess.run([SCRIPT], stdin=subprocess.DEVNULL, stdout=subprocess.DEVNULL, check=False)
     good = True
     with tempfile.TemporaryDirectory() as folder:
         empty = os.path.join(folder, 'empty')
         open(empty, 'wb').close()
-        idle, _ = measured(program, [], empty)
+        idle, _ = measured([], empty)
         for name, shape, kid, counts in FAMILIES:
             print(name)
             first = None
@@ -98,7 +100,7 @@ def main():
                 path = os.path.join(folder, 'input.json')
                 with open(path, 'wb') as file:
                     file.write(text)
-                took, peak = measured(program, ['value'], path)
+                took, peak = measured(['value'], path)
                 per_byte = max(took - idle, 1e-9) / len(text)
                 first = first or per_byte
                 good = good and per_byte <= 1.5 * first and (len(text) < 1_000_000 or peak <= 40 * len(text))
