@@ -1,10 +1,9 @@
 -- What is shown of the trees of a sort whose spelling shows all of them, and what follows for lists and options of them. References have it from their own crate.
-use Rattle.std.proofs.Common.{◌≡◌, ℕ, ◌≤◌, ◌&&◌, nat_le, List, [], ◌∷◌, Bool, true, false, Option, Some, None, option_map, map, refl, sym, ap, ◌∙◌, subst, true≢false}
+use Rattle.std.proofs.Common.{◌≡◌, nat_le, List, [], ◌∷◌, Bool, true, Option, Some, None, option_map, map, refl, sym, ◌∙◌, subst}
 use Rattle.std.specs.List.{list_all}
 use Rattle.std.proofs.lemmas.Bool.{leb-true, le-leb}
 use Rattle.serde_json.specs.Data.{Data}
-use Rattle.aas_table.specs.Table.{Sort, reference, Form, one, many, kept, parts, model_types}
-use Rattle.aas_table.specs.Rows.{sorted}
+use Rattle.aas_table.specs.Table.{Sort, reference, one, many, kept, parts, model_types}
 use Rattle.aas_table.specs.TooDeep.{Levels, enter}
 use Rattle.aas_table.specs.Plain.{are_there}
 use Rattle.aas_table.specs.Spelled.{Attributes, attribute, spelled, list_of}
@@ -18,10 +17,10 @@ use Rattle.aas_spelling.proofs.Objects.{AreGood}
 use Rattle.aas_spelling.proofs.Forms.{EachGood, none_good, list_good, list_back, same_options, same_lists}
 use Rattle.aas_spelling.proofs.Kept as kept_data
 use Rattle.aas_reference.specs.Spelling.{spell_reference}
-use Rattle.aas_reference.specs.Whole.{is_whole, whole_if_there, whole_and_there}
+use Rattle.aas_reference.specs.Whole.{is_whole, whole_if_there}
 use Rattle.aas_reference.proofs.Laws as references
 use Rattle.aas_mapping.specs.Whole.{whole_kept}
-use Rattle.aas_mapping.proofs.Rows.{both, Within, object_made, object_within, part_rows}
+use Rattle.aas_mapping.proofs.Rows.{both, object_made, object_within, part_rows}
 
 pub record Facts {A : Type 0} (s : Sort) (spell : A → Data) (whole : Levels → A → Bool) : Type 0 where
   -- what is whole spells what is good

@@ -1,13 +1,12 @@
 -- Parts of documents and elements: what is whole spells what is good, what spells what is good is whole, and what spells the same is the same.
-use Rattle.std.proofs.Common.{◌≡◌, ℕ, ◌&&◌, List, [], ◌∷◌, Bool, true, Option, Some, None, option_map, refl, sym, ap, ◌∙◌}
+use Rattle.std.proofs.Common.{◌≡◌, List, [], ◌∷◌, Bool, true, Option, Some, None, option_map, refl}
 use Rattle.std.specs.List.{list_all}
-use Rattle.serde_json.specs.Data.{Data}
 use Rattle.aas_names.specs.AssetKindNames as asset_kind
 use Rattle.aas_names.specs.QualifierKindNames as qualifier_kind
 use Rattle.aas_names.specs.ValueTypeNames as value_type
-use Rattle.aas_table.specs.Table.{Sort, one, many, parts, has_semantics, lang_text, extension, qualifier, specific_asset_id, administration, asset_information, resource}
+use Rattle.aas_table.specs.Table.{one, many, parts, has_semantics, lang_text, extension, qualifier, specific_asset_id, administration, asset_information, resource}
 use Rattle.aas_table.specs.TooDeep.{Levels}
-use Rattle.aas_table.specs.Spelled.{attribute, text_of}
+use Rattle.aas_table.specs.Spelled.{attribute, list_of}
 use Rattle.aas_model.specs.declared.reference.Semantics.{Semantics}
 use Rattle.aas_model.specs.declared.parts.LangText.{LangText}
 use Rattle.aas_model.specs.declared.parts.Extension.{Extension}
