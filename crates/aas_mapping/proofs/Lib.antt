@@ -1,4 +1,6 @@
+pub mod ElementRows
 pub mod Elements
+pub mod ElementsGood
 pub mod Facts
 pub mod Kids
 pub mod Parts
