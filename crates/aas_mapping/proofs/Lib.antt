@@ -1,6 +1,8 @@
 pub mod ElementRows
 pub mod Elements
+pub mod ElementsBack
 pub mod ElementsGood
+pub mod ElementsSame
 pub mod Facts
 pub mod Kids
 pub mod Parts
