@@ -198,7 +198,7 @@ same_level r q c d x y ks js h s t roles e =
     let kids = own.1 in
     λ i. made (roles i) (cs i) (xs i) (kids i)
 
-role_made : (r : Role) (c : Common) (x : Payload) (ks : List Element) → role_of (made r c x ks) ≡ r
+pub role_made : (r : Role) (c : Common) (x : Payload) (ks : List Element) → role_of (made r c x ks) ≡ r
 role_made r c x ks = sym (seen_role (made r c x ks)) ∙ ap (λ (z : Placed). z.role) (seen_at r c x ks)
 
 -- Elements of the same role that spell the same are the same, where their children are placed.

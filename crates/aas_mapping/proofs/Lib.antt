@@ -9,4 +9,5 @@ pub mod Parts
 pub mod PartsFound
 pub mod PartsLaws
 pub mod Referable
+pub mod Roles
 pub mod Rows
