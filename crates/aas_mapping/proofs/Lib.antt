@@ -1,7 +1,9 @@
 pub mod ElementRows
 pub mod Elements
 pub mod ElementsBack
+pub mod ElementsFound
 pub mod ElementsGood
+pub mod ElementsLaws
 pub mod ElementsSame
 pub mod Facts
 pub mod Kids

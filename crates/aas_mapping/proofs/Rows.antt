@@ -8,13 +8,13 @@ use Rattle.aas_table.specs.Table.{Sort, Form, text, flag, word, one, many, kept,
 use Rattle.aas_table.specs.Rows.{find, insert_row, sorted, choose, rows_of, is_there}
 use Rattle.aas_table.specs.Misfit.{misfit}
 use Rattle.aas_table.specs.TooDeep.{Levels, enter}
-use Rattle.aas_table.specs.Plain.{are_there, members_by}
+use Rattle.aas_table.specs.Plain.{are_there, members_by, plain, plain_member}
 use Rattle.aas_table.specs.Spelled.{Attributes, attribute, spelled}
-use Rattle.aas_spelling.specs.Lists.{Each}
+use Rattle.aas_spelling.specs.Lists.{Each, is_any}
 use Rattle.aas_spelling.specs.Good.{Good}
 use Rattle.aas_spelling.proofs.Rows.{and_left, and_right, rising, is_attribute, are_attributes, rows_rise, rows_attributes}
 use Rattle.aas_spelling.proofs.Objects.{Agree, AreGood, are_full, finds, same_attributes, same_members, object_good, object_back}
-use Rattle.aas_spelling.proofs.Exists.{Object}
+use Rattle.aas_spelling.proofs.Exists.{IsSpelled, Object, Model, model_tree}
 
 pub both : (a b : Bool) → a ≡ true → b ≡ true → a && b ≡ true
 both a b e f = rw (e, f) refl
@@ -200,6 +200,12 @@ object_of spell rows g build e =
     let made = build (there_each rows g (sorted_back (IsThereAt g) rows (each_there (sorted rows) g e))) in
     let h = attribute made.attributes in
     (made.tree, ap object (same_members (sorted rows) g h (agree_each (sorted rows) g h (sorted_each (AgreeAt g h) rows (each_agrees rows g h made.agree)))) ∙ made.spells)
+
+-- What an object with a modelType says is spelled, where it is under each modelType of its sort.
+pub models_tree : {A : Type 0} (spell : A → Data) (s : Sort) (ms : Members) (ks : List (List ℕ × List Row)) → model_types s ≡ ks → is_any ks ≡ true → Each (Model spell (plain_member ms)) ks
+    → IsSpelled spell (plain (one s) (object ms))
+models_tree spell s ms [] models e each = absurd (true≢false (sym e))
+models_tree spell s ms (k ∷ ks) models e each = model_tree spell s ms k ks models each
 
 -- ---- the rows of an object
 
