@@ -1,3 +1,4 @@
+pub mod Documents
 pub mod ElementRows
 pub mod Elements
 pub mod ElementsBack
