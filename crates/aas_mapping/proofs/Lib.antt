@@ -1,4 +1,6 @@
 pub mod Documents
+pub mod DocumentsFound
+pub mod DocumentsLaws
 pub mod ElementRows
 pub mod Elements
 pub mod ElementsBack
@@ -6,6 +8,7 @@ pub mod ElementsFound
 pub mod ElementsGood
 pub mod ElementsLaws
 pub mod ElementsSame
+pub mod Environments
 pub mod Facts
 pub mod Kids
 pub mod Parts
