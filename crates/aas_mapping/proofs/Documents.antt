@@ -260,7 +260,7 @@ submodel_good l s w =
     (head_good l submodel_name s.head submodel_rows (own_submodel s) (and_left h m two) (
       named_if_good l modelling_kind.name_of modelling_kind.all modelling_kind.found s.kind,
       good_with l has_semantics (qualifiable ++ kids_row) g (semantics_good l s.semantics (and_right h m two))
-      (all_good qualifier_facts l s.qualifiers (and_right (h && m) q three), (list_good l spell_element element s.kids (kids_good l s.kids (and_right (h && m && q) k w)), tt)),
+          (all_good qualifier_facts l s.qualifiers (and_right (h && m) q three), (list_good l spell_element element s.kids (kids_good l s.kids (and_right (h && m && q) k w)), tt)),
     ))
 
 pub submodel_back : (l : Levels) (s : Submodel) → IsShapedSubmodel s → Good l (one submodel) (Some (spell_submodel s)) → is_whole_submodel l s ≡ true

@@ -89,7 +89,7 @@ own_back l c p.Operation ks s e good =
     let P : Element → Type 0 = λ k. Good l (one element) (Some (spell_element k)) in (
       refl,
       subst (λ js. GoodKids l js) (sym (in_three ks (are_variables ks s.each) s.order))
-      (each_append P (of_role is_input ks) (of_role is_output ks ++ of_role is_inoutput ks) ins (each_append P (of_role is_output ks) (of_role is_inoutput ks) outs inouts)),
+          (each_append P (of_role is_input ks) (of_role is_output ks ++ of_role is_inoutput ks) ins (each_append P (of_role is_output ks) (of_role is_inoutput ks) outs inouts)),
     )
 own_back l c p.SubmodelElementCollection ks s e good = (refl, children_back l element ks good.0)
 own_back l c (p.SubmodelElementList o s t v) ks stands e good = (reference_if_back l s good.1.0, children_back l element ks good.1.1.1.1.0)

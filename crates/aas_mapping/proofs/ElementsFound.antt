@@ -238,7 +238,7 @@ basic_event_element g each e =
     let o = each (codes "observed") (one reference) in
     let d = named_there direction.name_of direction.all directed (each (codes "direction") (word directions)) (and_left (is_some directed) (is_some stated && true) later) in
     let s = named_there state_of_event.name_of state_of_event.all stated (each (codes "state") (word states_of_event))
-        (and_left (is_some stated) true (and_right (is_some directed) (is_some stated && true) later)) in
+    (and_left (is_some stated) true (and_right (is_some directed) (is_some stated && true) later)) in
     let t = each (codes "messageTopic") text in
     let b = each (codes "messageBroker") (one reference) in
     let l = each (codes "lastUpdate") text in
@@ -374,19 +374,43 @@ element_tree ms each =
     let g = plain_member ms in
     models_tree spell_placed element ms (model_types element) refl refl (
       element_model g each (codes "Property") true (property g each),
-      (element_model g each (codes "MultiLanguageProperty") true (multi_language_property g each),
-      (element_model g each (codes "Range") true (range g each),
-      (element_model g each (codes "File") true (file g each),
-      (element_model g each (codes "Blob") true (blob g each),
-      (element_model g each (codes "ReferenceElement") true (reference_element g each),
-      (element_model g each (codes "RelationshipElement") false (relationship_element g each),
-      (element_model g each (codes "AnnotatedRelationshipElement") false (λ e. annotated_relationship_element g each),
-      (element_model g each (codes "Entity") false (λ e. entity g each),
-      (element_model g each (codes "BasicEventElement") false (basic_event_element g each),
-      (element_model g each (codes "Capability") false (λ e. capability g),
-      (element_model g each (codes "Operation") false (λ e. operation g each),
-      (element_model g each (codes "SubmodelElementCollection") false (λ e. collection g each),
-      (element_model g each (codes "SubmodelElementList") false (list g each), tt)))))))))))))
+      (
+        element_model g each (codes "MultiLanguageProperty") true (multi_language_property g each),
+        (
+          element_model g each (codes "Range") true (range g each),
+          (
+            element_model g each (codes "File") true (file g each),
+            (
+              element_model g each (codes "Blob") true (blob g each),
+              (
+                element_model g each (codes "ReferenceElement") true (reference_element g each),
+                (
+                  element_model g each (codes "RelationshipElement") false (relationship_element g each),
+                  (
+                    element_model g each (codes "AnnotatedRelationshipElement") false (λ e. annotated_relationship_element g each),
+                    (
+                      element_model g each (codes "Entity") false (λ e. entity g each),
+                      (
+                        element_model g each (codes "BasicEventElement") false (basic_event_element g each),
+                        (
+                          element_model g each (codes "Capability") false (λ e. capability g),
+                          (
+                            element_model g each (codes "Operation") false (λ e. operation g each),
+                            (
+                              element_model g each (codes "SubmodelElementCollection") false (λ e. collection g each),
+                              (element_model g each (codes "SubmodelElementList") false (list g each), tt),
+                            ),
+                          ),
+                        ),
+                      ),
+                    ),
+                  ),
+                ),
+              ),
+            ),
+          ),
+        ),
+      ),
     )
 
 data_tree : (ms : Members) → Gives trees (plain_member ms) → IsSpelled spell_data (plain (one data_element) (object ms))
@@ -394,11 +418,19 @@ data_tree ms each =
     let g = plain_member ms in
     models_tree spell_data data_element ms (model_types data_element) refl refl (
       data_model g each (codes "Property") (property g each),
-      (data_model g each (codes "MultiLanguageProperty") (multi_language_property g each),
-      (data_model g each (codes "Range") (range g each),
-      (data_model g each (codes "File") (file g each),
-      (data_model g each (codes "Blob") (blob g each),
-      (data_model g each (codes "ReferenceElement") (reference_element g each), tt)))))
+      (
+        data_model g each (codes "MultiLanguageProperty") (multi_language_property g each),
+        (
+          data_model g each (codes "Range") (range g each),
+          (
+            data_model g each (codes "File") (file g each),
+            (
+              data_model g each (codes "Blob") (blob g each),
+              (data_model g each (codes "ReferenceElement") (reference_element g each), tt),
+            ),
+          ),
+        ),
+      ),
     )
 
 variable_made : (g : List ℕ → Form → Option Data) → Gives trees g → are_there (parts operation_variable) g ≡ true → Made spell_placed_variable (parts operation_variable) g

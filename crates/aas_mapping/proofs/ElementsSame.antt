@@ -207,5 +207,5 @@ same_element = by_children IsAlone (λ r c x ks h f placed f_placed roles e.
     let y = out-Element f in
     let back = made_out f in
     same_level r y.role c y.common x y.payload ks y.kids h (standing r c x ks placed) (standing y.role y.common y.payload y.kids (ap is_placed back ∙ f_placed)) (sym (role_made r c x ks) ∙ roles)
-      (sym (spell_at r c x ks) ∙ e ∙ ap spell_element (sym back) ∙ spell_at y.role y.common y.payload y.kids)
+    (sym (spell_at r c x ks) ∙ e ∙ ap spell_element (sym back) ∙ spell_at y.role y.common y.payload y.kids)
     ∙ back)

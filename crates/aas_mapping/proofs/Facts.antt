@@ -87,9 +87,9 @@ reference_if_back l (Some r) g = reference_facts.back l r g
 
 pub kept_good : (l : Levels) (ps : List Plain) → whole_kept l ps ≡ true → Good l kept (spell_kept ps)
 kept_good l ps w = kept_data.whole_good ps l (record {
-      order = and_left (each_true (map is_ordered ps)) _ w;
-      low = leb-true (kept_depth ps) l.kept (and_right (each_true (map is_ordered ps)) _ w);
-    })
+  order = and_left (each_true (map is_ordered ps)) _ w;
+  low = leb-true (kept_depth ps) l.kept (and_right (each_true (map is_ordered ps)) _ w);
+})
 
 pub kept_back : (l : Levels) (ps : List Plain) → Good l kept (spell_kept ps) → whole_kept l ps ≡ true
 kept_back l ps g =

@@ -106,19 +106,6 @@ there_each : (rows : List Row) (g : List ℕ → Form → Option Data) → Each 
 there_each [] g each = refl
 there_each (r ∷ rs) g each = first_there r.required (is_some (g r.name r.form)) (are_there rs g) each.0 (there_each rs g each.1)
 
-pub there_before : (xs ys : List Row) (g : List ℕ → Form → Option Data) → are_there (xs ++ ys) g ≡ true → (are_there xs g ≡ true) × (are_there ys g ≡ true)
-there_before [] ys g e = (refl, e)
-there_before (x ∷ xs) ys g e =
-    let first = there_first x.required (is_some (g x.name x.form)) (are_there (xs ++ ys) g) e in
-    let rest = there_before xs ys g first.1 in
-    (first_there x.required (is_some (g x.name x.form)) (are_there xs g) first.0 rest.0, rest.1)
-
-pub there_with : (xs ys : List Row) (g : List ℕ → Form → Option Data) → are_there xs g ≡ true → are_there ys g ≡ true → are_there (xs ++ ys) g ≡ true
-there_with [] ys g a b = b
-there_with (x ∷ xs) ys g a b =
-    let first = there_first x.required (is_some (g x.name x.form)) (are_there xs g) a in
-    first_there x.required (is_some (g x.name x.form)) (are_there (xs ++ ys) g) first.0 (there_with xs ys g first.1 b)
-
 -- ---- no required attribute that is good is an empty list
 
 one_full : (s : Sort) (d : Data) → misfit (one s) d ≡ None → is_there (Some d) ≡ true

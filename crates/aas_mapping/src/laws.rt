@@ -1,4 +1,4 @@
-// The functions here do nothing: their contracts are the laws of the trees of each sort.
+// The functions here do nothing: their contracts are the laws of elements and of their parts.
 
 ghost use Rattle.std.specs.Prelude.{◌≡◌, Some, None, true};
 ghost use Rattle.serde_json.specs.Data.{Data};
@@ -72,7 +72,7 @@ pub fn elements_are_said_once()
     ensures { (e f : Element) → IsShaped e → IsShaped f → spell_element e ≡ spell_element f → e ≡ f }
 {}
 
-/// An element that a value says is whole, where nothing in the value is too deep.
+/// An element that stands by itself, and that a value says, is whole, where nothing in the value is too deep.
 pub fn elements_that_are_said_are_whole()
     ensures { (left : Levels) (j : Data) (e : Element) → IsOrdered j → IsShaped e →
         too_deep (one element) j left ≡ None →
