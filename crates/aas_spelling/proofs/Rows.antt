@@ -5,7 +5,7 @@ use Rattle.std.proofs.lemmas.Slice.Eq.{bytes_eq-Decides}
 use Rattle.std.proofs.lemmas.Map.Text.{is_eq-slice_cmp}
 use Rattle.serde_json.specs.Data.{Data, Members}
 use Rattle.serde_json.specs.Find.{get_member, as_str}
-use Rattle.aas_table.specs.Table.{Sort, reference, key, lang_text, extension, qualifier, specific_asset_id, administration, asset_information, resource, operation_variable, environment, shell, submodel, concept, element, data_element, simple_element, Form, text, flag, word, one, many, kept, any, Row, parts, model_types}
+use Rattle.aas_table.specs.Table.{Sort, reference, key, lang_text, extension, qualifier, specific_asset_id, administration, asset_information, resource, operation_variable, environment, shell, submodel, concept, element, data_element, Form, text, flag, word, one, many, kept, any, Row, parts, model_types}
 use Rattle.aas_table.specs.Rows.{find, sorted, row_named, choose, rows_of}
 
 pub and_left : (a b : Bool) → a && b ≡ true → a ≡ true
@@ -155,7 +155,6 @@ table_sound submodel = refl
 table_sound concept = refl
 table_sound element = refl
 table_sound data_element = refl
-table_sound simple_element = refl
 
 table_models : (s : Sort) → each_model has_model (model_types s) ≡ true
 table_models reference = refl
@@ -174,7 +173,6 @@ table_models submodel = refl
 table_models concept = refl
 table_models element = refl
 table_models data_element = refl
-table_models simple_element = refl
 
 sound : (s : Sort) (ms : Members) (rows : List Row) → rows_of s ms ≡ Some rows → are_sound rows ≡ true
 sound s ms rows e = every are_sound s (table_sound s) ms rows e

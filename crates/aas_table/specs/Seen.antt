@@ -36,7 +36,6 @@ sort_of sorts.Submodel = table.submodel
 sort_of sorts.Concept = table.concept
 sort_of sorts.Element = table.element
 sort_of sorts.DataElement = table.data_element
-sort_of sorts.SimpleElement = table.simple_element
 
 abbrev pub words_of : Names → List (List ℕ)
 words_of enumerations.AssetKinds = names.asset_kinds

@@ -21,7 +21,6 @@ pub data Sort : Type 0 where
   concept : Sort
   element : Sort
   data_element : Sort
-  simple_element : Sort
 
 -- What a value may be: a string, a truth value, a string that is one of some names, an object of a sort, an array of objects of a sort,
 -- an array of kept data, or kept data: anything without numbers.
@@ -165,7 +164,6 @@ parts submodel = []
 parts concept = []
 parts element = []
 parts data_element = []
-parts simple_element = []
 
 -- ---- submodel elements: each modelType with the members of its own
 
@@ -308,23 +306,6 @@ model_types concept = (
 model_types element = map submodel_element kinds
 -- DataElement
 model_types data_element = map submodel_element (filter (λ k. has data_elements k.0) kinds)
--- what `value` reads so far: properties and collections of them, with a name and a value
-model_types simple_element = (
-  codes "Property",
-  required (codes "idShort") text
-      ∷ required (codes "modelType") text
-      ∷ optional (codes "value") text
-      ∷ required (codes "valueType") (word value_types)
-      ∷ [],
-)
-    ∷ (
-      codes "SubmodelElementCollection",
-      required (codes "idShort") text
-          ∷ required (codes "modelType") text
-          ∷ optional (codes "value") (many simple_element)
-          ∷ [],
-    )
-    ∷ []
 model_types reference = []
 model_types key = []
 model_types lang_text = []

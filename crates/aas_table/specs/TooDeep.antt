@@ -1,7 +1,7 @@
 -- The first place of a JSON value that lies too deep, in the order of the first mapping fault. The limits are this profile's own rule.
 use Rattle.std.specs.Prelude.{ℕ, zero, suc, ◌+◌, List, [], Option, Some, None, option_map}
 use Rattle.serde_json.specs.Data.{Data, array, object, Items, no_items, item, Members, no_members, member}
-use Rattle.aas_table.specs.Table.{Sort, reference, element, data_element, simple_element, Form, one, many, kept, any, Row}
+use Rattle.aas_table.specs.Table.{Sort, reference, element, data_element, Form, one, many, kept, any, Row}
 use Rattle.aas_table.specs.Rows.{Pointer, in_member, in_item, first_of, below, row_named, rows_of}
 
 -- how many levels are left
@@ -23,7 +23,6 @@ abbrev pub enter : Sort → Levels → Option Levels
 enter reference l = option_map (λ n. record l { references = n }) (spend l.references)
 enter element l = option_map (λ n. record l { elements = n }) (spend l.elements)
 enter data_element l = option_map (λ n. record l { elements = n }) (spend l.elements)
-enter simple_element l = option_map (λ n. record l { elements = n }) (spend l.elements)
 enter s l = Some l
 
 -- what is left inside kept data

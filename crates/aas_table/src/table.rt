@@ -55,8 +55,6 @@ pub enum Sort {
     Element,
     /// DataElement.
     DataElement,
-    /// A Property or a SubmodelElementCollection with a name and a value alone.
-    SimpleElement,
 }
 
 /// What a value may be.
@@ -131,7 +129,6 @@ pub fn rows_of(sort: Sort, members: &Map<String, Value>) -> Option<&'static [Row
         Sort::Concept => documents::concept_rows(model_type(members)?),
         Sort::Element => elements::element_rows(model_type(members)?),
         Sort::DataElement => elements::data_element_rows(model_type(members)?),
-        Sort::SimpleElement => elements::simple_element_rows(model_type(members)?),
     }
 }
 

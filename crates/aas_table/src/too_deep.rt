@@ -51,12 +51,10 @@ impl Levels {
                 references: spend(self.references)?,
                 ..self
             }),
-            Sort::Element | Sort::DataElement | Sort::SimpleElement => {
-                Some(Levels {
-                    elements: spend(self.elements)?,
-                    ..self
-                })
-            }
+            Sort::Element | Sort::DataElement => Some(Levels {
+                elements: spend(self.elements)?,
+                ..self
+            }),
             _ => Some(self),
         }
     }

@@ -4,7 +4,6 @@ ghost use Rattle.aas_table.specs.Names.{has};
 ghost use Rattle.aas_table.specs.Rows.{sorted, find};
 ghost use Rattle.aas_table.specs.Seen.{row_of, rows_seen};
 ghost use Rattle.aas_table.specs.Table.{model_types, data_elements, element, data_element};
-ghost use Rattle.aas_table.specs.Table.{simple_element};
 
 use super::Form::{Flag, Many, One, Text, Word};
 use super::common::{
@@ -249,21 +248,6 @@ static SUBMODEL_ELEMENT_LIST: [Row; 15] = [
     optional!("valueTypeListElement", Word(Names::ValueTypes)),
 ];
 
-/// Property.
-static SIMPLE_PROPERTY: [Row; 4] = [
-    required!("idShort", Text),
-    MODEL_TYPE,
-    optional!("value", Text),
-    required!("valueType", Word(Names::ValueTypes)),
-];
-
-/// SubmodelElementCollection.
-static SIMPLE_COLLECTION: [Row; 3] = [
-    required!("idShort", Text),
-    MODEL_TYPE,
-    optional!("value", Many(Sort::SimpleElement)),
-];
-
 /// The rows of a submodel element whose kind has this name.
 pub(super) fn element_rows(name: &str) -> Option<&'static [Row]>
     ensures { rows_seen result ≡ option_map sorted (find name.now (model_types element)) }
@@ -280,16 +264,6 @@ pub(super) fn data_element_rows(name: &str) -> Option<&'static [Row]>
 {
     match Kind::from_name(name) {
         Some(kind) => data_rows_of_kind(kind),
-        None => None,
-    }
-}
-
-/// The rows of an element with a name and a value alone, whose kind has this name.
-pub(super) fn simple_element_rows(name: &str) -> Option<&'static [Row]>
-    ensures { rows_seen result ≡ option_map sorted (find name.now (model_types simple_element)) }
-{
-    match Kind::from_name(name) {
-        Some(kind) => simple_rows_of_kind(kind),
         None => None,
     }
 }
@@ -337,14 +311,4 @@ fn is_data_element(kind: Kind) -> bool
             | Kind::Blob
             | Kind::ReferenceElement
     )
-}
-
-fn simple_rows_of_kind(kind: Kind) -> Option<&'static [Row]>
-    ensures { rows_seen result ≡ option_map sorted (find (name_of kind) (model_types simple_element)) }
-{
-    match kind {
-        Kind::Property => Some(&SIMPLE_PROPERTY),
-        Kind::SubmodelElementCollection => Some(&SIMPLE_COLLECTION),
-        _ => None,
-    }
 }
