@@ -1,8 +1,8 @@
 //! Functions that cut a form off the front of a text, for the small grammars of a larger one.
 //!
 //! A form is a set of texts, as a grammar defines it (`specs/Form.antt`). A cutting function takes a text and gives what
-//! is left behind the longest front that it takes. They compose by `?` and `unwrap_or(text)`, take no memory, and none
-//! looks at a byte more often than the grammar is written.
+//! is left behind the front that it takes, so that functions of small forms make those of larger ones: by `?` for what
+//! has to be there, and by `unwrap_or(text)` for what may be left out. None takes memory.
 #![tactic(auto)]
 
 mod ascii;

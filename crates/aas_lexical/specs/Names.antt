@@ -21,10 +21,13 @@ version = lit "0" ∣ (one is_nonzero_digit ▸ up_to 3 (any is_ascii_digit))
 abbrev pub is_name_byte : ℕ → Bool
 is_name_byte b = is_ascii_alphanumeric b || among "_" b
 
--- A short name: a letter, and then letters, digits and `_`, at most 128 characters in all. IDTA-01001-3-0, constraint
--- AASd-002 and NameType.
+-- A name: a letter, and then letters, digits and `_`. IDTA-01001-3-0, constraint AASd-002.
+abbrev pub name : List ℕ → Type 0
+name = one is_ascii_alphabetic ▸ any is_name_byte
+
+-- A short name has at most 128 characters. IDTA-01001-3-0, NameType.
 abbrev pub id_short : List ℕ → Type 0
-id_short = one is_ascii_alphabetic ▸ up_to 127 (any is_name_byte)
+id_short = up_to 128 name
 
 -- An identifier, by its characters: 1 to 2048 of them. This profile's own rule.
 abbrev pub IsIdentifier : List ℕ → Type 0
@@ -32,7 +35,9 @@ IsIdentifier characters = (1 ≤ length characters) × (length characters ≤ 20
 
 -- A character that a text may have: IDTA-01001-3-0, constraint AASd-130, and XML 1.0 (Fifth Edition), section 2.2.
 abbrev pub is_string_character : ℕ → Bool
-is_string_character c = c == 0x9 || c == 0xA || c == 0xD || is_in_range 0x20 0xD7FF c || is_in_range 0xE000 0xFFFD c || is_in_range 0x10000 0x10FFFF c
+is_string_character c =
+    c == 0x9 || c == 0xA || c == 0xD
+    || is_in_range 0x20 0xD7FF c || is_in_range 0xE000 0xFFFD c || is_in_range 0x10000 0x10FFFF c
 
 -- A text with such characters alone, by its characters.
 abbrev pub IsString : List ℕ → Type 0

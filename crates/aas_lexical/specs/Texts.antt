@@ -3,7 +3,7 @@ use Rattle.std.specs.Prelude.{ℕ, List, Option, encode_utf8_all}
 use Rattle.aas_names.specs.declared.value_type.ValueType.{ValueType}
 use Rattle.aas_lexical.specs.declared.natives.Native.{Native}
 use Rattle.aas_lexical.specs.Media.{media_type}
-use Rattle.aas_lexical.specs.Names.{language, version, id_short}
+use Rattle.aas_lexical.specs.Names.{language, version, name, id_short}
 use Rattle.aas_lexical.specs.Times.{utc_date_time}
 use Rattle.aas_lexical.specs.Values.{HasForm}
 use Rattle.aas_lexical.specs.Natives.{native_of}
@@ -12,6 +12,9 @@ pub use Rattle.aas_lexical.specs.Names.{IsIdentifier, IsString}
 -- a text of the value type
 abbrev pub IsOfType : ValueType → List ℕ → Type 0
 IsOfType t characters = HasForm t (encode_utf8_all characters)
+
+abbrev pub IsName : List ℕ → Type 0
+IsName characters = name (encode_utf8_all characters)
 
 abbrev pub IsIdShort : List ℕ → Type 0
 IsIdShort characters = id_short (encode_utf8_all characters)

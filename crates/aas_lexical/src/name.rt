@@ -6,6 +6,9 @@ ghost use Rattle.aas_lexical.specs.Cut.Names as cut;
 
 use aas_forms::{Ascii, ByteClass, after_any, after_one, after_run, after_word, is_whole, within};
 
+/// The most characters that a short name has.
+const MOST_NAME_CHARACTERS: usize = 128;
+
 /// The most characters that an identifier has.
 const MOST_IDENTIFIER_CHARACTERS: usize = 2048;
 
@@ -70,12 +73,18 @@ fn after_version(text: &[u8]) -> Option<&[u8]>
     within(3, digits, after_any(Ascii::Digit, digits))
 }
 
+/// The text behind a letter, and the letters, digits and `_` that follow it.
+fn after_name(text: &[u8]) -> Option<&[u8]>
+    ensures { option_map (λ x. x.now) result ≡ cut.after_name text.now }
+{
+    Some(after_any(NameByte::Name, after_one(Ascii::Letter, text)?))
+}
+
 /// The text behind a short name.
 fn after_id_short(text: &[u8]) -> Option<&[u8]>
     ensures { option_map (λ x. x.now) result ≡ cut.after_id_short text.now }
 {
-    let letters = after_one(Ascii::Letter, text)?;
-    within(127, letters, after_any(NameByte::Name, letters))
+    within(MOST_NAME_CHARACTERS, text, after_name(text)?)
 }
 
 /// Whether the text is a language tag, as `de-CH-1996`: 1 to 8 letters, and groups of `-` and 1 to 8 letters or digits.
@@ -98,7 +107,17 @@ pub fn is_version(text: &str) -> bool
     is_whole(after_version(text.as_bytes()))
 }
 
-/// Whether the text is a short name: an ASCII letter, and then letters, digits and `_`, at most 128 characters in all.
+/// Whether the text is a name: an ASCII letter, and then ASCII letters, digits and `_`, as many as there may be.
+///
+/// IDTA-01001-3-0, constraint AASd-002.
+#[tactic(auto, using(crate::proofs::NamesExact::name_exact))]
+pub fn is_name(text: &str) -> bool
+    ensures { IsTrue result ↔ form.name text.now }
+{
+    is_whole(after_name(text.as_bytes()))
+}
+
+/// Whether the text is a short name: a name of at most 128 characters.
 ///
 /// IDTA-01001-3-0, constraint AASd-002 and NameType.
 #[tactic(auto, using(crate::proofs::NamesExact::id_short_exact))]

@@ -22,5 +22,8 @@ after_language = cut_then (cut_up_to 8 (after_run is_ascii_alphabetic)) (cut_all
 abbrev pub after_version : List ℕ → Option (List ℕ)
 after_version = cut_either (after_lit "0") (cut_then (after_one is_nonzero_digit) (cut_up_to 3 (cut_all (after_any is_ascii_digit))))
 
+abbrev pub after_name : List ℕ → Option (List ℕ)
+after_name = cut_then (after_one is_ascii_alphabetic) (cut_all (after_any is_name_byte))
+
 abbrev pub after_id_short : List ℕ → Option (List ℕ)
-after_id_short = cut_then (after_one is_ascii_alphabetic) (cut_up_to 127 (cut_all (after_any is_name_byte)))
+after_id_short = cut_up_to 128 after_name

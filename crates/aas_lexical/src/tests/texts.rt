@@ -1,4 +1,6 @@
-use crate::{is_id_short, is_identifier, is_language, is_media_type, is_string, is_version};
+use crate::{
+    is_id_short, is_identifier, is_language, is_media_type, is_name, is_string, is_version,
+};
 
 #[test]
 fn media_types(rt: HostRuntime) {
@@ -99,21 +101,15 @@ const TOO_LONG_NAME: &str =
 #[test]
 fn names_and_identifiers(rt: HostRuntime) {
     for text in ["a", "A1", "a_", "Z_9z", LONG_NAME] {
-        assert!(rt; is_id_short(text), "{text:?} is refused");
+        assert!(rt; is_id_short(text) && is_name(text), "{text:?} is refused");
     }
-    for text in [
-        "",
-        "_a",
-        "1a",
-        "a-b",
-        "a.b",
-        "\u{e4}",
-        "a b",
-        "a\0",
-        TOO_LONG_NAME,
-    ] {
-        assert!(rt; !is_id_short(text), "{text:?} is accepted");
+    for text in ["", "_a", "1a", "a-b", "a.b", "\u{e4}", "a b", "a\0"] {
+        assert!(rt;
+            !is_id_short(text) && !is_name(text),
+            "{text:?} is accepted"
+        );
     }
+    assert!(rt; is_name(TOO_LONG_NAME) && !is_id_short(TOO_LONG_NAME));
     assert!(rt;
         is_identifier("a")
             && is_identifier(" ")
