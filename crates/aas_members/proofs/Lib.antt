@@ -5,5 +5,6 @@ pub mod Lists
 pub mod Lookup
 pub mod Objects
 pub mod Order
+pub mod OrderedObjects
 pub mod Pairs
 pub mod Words
