@@ -1,6 +1,5 @@
 -- What a whole reference spells is good, and is spelled from one reference.
-use Rattle.std.proofs.Common.{◌≡◌, ℕ, zero, suc, ◌≤◌, ◌&&◌, List, [], ◌∷◌, Bool, true, Option, Some, None, option_map, unwrap_or, refl, sym, ap, ◌∙◌, subst, true≢false, arith}
-use Rattle.serde_json.specs.Data.{Data}
+use Rattle.std.proofs.Common.{◌≡◌, ℕ, zero, suc, ◌≤◌, ◌&&◌, List, [], ◌∷◌, true, Option, Some, None, option_map, unwrap_or, refl, sym, ap, ◌∙◌, subst, true≢false, arith}
 use Rattle.aas_names.specs.KeyTypeNames as key_type
 use Rattle.aas_names.specs.ReferenceTypeNames as reference_type
 use Rattle.aas_names.specs.declared.reference_type.ReferenceType.{ReferenceType}
@@ -12,7 +11,8 @@ use Rattle.aas_model.specs.declared.reference.Key.{Key}
 use Rattle.aas_model.specs.declared.reference.Reference.{Reference, out-Reference}
 use Rattle.aas_spelling.specs.Good.{Good}
 use Rattle.aas_spelling.proofs.Objects.{object_good, same_attributes}
-use Rattle.aas_spelling.proofs.Forms.{none_good, text_good, named_good, list_good, each_of, same_texts, same_words, same_options, same_lists}
+use Rattle.aas_spelling.proofs.Lists.{each_of}
+use Rattle.aas_spelling.proofs.Forms.{none_good, text_good, named_good, list_good, same_texts, same_words, same_options, same_lists}
 use Rattle.aas_reference.specs.Spelling.{key_attributes, spell_key, spell_reference}
 use Rattle.aas_reference.specs.Whole.{is_any, has_keys, reference_levels}
 use Rattle.aas_reference.proofs.Levels.{made, made_out, Within, by_levels, Fits, attributes_at, spell_at, keys_at, levels_at}
@@ -64,7 +64,7 @@ pub same_reference : (r s : Reference) → spell_reference r ≡ spell_reference
 same_reference = by_levels (λ r. (s : Reference) → spell_reference r ≡ spell_reference s → r ≡ s) (λ t ks o h s e.
     let y = out-Reference s in
     let same = same_attributes (parts reference) (attributes_at t ks (option_map spell_reference o)) (attributes_at y.ref_type y.keys (option_map spell_reference y.referred)) refl
-        (sym (spell_at t ks o) ∙ e ∙ ap spell_reference (sym (made_out s)) ∙ spell_at y.ref_type y.keys y.referred) in
+    (sym (spell_at t ks o) ∙ e ∙ ap spell_reference (sym (made_out s)) ∙ spell_at y.ref_type y.keys y.referred) in
     let keys = same_lists spell_key ks y.keys same_key same.0 in
     let referred = same_options spell_reference o y.referred (λ r z is _ same. h r is z same) same.1.0 in
     let types = same_words reference_type.name_of reference_type.all reference_type.found t y.ref_type same.1.1.0 in
