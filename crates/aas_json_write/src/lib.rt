@@ -2,6 +2,7 @@
 
 #![tactic(auto)]
 
+mod common;
 mod parts;
 mod sorts;
 
