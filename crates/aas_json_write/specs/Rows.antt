@@ -9,6 +9,9 @@ use Rattle.aas_mapping.specs.Elements.{Child, common_attributes, own_attributes,
 use Rattle.aas_model.specs.declared.common.Common.{Common}
 use Rattle.aas_model.specs.declared.payload.Payload.{Payload}
 
+abbrev pub model_type_row : Row
+model_type_row = required (codes "modelType") text
+
 -- the object that has its modelType alone
 abbrev pub with_model_type : List ℕ → Members
 with_model_type model_type = put_some (codes "modelType") (Some (string model_type)) no_members
@@ -40,6 +43,10 @@ own_rows model_type = unwrap_or (find model_type kinds) []
 abbrev pub with_own : Payload → List Child → Members → Members
 with_own p kids ms = built (own_rows (model_type_of p)) (attribute (own_attributes p kids)) ms
 
+-- the members that an element has of every kind
+abbrev pub with_common : Common → Payload → Members
+with_common c p = built common_rows (attribute (common_attributes c)) (with_model_type (model_type_of p))
+
 -- the members of an element without its children
 abbrev pub childless : Common → Payload → Members
-childless c p = with_own p [] (built common_rows (attribute (common_attributes c)) (with_model_type (model_type_of p)))
+childless c p = with_own p [] (with_common c p)

@@ -2,8 +2,12 @@
 
 #![tactic(auto)]
 
+mod children;
 mod common;
+mod elements;
+mod kinds;
 mod parts;
 mod sorts;
 
+pub use elements::element_value;
 pub use sorts::SpecificAssetIds;
