@@ -16,7 +16,11 @@ use aas_model::{Common, NoMemory, Payload, Role};
 use std::alloc::Global;
 
 /// The object of an element, without its children.
-pub(crate) fn childless_object(alloc: Global, common: &Common, payload: &Payload) -> Result<Object, NoMemory>
+pub(crate) fn childless_object(
+    alloc: Global,
+    common: &Common,
+    payload: &Payload,
+) -> Result<Object, NoMemory>
     requires { kept_in_order common.now.embedded_data_specifications ≡ true }
     ensures { IfOk result (λ made. members_of made ≡ childless common.now payload.now) }
 {
@@ -28,7 +32,12 @@ pub(crate) fn childless_object(alloc: Global, common: &Common, payload: &Payload
 }
 
 /// The object with one member more, if there is a value for it.
-pub(crate) fn closed_with(alloc: Global, mut object: Object, name: &str, value: Option<Exact>) -> Result<Exact, NoMemory>
+pub(crate) fn closed_with(
+    alloc: Global,
+    mut object: Object,
+    name: &str,
+    value: Option<Exact>,
+) -> Result<Exact, NoMemory>
     ensures { IfOk result (λ exact. data_of exact ≡ json.object (put_some name.now (option_map data_of value) (members_of object))) }
 {
     object.put(alloc, name, value)?;
@@ -36,7 +45,13 @@ pub(crate) fn closed_with(alloc: Global, mut object: Object, name: &str, value: 
 }
 
 /// The object of an Operation with its variables.
-pub(crate) fn closed_with_variables(alloc: Global, mut object: Object, inputs: Option<Exact>, outputs: Option<Exact>, inoutputs: Option<Exact>) -> Result<Exact, NoMemory>
+pub(crate) fn closed_with_variables(
+    alloc: Global,
+    mut object: Object,
+    inputs: Option<Exact>,
+    outputs: Option<Exact>,
+    inoutputs: Option<Exact>,
+) -> Result<Exact, NoMemory>
     ensures { IfOk result (λ exact. data_of exact ≡ json.object (
         put_some (codes "inoutputVariables") (option_map data_of inoutputs)
         (put_some (codes "outputVariables") (option_map data_of outputs)

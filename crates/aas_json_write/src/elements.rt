@@ -4,7 +4,9 @@ ghost use Rattle.aas_mapping.specs.Elements.{children_attribute, spell_element, 
 ghost use Rattle.aas_json_write.specs.Order.{element_in_order, elements_in_order};
 ghost use Rattle.aas_json_write.specs.Variables.{is_variable, variable_of};
 
-use crate::children::{childless_object, closed_with, closed_with_variables, is_variable, push_some};
+use crate::children::{
+    childless_object, closed_with, closed_with_variables, is_variable, push_some,
+};
 use aas_members::{Array, Exact, Object};
 use aas_model::{Element, Many, NoMemory, Payload, Role};
 use std::alloc::Global;
@@ -46,7 +48,6 @@ pub fn element_value(alloc: Global, element: &Element) -> Result<Exact, NoMemory
 
 /// The array of the children in order, or `None` where there are none.
 #[cycle(element)]
-#[tactic(auto, using(crate::proofs::Levels::kid_within))]
 fn children_value(alloc: Global, kids: &Many<Element>) -> Result<Option<Exact>, NoMemory>
     requires { elements_in_order kids.now ≡ true }
     ensures { IfOk result (λ exact. option_map data_of exact ≡ children_attribute (map spelled_child kids.now)) }
@@ -60,8 +61,12 @@ fn children_value(alloc: Global, kids: &Many<Element>) -> Result<Option<Exact>, 
 
 /// The array of the variables of an Operation that have a role, in order, or `None` where there are none.
 #[cycle(element)]
-#[tactic(auto, using(crate::proofs::Levels::kid_within, crate::proofs::Variables::one_more_variable))]
-fn variables_value(alloc: Global, kids: &Many<Element>, role: Role) -> Result<Option<Exact>, NoMemory>
+#[tactic(auto, using(crate::proofs::Variables::one_more_variable))]
+fn variables_value(
+    alloc: Global,
+    kids: &Many<Element>,
+    role: Role,
+) -> Result<Option<Exact>, NoMemory>
     requires { elements_in_order kids.now ≡ true }
     ensures { IfOk result (λ exact. option_map data_of exact ≡ variables_attribute (is_variable role) (map spelled_child kids.now)) }
 {
