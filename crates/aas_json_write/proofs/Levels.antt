@@ -1,7 +1,8 @@
 -- The spelling of an element, by that of its children.
 use Rattle.std.proofs.Common.{◌≡◌, ℕ, ◌<◌, ◌&&◌, List, [], ◌∷◌, ◌++◌, length, get_or, zero, suc, Bool, true, map, codes, Option, refl, sym, ap, ap₂, ◌∙◌, subst, arith}
-use Rattle.serde_json.specs.Data.{Data, Members, object}
-use Rattle.aas_table.specs.Spelled.{attribute, spelled}
+use Rattle.serde_json.specs.Data.{Data, Members, object, no_items}
+use Rattle.aas_table.specs.Plain.{listed}
+use Rattle.aas_table.specs.Spelled.{attribute, spelled, list_of, onto}
 use Rattle.aas_table.specs.Table.{Row}
 use Rattle.aas_spelling.specs.Lists.{each_true}
 use Rattle.aas_spelling.proofs.Rows.{and_left, and_right}
@@ -19,6 +20,7 @@ use Rattle.aas_model.specs.declared.payload.Payload.TheVariants as p
 use Rattle.aas_model.specs.declared.element.Element.{Element, out-Element}
 use Rattle.aas_model.specs.declared.element.Element.TheFolds.{fold_out-Element}
 use Rattle.aas_json_write.specs.Order.{kept_in_order, element_in_order, elements_in_order}
+use Rattle.aas_json_write.proofs.InOrder.{at_index}
 use Rattle.aas_json_write.specs.Rows.{model_type_row, common_rows, own_rows, with_own, with_common, childless}
 
 -- ---- order
@@ -35,9 +37,7 @@ kids_within e h = and_right (kept_in_order (out-Element e).common.embedded_data_
 
 -- each of some elements that are in order is
 pub kid_within : (ks : List Element) (i : ℕ) (k : Element) → elements_in_order ks ≡ true → i < length ks → k ≡ get_or ks i k → element_in_order k ≡ true
-kid_within [] i k h below is = absurd (omega arith)
-kid_within (x ∷ xs) zero k h below is = ap element_in_order is ∙ and_left _ _ h
-kid_within (x ∷ xs) (suc i) k h below is = kid_within xs i k (and_right (element_in_order x) _ h) (omega arith) is
+kid_within = at_index element_in_order
 
 -- ---- spelling
 
@@ -118,3 +118,11 @@ has_none (p.SubmodelElementList o s t v) annotated entity collection list operat
 pub closed_childless : (e : Element) (ms : Members) (d : Data) → ((ks : List Child) (before : Members) → with_own (out-Element e).payload [] before ≡ with_own (out-Element e).payload ks before)
     → ms ≡ childless (out-Element e).common (out-Element e).payload → d ≡ object ms → d ≡ spell_element e
 closed_childless e ms d none before said = said ∙ ap object (before ∙ none (map spelled_child (out-Element e).kids) (with_common (out-Element e).common (out-Element e).payload)) ∙ spelled_out e
+
+map_twice : {A B C : Type 0} (g : B → C) (f : A → B) (xs : List A) → map g (map f xs) ≡ map (λ x. g (f x)) xs
+map_twice g f [] = refl
+map_twice g f (x ∷ xs) = ap (λ ys. g (f x) ∷ ys) (map_twice g f xs)
+
+-- children, spelled as a list of elements
+pub elements_list : (ks : List Element) → children_attribute (map spelled_child ks) ≡ list_of spell_element ks
+elements_list ks = ap (λ ds. listed (onto ds no_items)) (map_twice (λ (c : Child). c.spelling) spelled_child ks)

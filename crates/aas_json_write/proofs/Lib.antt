@@ -1,3 +1,4 @@
 pub mod InOrder
 pub mod Levels
+pub mod Spellings
 pub mod Variables

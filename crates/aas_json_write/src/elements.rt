@@ -48,7 +48,7 @@ pub fn element_value(alloc: Global, element: &Element) -> Result<Exact, NoMemory
 
 /// The array of the children in order, or `None` where there are none.
 #[cycle(element)]
-fn children_value(alloc: Global, kids: &Many<Element>) -> Result<Option<Exact>, NoMemory>
+pub(crate) fn children_value(alloc: Global, kids: &Many<Element>) -> Result<Option<Exact>, NoMemory>
     requires { elements_in_order kids.now ≡ true }
     ensures { IfOk result (λ exact. option_map data_of exact ≡ children_attribute (map spelled_child kids.now)) }
 {
