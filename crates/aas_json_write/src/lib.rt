@@ -12,11 +12,13 @@ mod documents;
 mod elements;
 mod environment;
 mod kinds;
+mod laws;
 mod parts;
 mod sorts;
 mod write;
 
 pub use elements::element_value;
+pub use laws::whole_trees_are_in_order;
 pub use sorts::SpecificAssetIds;
 pub use write::{
     write_asset_information, write_concept, write_element, write_environment, write_shell,
