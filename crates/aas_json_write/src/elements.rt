@@ -70,11 +70,11 @@ fn variables_value(
     requires { elements_in_order kids.now ≡ true }
     ensures { IfOk result (λ exact. option_map data_of exact ≡ variables_attribute (is_variable role) (map spelled_child kids.now)) }
 {
-    let mut array = Array::new(alloc);
+    let mut variables = Array::new(alloc);
     for kid in kids.as_slice() {
-        push_some(&mut array, variable_value(alloc, kid, role)?)?;
+        push_some(&mut variables, variable_value(alloc, kid, role)?)?;
     }
-    Ok(array.close_listed())
+    Ok(variables.close_listed())
 }
 
 /// The variable that holds a child, where the child has the role.

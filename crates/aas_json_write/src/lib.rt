@@ -15,6 +15,8 @@ mod kinds;
 mod laws;
 mod parts;
 mod sorts;
+#[cfg(test)]
+mod tests;
 mod write;
 
 pub use elements::element_value;

@@ -17,6 +17,6 @@ invariant-children_value-loop-kid l = record {
 abbrev pub invariant-variables_value-loop-kid : goal.invariant-variables_value-loop-kid
 invariant-variables_value-loop-kid l = record {
   each : (i : ℕ) (k : Element) → i < length l.kid-items → k ≡ get_or l.kid-items i k → element_in_order k ≡ true;
-  so_far : items_of l.array ++ map spell_variable (filter (λ c. is_variable l.role c.role) (map spelled_child (drop l.kid-index l.kid-items)))
+  so_far : items_of l.variables ++ map spell_variable (filter (λ c. is_variable l.role c.role) (map spelled_child (drop l.kid-index l.kid-items)))
       ≡ map spell_variable (filter (λ c. is_variable l.role c.role) (map spelled_child l.kid-items));
 }
