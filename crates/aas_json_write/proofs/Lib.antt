@@ -1,0 +1,5 @@
+pub mod InOrder
+pub mod InWhole
+pub mod Levels
+pub mod Spellings
+pub mod Variables

@@ -1,0 +1,104 @@
+ghost use Rattle.std.specs.Prelude.{◌≡◌, true, IfOk, OnOk, option_map};
+ghost use Rattle.aas_table.specs.Spelled.{attribute};
+ghost use Rattle.aas_table.specs.Table.{has_semantics};
+ghost use Rattle.aas_spelling.specs.Kept.{spell_kept};
+ghost use Rattle.aas_members.specs.Building.{built};
+ghost use Rattle.aas_members.specs.Exact.{data_of};
+ghost use Rattle.aas_members.specs.Object.{members_of};
+ghost use Rattle.aas_mapping.specs.Elements.{common_attributes};
+ghost use Rattle.aas_mapping.specs.Parts.{semantics_attributes};
+ghost use Rattle.aas_json_write.specs.Order.{kept_in_order};
+ghost use Rattle.aas_json_write.specs.Rows.{common_rows, shared_rows};
+
+use crate::sorts::{Extensions, LangTexts, Qualifiers};
+use aas_members::{Exact, Object, Texts, kept_value, list_value, optional_value};
+use aas_model::{Common, Many, NoMemory, Plain, Semantics};
+use aas_reference::References;
+use std::alloc::Global;
+
+/// The array of kept data, as it is, or `None` where there is none.
+#[tactic(auto, using(crate::proofs::InOrder::ordered_kept))]
+pub(crate) fn kept_as_it_is(alloc: Global, plains: &Many<Plain>) -> Result<Option<Exact>, NoMemory>
+    requires { kept_in_order plains.now ≡ true }
+    ensures { IfOk result (λ exact. option_map data_of exact ≡ spell_kept plains.now) }
+{
+    Ok(kept_value(alloc, plains)?)
+}
+
+/// Puts what all elements have, beside their `modelType`.
+pub(crate) fn put_common(
+    object: &mut Object,
+    alloc: Global,
+    common: &Common,
+) -> Result<(), NoMemory>
+    requires { kept_in_order common.now.embedded_data_specifications ≡ true }
+    ensures { OnOk result (members_of object.new ≡ built common_rows (attribute (common_attributes common.now)) (members_of object.old)) }
+{
+    put_shared(object, alloc, common)?;
+    object.put(
+        alloc,
+        "qualifiers",
+        list_value::<Qualifiers>(alloc, common.qualifiers.as_slice())?,
+    )?;
+    put_semantics(object, alloc, &common.semantics)?;
+    Ok(())
+}
+
+/// Puts the attributes of Referable, HasExtensions and HasDataSpecification.
+fn put_shared(object: &mut Object, alloc: Global, common: &Common) -> Result<(), NoMemory>
+    requires { kept_in_order common.now.embedded_data_specifications ≡ true }
+    ensures { OnOk result (members_of object.new ≡ built shared_rows (attribute (common_attributes common.now)) (members_of object.old)) }
+{
+    object.put(
+        alloc,
+        "category",
+        optional_value::<Texts>(alloc, &common.category)?,
+    )?;
+    object.put(
+        alloc,
+        "description",
+        list_value::<LangTexts>(alloc, common.description.as_slice())?,
+    )?;
+    object.put(
+        alloc,
+        "displayName",
+        list_value::<LangTexts>(alloc, common.display_name.as_slice())?,
+    )?;
+    object.put(
+        alloc,
+        "extensions",
+        list_value::<Extensions>(alloc, common.extensions.as_slice())?,
+    )?;
+    object.put(
+        alloc,
+        "idShort",
+        optional_value::<Texts>(alloc, &common.id_short)?,
+    )?;
+    object.put(
+        alloc,
+        "embeddedDataSpecifications",
+        kept_as_it_is(alloc, &common.embedded_data_specifications)?,
+    )?;
+    Ok(())
+}
+
+/// Puts the attributes of HasSemantics.
+pub(crate) fn put_semantics(
+    object: &mut Object,
+    alloc: Global,
+    semantics: &Semantics,
+) -> Result<(), NoMemory>
+    ensures { OnOk result (members_of object.new ≡ built has_semantics (attribute (semantics_attributes semantics.now)) (members_of object.old)) }
+{
+    object.put(
+        alloc,
+        "semanticId",
+        optional_value::<References>(alloc, &semantics.semantic_id)?,
+    )?;
+    object.put(
+        alloc,
+        "supplementalSemanticIds",
+        list_value::<References>(alloc, semantics.supplemental_semantic_ids.as_slice())?,
+    )?;
+    Ok(())
+}

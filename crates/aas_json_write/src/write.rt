@@ -1,0 +1,81 @@
+ghost use Rattle.std.specs.Prelude.{◌≡◌, ◌++◌, true, OnOk, OnErr};
+ghost use Rattle.serde_json.specs.Written.{compact_text};
+ghost use Rattle.aas_mapping.specs.Documents.{spell_shell, spell_submodel, spell_concept, spell_environment};
+ghost use Rattle.aas_mapping.specs.Elements.{spell_element};
+ghost use Rattle.aas_mapping.specs.Parts.{spell_asset_information};
+ghost use Rattle.aas_json_write.specs.Order.{element_in_order, shell_in_order, submodel_in_order, concept_in_order, environment_in_order};
+
+use crate::documents::{concept_value, shell_value, submodel_value};
+use crate::elements::element_value;
+use crate::environment::environment_value;
+use crate::sorts::AssetInformations;
+use aas_members::Written;
+use aas_model::{AssetInformation, Concept, Element, Environment, NoMemory, Shell, Submodel};
+use std::alloc::Global;
+
+/// Appends the canonical text of a shell to `out` (IDTA-01001-3-0, class AssetAdministrationShell). The kept data in it is in order, as it is in
+/// each whole tree. Where memory is refused, `out` is as it was.
+pub fn write_shell(alloc: Global, shell: &Shell, out: &mut Vec<u8>) -> Result<(), NoMemory>
+    requires { shell_in_order shell.now ≡ true }
+    ensures ok { OnOk result (out.new.items ≡ out.old.items ++ compact_text (spell_shell shell.now)) }
+    ensures err { OnErr result (out.new.items ≡ out.old.items) }
+{
+    shell_value(alloc, shell)?.append_to(alloc, out)
+}
+
+/// Appends the canonical text of a submodel to `out` (IDTA-01001-3-0, class Submodel). The kept data in it is in order, as it is in
+/// each whole tree. Where memory is refused, `out` is as it was.
+pub fn write_submodel(alloc: Global, submodel: &Submodel, out: &mut Vec<u8>) -> Result<(), NoMemory>
+    requires { submodel_in_order submodel.now ≡ true }
+    ensures ok { OnOk result (out.new.items ≡ out.old.items ++ compact_text (spell_submodel submodel.now)) }
+    ensures err { OnErr result (out.new.items ≡ out.old.items) }
+{
+    submodel_value(alloc, submodel)?.append_to(alloc, out)
+}
+
+/// Appends the canonical text of a concept description to `out` (IDTA-01001-3-0, class ConceptDescription). The kept data in it is in order, as it is in
+/// each whole tree. Where memory is refused, `out` is as it was.
+pub fn write_concept(alloc: Global, concept: &Concept, out: &mut Vec<u8>) -> Result<(), NoMemory>
+    requires { concept_in_order concept.now ≡ true }
+    ensures ok { OnOk result (out.new.items ≡ out.old.items ++ compact_text (spell_concept concept.now)) }
+    ensures err { OnErr result (out.new.items ≡ out.old.items) }
+{
+    concept_value(alloc, concept)?.append_to(alloc, out)
+}
+
+/// Appends the canonical text of an element and all below it to `out` (IDTA-01001-3-0, class SubmodelElement). The kept data in it is in order, as it is in
+/// each whole tree. Where memory is refused, `out` is as it was.
+pub fn write_element(alloc: Global, element: &Element, out: &mut Vec<u8>) -> Result<(), NoMemory>
+    requires { element_in_order element.now ≡ true }
+    ensures ok { OnOk result (out.new.items ≡ out.old.items ++ compact_text (spell_element element.now)) }
+    ensures err { OnErr result (out.new.items ≡ out.old.items) }
+{
+    element_value(alloc, element)?.append_to(alloc, out)
+}
+
+/// Appends the canonical text of an environment to `out` (IDTA-01001-3-0, class Environment). The kept data in it is in order, as it is in
+/// each whole tree. Where memory is refused, `out` is as it was.
+pub fn write_environment(
+    alloc: Global,
+    environment: &Environment,
+    out: &mut Vec<u8>,
+) -> Result<(), NoMemory>
+    requires { environment_in_order environment.now ≡ true }
+    ensures ok { OnOk result (out.new.items ≡ out.old.items ++ compact_text (spell_environment environment.now)) }
+    ensures err { OnErr result (out.new.items ≡ out.old.items) }
+{
+    environment_value(alloc, environment)?.append_to(alloc, out)
+}
+
+/// Appends the canonical text of what a shell says of its asset to `out` (IDTA-01001-3-0, class AssetInformation). Where
+/// memory is refused, `out` is as it was.
+pub fn write_asset_information(
+    alloc: Global,
+    asset: &AssetInformation,
+    out: &mut Vec<u8>,
+) -> Result<(), NoMemory>
+    ensures ok { OnOk result (out.new.items ≡ out.old.items ++ compact_text (spell_asset_information asset.now)) }
+    ensures err { OnErr result (out.new.items ≡ out.old.items) }
+{
+    AssetInformations::value(alloc, asset)?.append_to(alloc, out)
+}
