@@ -1,5 +1,5 @@
 -- What follows where a value has no fault.
-use Rattle.std.proofs.Common.{◌≡◌, Option, None, is_some, true≢false, sym, ap, ◌∙◌}
+use Rattle.std.proofs.Common.{◌≡◌, None, is_some, true≢false, sym, ap, ◌∙◌}
 use Rattle.serde_json.specs.Data.{Data}
 use Rattle.aas_table.specs.Table.{Sort, one}
 use Rattle.aas_table.specs.Misfit.{misfit}

@@ -4,7 +4,7 @@ use Rattle.std.specs.Str.{bytes_eq}
 use Rattle.serde_json.specs.Data.{Data, object}
 use Rattle.aas_table.specs.Table.{Form, Row}
 use Rattle.aas_table.specs.Rows.{sorted, row_named}
-use Rattle.aas_table.specs.Plain.{plain_object, members_by, are_there, add}
+use Rattle.aas_table.specs.Plain.{plain_object, members_by, are_there}
 use Rattle.aas_table.specs.Spelled.{Attributes, attribute, spelled}
 use Rattle.aas_spelling.proofs.Objects.{same_members, same_there}
 -- that two find the same under each row

@@ -24,3 +24,6 @@ pub use plains::kept_value;
 pub use read::{check_form, read_bytes, read_part, read_value};
 pub use values::{flag_value, optional_word, string_value, text_value, word_value};
 pub use written::{Flags, Texts, Written, list_value, optional_value};
+
+#[cfg(test)]
+mod tests;

@@ -62,8 +62,14 @@ fn check_levels(alloc: Global, sort: Sort, value: &Value, left: Levels) -> Resul
     }
 }
 
-/// The part that the value spells, where so many levels are left, or the first fault of the value. Never `NotJson`.
-pub fn read_part<P: Part>(alloc: Global, sort: Sort, value: &Value, left: Levels) -> Result<P::Tree, ReadFault>
+/// The part that the value spells as an object of `sort`, which is the sort of `P`, where so many levels are left, or the
+/// first fault of the value. Never `NotJson`.
+pub fn read_part<P: Part>(
+    alloc: Global,
+    sort: Sort,
+    value: &Value,
+    left: Levels,
+) -> Result<P::Tree, ReadFault>
     requires { sort_of sort ≡ P.sort }
     ensures { Reads (said P.sort P.spell) (levels_of left) result (view value.now) }
 {
@@ -75,8 +81,14 @@ pub fn read_part<P: Part>(alloc: Global, sort: Sort, value: &Value, left: Levels
     }
 }
 
-/// The part that the bytes spell as a JSON text, where so many levels are left, or the first fault.
-pub fn read_bytes<P: Part>(alloc: Global, sort: Sort, bytes: &[u8], left: Levels) -> Result<P::Tree, ReadFault>
+/// The part that the bytes spell as a JSON text, an object of `sort`, which is the sort of `P`, where so many levels are
+/// left, or the first fault.
+pub fn read_bytes<P: Part>(
+    alloc: Global,
+    sort: Sort,
+    bytes: &[u8],
+    left: Levels,
+) -> Result<P::Tree, ReadFault>
     requires { sort_of sort ≡ P.sort }
     ensures { ReadsBytes (said P.sort P.spell) (levels_of left) result bytes.now }
 {
