@@ -1,6 +1,7 @@
 pub mod Exists
-pub mod Laws
+pub mod Facts
 pub mod Levels
+pub mod Reading
 pub mod Said
 pub mod Sameness
 pub mod Spelled

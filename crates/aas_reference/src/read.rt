@@ -4,13 +4,28 @@ ghost use Rattle.aas_table.specs.Plain.{plain, plain_member, plain_object};
 ghost use Rattle.aas_table.specs.Rows.{sorted};
 ghost use Rattle.aas_table.specs.Spelled.{list_of};
 ghost use Rattle.aas_table.specs.Table.{one, parts, key, reference};
+ghost use Rattle.aas_table.specs.TooDeep.{limits};
+ghost use Rattle.aas_spelling.specs.Reads.{Reads, ReadsEach};
 ghost use Rattle.aas_reference.specs.Spelling.{spell_key, spell_reference};
+ghost use Rattle.aas_reference.specs.Trees.{references};
 
 use crate::sorts::{Keys, References};
-use aas_members::{Part, list_member, member, string_member, word_member};
-use aas_model::{Boxed, Key, Many, NoMemory, Reference};
+use aas_members::{Part, list_member, member, read_part, string_member, word_member};
+use aas_model::{Boxed, Key, Many, NoMemory, ReadFault, Reference};
+use aas_table::table::Sort;
+use aas_table::too_deep::Levels;
 use serde_json::{Map, Value};
 use std::alloc::Global;
+
+/// The reference that the value spells, or the first fault of the value (IDTA-01001-3-0, JSON mapping). At most 4
+/// references may stand in one another. Never `NotJson`.
+#[tactic(auto, using(crate::proofs::Reading::reads_whole, crate::proofs::Reading::reads_each_reference))]
+pub fn read_reference(alloc: Global, value: &Value) -> Result<Reference, ReadFault>
+    ensures reads { Reads references limits result (view value.now) }
+    ensures each { ReadsEach references limits result (view value.now) }
+{
+    read_part::<References>(alloc, Sort::Reference, value, Levels::LIMITS)
+}
 
 impl Part for Keys {
     type Tree = Key;
