@@ -2,6 +2,8 @@
 
 #![tactic(auto)]
 
+mod common;
 mod parts;
+mod payload;
 mod semantics;
 mod sorts;
