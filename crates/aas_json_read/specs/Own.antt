@@ -1,5 +1,5 @@
 -- What an element has of its own: the attributes of its kind, and its children (IDTA-01001-3-0, the subclasses of SubmodelElement).
-use Rattle.std.specs.Prelude.{◌≡◌, ◌&&◌, not, ℕ, List, [], ◌∷◌, Bool, true, false, codes, filter, map, Option, Some, unwrap_or}
+use Rattle.std.specs.Prelude.{◌≡◌, ◌&&◌, not, ℕ, List, [], Bool, true, false, codes, filter, Option, Some, unwrap_or}
 use Rattle.serde_json.specs.Data.{Data}
 use Rattle.aas_names.specs.KindNames.{name_of}
 use Rattle.aas_names.specs.declared.kind.Kind.{Kind}
@@ -11,8 +11,9 @@ use Rattle.aas_table.specs.Spelled.{spelled}
 use Rattle.aas_mapping.specs.Elements.{Child, spelled_child, spell_variable, own_attributes, children_attribute, variables_attribute, is_input, is_output, is_inoutput}
 use Rattle.aas_mapping.specs.Whole.{Placed, placed_over, is_member, is_annotation, is_statement, is_placed}
 use Rattle.aas_model.specs.Payload.{kind_of}
+use Rattle.aas_model.specs.declared.common.Common.{Common}
 use Rattle.aas_model.specs.declared.payload.Payload.{Payload}
-use Rattle.aas_model.specs.declared.element.Element.{Element, fold-Element, out-Element}
+use Rattle.aas_model.specs.declared.element.Element.{Element, fold-Element, roll-Element}
 use Rattle.aas_model.specs.declared.element.Role.{Role}
 use Rattle.aas_model.specs.declared.element.Role.TheVariants as role
 
@@ -92,6 +93,11 @@ suits role.Input c = is_input c.role && c.placed
 suits role.Output c = is_output c.role && c.placed
 suits role.Inoutput c = is_inoutput c.role && c.placed
 
--- an element of a kind with these children is placed
+-- whether an element of a kind may have a role
+abbrev pub may_have : Kind → Role → Bool
+may_have k role.Annotation = is_data_kind k
+may_have k r = true
+
+-- any element of a kind with these children is placed
 abbrev pub FitUnder : Kind → List Element → Type 0
-FitUnder k kids = (e : Element) → kind_of (out-Element e).payload ≡ k → (out-Element e).kids ≡ kids → is_placed e ≡ true
+FitUnder k kids = (c : Common) (p : Payload) (r : Role) → kind_of p ≡ k → is_placed (roll-Element (record { common = c; payload = p; role = r; kids = kids })) ≡ true

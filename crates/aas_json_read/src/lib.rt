@@ -3,6 +3,7 @@
 #![tactic(auto)]
 
 mod common;
+mod elements;
 mod parts;
 mod payload;
 mod semantics;
