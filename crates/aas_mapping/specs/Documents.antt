@@ -1,8 +1,8 @@
 -- How documents are spelled in JSON: one line an attribute (IDTA-01001-3-0, the class that each comment names).
-use Rattle.std.specs.Prelude.{ℕ, List, [], ◌∷◌, ◌++◌, codes, Option, Some, option_map, unwrap_or}
+use Rattle.std.specs.Prelude.{ℕ, List, [], ◌∷◌, ◌++◌, codes, Some, option_map, unwrap_or}
 use Rattle.serde_json.specs.Data.{Data, string}
 use Rattle.aas_names.specs.ModellingKindNames as modelling_kind
-use Rattle.aas_table.specs.Table.{Sort, Row, parts, environment, shell, submodel, concept, model_types}
+use Rattle.aas_table.specs.Table.{Sort, parts, environment, shell, submodel, concept, model_types}
 use Rattle.aas_table.specs.Rows.{find}
 use Rattle.aas_table.specs.Spelled.{Attributes, spelled, text_of, list_of}
 use Rattle.aas_spelling.specs.Kept.{spell_plain}

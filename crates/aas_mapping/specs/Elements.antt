@@ -1,5 +1,5 @@
 -- How submodel elements are spelled in JSON: one line an attribute, kind by kind (IDTA-01001-3-0, SubmodelElement and its subclasses).
-use Rattle.std.specs.Prelude.{ℕ, List, [], ◌∷◌, ◌++◌, Bool, true, false, codes, map, filter, Option, Some, None, option_map, unwrap_or}
+use Rattle.std.specs.Prelude.{ℕ, List, [], ◌∷◌, ◌++◌, Bool, true, false, codes, filter, Option, Some, option_map, unwrap_or}
 use Rattle.serde_json.specs.Data.{Data, boolean, string}
 use Rattle.aas_names.specs.DirectionNames as direction
 use Rattle.aas_names.specs.ElementNameNames as element_name

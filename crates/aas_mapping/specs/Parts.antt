@@ -1,5 +1,5 @@
 -- How the parts of documents and elements are spelled in JSON: one line an attribute (IDTA-01001-3-0, the class that each comment names).
-use Rattle.std.specs.Prelude.{ℕ, List, [], ◌∷◌, ◌++◌, codes, Option, Some, option_map}
+use Rattle.std.specs.Prelude.{[], ◌∷◌, codes, Some, option_map}
 use Rattle.serde_json.specs.Data.{Data, string}
 use Rattle.aas_names.specs.AssetKindNames as asset_kind
 use Rattle.aas_names.specs.QualifierKindNames as qualifier_kind

@@ -1,5 +1,5 @@
 -- The trees of each sort of document, element and part: how they are spelled, and which are whole.
-use Rattle.std.specs.Prelude.{◌≡◌, Bool, true}
+use Rattle.std.specs.Prelude.{◌≡◌, true}
 use Rattle.aas_table.specs.Table.{specific_asset_id, asset_information, environment, shell, submodel, concept, element}
 use Rattle.aas_spelling.specs.Spells.{Trees}
 use Rattle.aas_mapping.specs.Parts.{spell_specific_asset_id, spell_asset_information}

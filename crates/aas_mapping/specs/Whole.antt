@@ -1,10 +1,10 @@
 -- Whole trees: every member that the table requires is there, children stand only where their parent's kind has a place for them, each in a role of that kind,
 -- and no level passes the limits. The limits are this profile's own rule; the rest restates the metamodel of IDTA-01001-3-0.
-use Rattle.std.specs.Prelude.{ℕ, zero, suc, ◌&&◌, not, nat_le, max, is_some, Bool, true, false, List, [], ◌∷◌, map, Option, Some, None}
+use Rattle.std.specs.Prelude.{ℕ, suc, ◌&&◌, nat_le, max, is_some, Bool, true, false, List, [], ◌∷◌, map, Option, Some, None}
 use Rattle.std.specs.List.{list_all}
 use Rattle.aas_table.specs.TooDeep.{Levels}
 use Rattle.aas_spelling.specs.Kept.{each_true, is_ordered, kept_depth}
-use Rattle.aas_reference.specs.Whole.{is_any, is_whole, whole_if_there, whole_and_there}
+use Rattle.aas_reference.specs.Whole.{is_whole, whole_if_there, whole_and_there}
 use Rattle.aas_model.specs.declared.reference.Semantics.{Semantics}
 use Rattle.aas_model.specs.declared.plain.Plain.{Plain}
 use Rattle.aas_model.specs.declared.parts.Extension.{Extension}

@@ -5,6 +5,7 @@
 mod compare;
 mod laws;
 mod read;
+mod rules;
 mod sorts;
 mod write;
 
@@ -14,5 +15,6 @@ pub use laws::{
     references_that_are_said_are_whole,
 };
 pub use read::read_reference;
+pub use rules::{first_fault, least};
 pub use sorts::{Keys, References};
 pub use write::write_reference;
