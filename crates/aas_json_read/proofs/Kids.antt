@@ -1,6 +1,7 @@
 -- Children that were read, as the attributes that hold them.
-use Rattle.std.proofs.Common.{◌≡◌, ℕ, List, [], ◌∷◌, ◌++◌, ◌&&◌, Bool, true, false, Option, Some, None, option_map, option_to_list, IfSome, is_some, if◌then◌else◌, map, filter, cond, codes, length, get_or, zero, suc, ◌<◌, ◌≤◌, arith, refl, sym, ap, ap₂, ◌∙◌, subst, true≢false}
+use Rattle.std.proofs.Common.{◌≡◌, ◌⊎◌, inl, inr, ℕ, List, [], ◌∷◌, ◌++◌, ◌&&◌, Bool, true, false, Option, Some, None, option_map, option_to_list, IfSome, is_some, if◌then◌else◌, map, filter, cond, codes, length, get_or, drop, add-one, ◌+◌, zero, suc, ◌<◌, ◌≤◌, arith, refl, sym, ap, ap₂, ◌∙◌, subst, true≢false}
 use Rattle.std.specs.List.{list_all}
+use Rattle.std.proofs.Math.Seq.{drop-cons}
 use Rattle.std.proofs.lemmas.List.{map-append}
 use Rattle.std.proofs.lemmas.List.Elements.{filter-append}
 use Rattle.serde_json.specs.Data.{Data, object, Items, no_items, item, no_members, depth, items_depth}
@@ -17,7 +18,7 @@ use Rattle.aas_model.specs.declared.element.Element.{Element, out-Element, roll-
 use Rattle.aas_model.specs.declared.element.Element.TheFolds.{fold-roll-Element}
 use Rattle.aas_model.specs.declared.element.Role.{Role}
 use Rattle.aas_model.specs.declared.element.Role.TheVariants as role
-use Rattle.aas_json_read.specs.Own.{seen, suits, spell_under}
+use Rattle.aas_json_read.specs.Own.{seen, suits, sort_under, spell_under}
 use Rattle.aas_json_read.specs.Children.{AddsItems, AddsChildren}
 use Rattle.aas_json_read.proofs.Levels.{made, child_at}
 
@@ -32,7 +33,7 @@ mapped_option : {A B : Type 0} (f : A → B) (o : Option A) → map f (option_to
 mapped_option f None = refl
 mapped_option f (Some x) = refl
 
-append_again : {A : Type 0} (xs ys zs : List A) → (xs ++ ys) ++ zs ≡ xs ++ (ys ++ zs)
+pub append_again : {A : Type 0} (xs ys zs : List A) → (xs ++ ys) ++ zs ≡ xs ++ (ys ++ zs)
 append_again [] ys zs = refl
 append_again (x ∷ xs) ys zs = ap (λ l. x ∷ l) (append_again xs ys zs)
 
@@ -71,6 +72,10 @@ item_depth [] i v h e = absurd (omega arith)
 item_depth (x ∷ vs) zero v h e = let same : depth (view v) ≡ depth (view x) = ap (λ y. depth (view y)) e in omega arith
 item_depth (x ∷ vs) (suc i) v h e = let later : depth (view v) ≤ items_depth (items_view vs) = item_depth vs i v (omega arith) e in omega arith
 
+-- what is left of the items, with the next one before it
+pub drop_item : (vs : List Value) (i : ℕ) (v : Value) → i < length vs → v ≡ get_or vs i v → drop i vs ≡ v ∷ drop (i + 1) vs
+drop_item vs i v h e = rw add-one (drop-cons vs i v h ∙ ap (λ x. x ∷ drop (suc i) vs) (sym e))
+
 -- ---- children, as they are spelled
 
 map_twice : {A B C : Type 0} (g : B → C) (f : A → B) (xs : List A) → map g (map f xs) ≡ map (λ x. g (f x)) xs
@@ -90,6 +95,18 @@ pub variable_is : (found : Option Element) (find : List ℕ → Form → Option 
     → option_map (λ e. spell_variable (spelled_child e)) found ≡ plain_object (Some (sorted (parts operation_variable))) find
 variable_is None find e = ap (λ o. if is_some o && true then Some (object (add (codes "value") o no_members)) else None) e
 variable_is (Some x) find e = ap (λ o. if is_some o && true then Some (object (add (codes "value") o no_members)) else None) e
+
+-- what a child that is a variable is read as
+pub variable_under : (r : Role) (found : Option Element) (o : Option Data) → (r ≡ role.Input) ⊎ ((r ≡ role.Output) ⊎ (r ≡ role.Inoutput)) → option_map (λ e. spell_variable (spelled_child e)) found ≡ o
+    → option_map (λ e. spell_under r (spelled_child e)) found ≡ o
+variable_under r found o (inl is) e = ap (λ x. option_map (λ e. spell_under x (spelled_child e)) found) is ∙ e
+variable_under r found o (inr (inl is)) e = ap (λ x. option_map (λ e. spell_under x (spelled_child e)) found) is ∙ e
+variable_under r found o (inr (inr is)) e = ap (λ x. option_map (λ e. spell_under x (spelled_child e)) found) is ∙ e
+
+pub variable_sort : (r : Role) → (r ≡ role.Input) ⊎ ((r ≡ role.Output) ⊎ (r ≡ role.Inoutput)) → operation_variable ≡ sort_under r
+variable_sort r (inl is) = ap sort_under (sym is)
+variable_sort r (inr (inl is)) = ap sort_under (sym is)
+variable_sort r (inr (inr is)) = ap sort_under (sym is)
 
 role_as_seen : (e : Element) → (spelled_child e).role ≡ (seen e).role
 role_as_seen e =
