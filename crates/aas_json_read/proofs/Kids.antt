@@ -11,16 +11,16 @@ use Rattle.aas_table.specs.Table.{Form, one, many, element, operation_variable, 
 use Rattle.aas_table.specs.Rows.{sorted}
 use Rattle.aas_table.specs.Plain.{plain_object, add, add_item, listed}
 use Rattle.aas_table.specs.Spelled.{list_of, onto}
+use Rattle.aas_spelling.specs.Lists.{Each}
 use Rattle.aas_spelling.proofs.Rows.{and_left, and_right}
-use Rattle.aas_mapping.specs.Elements.{Child, is_input, is_output, is_inoutput, spell_over, spelled_child, spell_element, spell_variable, children_attribute, variables_attribute}
-use Rattle.aas_mapping.specs.Whole.{Placed, placed_over}
-use Rattle.aas_model.specs.declared.element.Element.{Element, out-Element, roll-out-Element}
-use Rattle.aas_model.specs.declared.element.Element.TheFolds.{fold-roll-Element}
+use Rattle.aas_mapping.specs.Elements.{Child, is_input, is_output, is_inoutput, spelled_child, spell_element, spell_variable, children_attribute, variables_attribute}
+use Rattle.aas_mapping.specs.Whole.{Placed}
+use Rattle.aas_mapping.proofs.Elements.{child_role, seen_role}
+use Rattle.aas_model.specs.declared.element.Element.{Element}
 use Rattle.aas_model.specs.declared.element.Role.{Role}
 use Rattle.aas_model.specs.declared.element.Role.TheVariants as role
 use Rattle.aas_json_read.specs.Own.{seen, suits, sort_under, spell_under}
 use Rattle.aas_json_read.specs.Children.{AddsItems, AddsChildren}
-use Rattle.aas_json_read.proofs.Levels.{made, child_at}
 
 -- ---- one more child
 
@@ -37,6 +37,16 @@ pub append_again : {A : Type 0} (xs ys zs : List A) → (xs ++ ys) ++ zs ≡ xs 
 append_again [] ys zs = refl
 append_again (x ∷ xs) ys zs = ap (λ l. x ∷ l) (append_again xs ys zs)
 
+-- what was found, if it was, behind the others
+pub one_more : {A : Type 0} (f : A → Data) (xs : List A) (o : Option A) (d : Option Data) (rest : Items) → option_map f o ≡ d → onto (map f (xs ++ option_to_list o)) rest ≡ onto (map f xs) (add_item d rest)
+one_more f xs o d rest e =
+    ap (λ l. onto l rest) (map-append f xs (option_to_list o) ∙ ap (λ l. map f xs ++ l) (mapped_option f o ∙ ap option_to_list e)) ∙ onto_more (map f xs) d rest
+
+pub each_more : {A : Type 0} (P : A → Type 0) (xs : List A) (o : Option A) → Each P xs → IfSome o P → Each P (xs ++ option_to_list o)
+each_more P [] None each h = tt
+each_more P [] (Some x) each h = (h, tt)
+each_more P (x ∷ xs) o each h = (each.0, each_more P xs o each.1 h)
+
 all_with : {A : Type 0} (test : A → Bool) (xs : List A) (o : Option A) → list_all test xs ≡ true → IfSome o (λ x. test x ≡ true) → list_all test (xs ++ option_to_list o) ≡ true
 all_with test [] None e f = refl
 all_with test [] (Some y) e f = rw f refl
@@ -48,9 +58,7 @@ adds_one r before all o d rest items a says suited =
     let f : Element → Data = λ e. spell_under r (spelled_child e) in record {
       more = a.more ++ option_to_list o;
       after = ap (λ l. l ++ option_to_list o) a.after ∙ append_again before a.more (option_to_list o);
-      says =
-          ap (λ l. onto l rest) (map-append f a.more (option_to_list o) ∙ ap (λ l. map f a.more ++ l) (mapped_option f o ∙ ap option_to_list says))
-          ∙ onto_more (map f a.more) d rest ∙ a.says;
+      says = one_more f a.more o d rest says ∙ a.says;
       places = all_with (λ e. suits r (seen e)) a.more o a.places suited;
     }
 
@@ -109,11 +117,7 @@ variable_sort r (inr (inl is)) = ap sort_under (sym is)
 variable_sort r (inr (inr is)) = ap sort_under (sym is)
 
 role_as_seen : (e : Element) → (spelled_child e).role ≡ (seen e).role
-role_as_seen e =
-    let y = out-Element e in
-    let placed : seen (made y.role y.common y.payload y.kids) ≡ placed_over (record { common = y.common; payload = y.payload; role = y.role; kids = map seen y.kids }) =
-    fold-roll-Element Placed placed_over (record { common = y.common; payload = y.payload; role = y.role; kids = y.kids }) in
-    subst (λ x. (spelled_child x).role ≡ (seen x).role) (roll-out-Element e) (ap (λ (c : Child). c.role) (child_at y.role y.common y.payload y.kids) ∙ sym (ap (λ (c : Placed). c.role) placed))
+role_as_seen e = child_role e ∙ sym (seen_role e)
 
 cond_true : {A : Type 0} (b : Bool) (x y : A) → b ≡ true → cond b x y ≡ x
 cond_true b x y e = rw e refl

@@ -19,7 +19,7 @@ pub record AreRead (find : List ℕ → Form → Option Data) (k : Kind) (kids :
   pub places : FitUnder k kids
 
 -- all that was added, where nothing was before
-added : (r : Role) (before all : List Element) (o : Option Data) (a : AddsChildren r before all o) → before ≡ [] → a.more ≡ all
+pub added : (r : Role) (before all : List Element) (o : Option Data) (a : AddsChildren r before all o) → before ≡ [] → a.more ≡ all
 added r before all o a none = sym (a.after ∙ ap (λ l. l ++ a.more) none)
 
 pub annotations_read : (find : List ℕ → Form → Option Data) (k : Kind) (before all : List Element) → k ≡ kind.AnnotatedRelationshipElement → before ≡ []

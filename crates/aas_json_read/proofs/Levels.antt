@@ -9,24 +9,18 @@ use Rattle.aas_table.specs.Rows.{find, sorted}
 use Rattle.aas_table.specs.Plain.{plain_object, are_there}
 use Rattle.aas_table.specs.Spelled.{spelled}
 use Rattle.aas_spelling.proofs.Rows.{rising}
-use Rattle.aas_mapping.specs.Elements.{Child, spelled_child, spell_over, spell_element, rows_for, model_type_of, own_attributes, element_attributes}
+use Rattle.aas_mapping.specs.Elements.{Child, spelled_child, spell_element, rows_for, model_type_of, own_attributes, element_attributes}
 use Rattle.aas_mapping.specs.Whole.{is_data_element}
+use Rattle.aas_mapping.proofs.Elements.{made, spell_at}
 use Rattle.aas_model.specs.Payload.{kind_of}
 use Rattle.aas_model.specs.declared.common.Common.{Common}
 use Rattle.aas_model.specs.declared.payload.Payload.{Payload}
 use Rattle.aas_model.specs.declared.payload.Payload.TheVariants as p
-use Rattle.aas_model.specs.declared.element.Element.{Element, roll-Element}
-use Rattle.aas_model.specs.declared.element.Element.TheFolds.{fold-roll-Element}
+use Rattle.aas_model.specs.declared.element.Element.{Element}
 use Rattle.aas_model.specs.declared.element.Role.{Role}
 use Rattle.aas_json_read.specs.Found.{FindsCommon}
 use Rattle.aas_json_read.specs.Own.{own_rows, spell_own, plain_own, is_data_kind, FindsKids}
 use Rattle.aas_json_read.proofs.Rows.{Found, found_says, says_found, says_lacks, lacks_says, lacks_later}
-
-abbrev pub made : Role → Common → Payload → List Element → Element
-made r c x kids = roll-Element (record { common = c; payload = x; role = r; kids = kids })
-
-pub child_at : (r : Role) (c : Common) (x : Payload) (kids : List Element) → spelled_child (made r c x kids) ≡ spell_over (record { common = c; payload = x; role = r; kids = map spelled_child kids })
-child_at r c x kids = fold-roll-Element Child spell_over (record { common = c; payload = x; role = r; kids = kids })
 
 -- ---- an element with all that its kind demands
 
@@ -83,7 +77,7 @@ element_is find r c x kids k is f name own below =
     let Says : Kind → Type 0 = λ j. Some (string (name_of j)) ≡ find (codes "modelType") text → Some (spell_own x) ≡ plain_own j find → FindsKids find j children
         → Some (spell_element (made r c x kids)) ≡ plain_object (Some (sorted (rows_for (name_of j)))) find in
     subst Says is (λ n o b.
-        ap (λ (child : Child). Some child.spelling) (child_at r c x kids)
+        ap Some (spell_at r c x kids)
         ∙ found_says (rows_for (model_type_of x)) (element_attributes c x children) find
           (found_level find c x children f n (says_found (own_rows (kind_of x)) (own_attributes x []) find (own_rise (kind_of x)) o) b)) name own below
 

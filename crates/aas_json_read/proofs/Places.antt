@@ -10,24 +10,22 @@ use Rattle.aas_spelling.specs.Lists.{Each}
 use Rattle.aas_spelling.proofs.Rows.{and_left, and_right}
 use Rattle.aas_mapping.specs.Elements.{is_input, is_output, is_inoutput}
 use Rattle.aas_mapping.specs.Whole.{is_member, is_annotation, is_statement, is_variable, Placed, placed_over, admits, rank, in_order, is_data_element, is_placed}
+use Rattle.aas_mapping.specs.Shape.{IsShaped}
+use Rattle.aas_mapping.proofs.Elements.{made, seen_at, seen_role}
 use Rattle.aas_model.specs.Payload.{kind_of}
 use Rattle.aas_model.specs.declared.common.Common.{Common}
 use Rattle.aas_model.specs.declared.payload.Payload.{Payload}
 use Rattle.aas_model.specs.declared.payload.Payload.TheVariants as p
 use Rattle.aas_model.specs.declared.element.Element.{Element}
-use Rattle.aas_model.specs.declared.element.Element.TheFolds.{fold-roll-Element}
 use Rattle.aas_model.specs.declared.element.Role.{Role}
 use Rattle.aas_model.specs.declared.element.Role.TheVariants as role
 use Rattle.aas_json_read.specs.Own.{is_data_kind, seen, suits, may_have, FitUnder}
-use Rattle.aas_json_read.proofs.Levels.{made, data_kind}
+use Rattle.aas_json_read.proofs.Levels.{data_kind}
 
 both : (a b : Bool) → a ≡ true → b ≡ true → a && b ≡ true
 both a b e f = rw (e, f) refl
 
 -- ---- an element in its role
-
-seen_at : (r : Role) (c : Common) (x : Payload) (kids : List Element) → seen (made r c x kids) ≡ placed_over (record { common = c; payload = x; role = r; kids = map seen kids })
-seen_at r c x kids = fold-roll-Element Placed placed_over (record { common = c; payload = x; role = r; kids = kids })
 
 suits_role : (r : Role) (k : Kind) (is_data placed : Bool) → is_data ≡ is_data_kind k → may_have k r ≡ true → placed ≡ true → suits r (record { role = r; is_data = is_data; placed = placed }) ≡ true
 suits_role role.Member k is_data placed same may e = e
@@ -216,3 +214,13 @@ variables_fit a b d e f g c x r is =
     let all = stand_before x 0 (map seen a) (map seen b ++ map seen d) inputs from later in
     let mapped : map seen a ++ (map seen b ++ map seen d) ≡ map seen (a ++ (b ++ d)) = ap (λ cs. map seen a ++ cs) (sym (map-append seen b d)) ∙ sym (map-append seen a (b ++ d)) in
     placed_with r c x (a ++ (b ++ d)) (subst (Standing x) mapped all)
+
+-- ---- members
+
+pub members_shaped : (kids : List Element) → list_all (λ e. suits role.Member (seen e)) kids ≡ true → Each IsShaped kids
+members_shaped [] e = tt
+members_shaped (k ∷ kids) e =
+    let first = and_left (suits role.Member (seen k)) _ e in (
+      record { role = ap is_member (sym (seen_role k)) ∙ and_left (is_member (seen k).role) (seen k).placed first; placed = and_right (is_member (seen k).role) (seen k).placed first },
+      members_shaped kids (and_right (suits role.Member (seen k)) _ e),
+    )

@@ -1,15 +1,19 @@
-ghost use Rattle.std.specs.Prelude.{◌≡◌, ◌++◌, true, codes, map, IfOk, OnOk, IfSome, Some, option_map, option_to_list};
+ghost use Rattle.std.specs.Prelude.{◌≡◌, true, codes, map, IfOk, IfSome, Some, option_map};
 ghost use Rattle.serde_json.specs.Data.{no_items, string};
 ghost use Rattle.serde_json.specs.View.{view, items_view, members_view};
 ghost use Rattle.aas_names.specs.KindNames.{name_of};
 ghost use Rattle.aas_table.specs.Plain.{plain, plain_items, plain_member, plain_object};
 ghost use Rattle.aas_table.specs.Rows.{rows_of, sorted};
 ghost use Rattle.aas_table.specs.Table.{one, many, element, operation_variable, parts, text};
+ghost use Rattle.aas_table.specs.Spelled.{list_of};
+ghost use Rattle.aas_spelling.specs.Lists.{Each};
 ghost use Rattle.aas_mapping.specs.Elements.{rows_for, spelled_child, spell_element, spell_variable};
+ghost use Rattle.aas_mapping.specs.Shape.{IsShaped};
 ghost use Rattle.aas_json_read.specs.Own.{elements_under, sort_under, spell_under, FindsKids, FitUnder, seen, suits, is_data_kind, may_have};
 ghost use Rattle.aas_json_read.specs.Children.{AddsItems, AddsChildren};
 
 use crate::common::common_in;
+use crate::found::add_found;
 use crate::payload::payload_in;
 use aas_members::{member, word_member};
 use aas_model::{Element, Kind, Many, NoMemory, Role};
@@ -125,18 +129,9 @@ fn items_after(
 {
     let mut all = before;
     for item in items {
-        add_child(&mut all, child_of(alloc, item, role)?)?;
+        add_found(&mut all, child_of(alloc, item, role)?)?;
     }
     Ok(all)
-}
-
-fn add_child(all: &mut Many<Element>, more: Option<Element>) -> Result<(), NoMemory>
-    ensures { OnOk result (all.new ≡ all.old ++ option_to_list more) }
-{
-    if let Some(element) = more {
-        all.push(element)?;
-    }
-    Ok(())
 }
 
 /// The child that a value spells, among those that have its role: the value of a variable, or the value itself.
@@ -165,6 +160,15 @@ fn variable_in(alloc: Global, members: &Map<String, Value>, role: Role) -> Resul
         Some(value) => Ok(element_of(alloc, value, role)?),
         None => Ok(None),
     }
+}
+
+/// The elements that are listed under a name, in their order, as members of what lists them.
+pub(crate) fn members_in(alloc: Global, members: &Map<String, Value>, name: &str) -> Result<Many<Element>, NoMemory>
+    ensures says { IfOk result (λ found. list_of spell_element found ≡ plain_member (members_view members.now.entries) name.now (many element)) }
+    ensures shape { IfOk result (λ found. Each IsShaped found) }
+{
+    let none = Many::new(alloc);
+    Ok(children_after(alloc, none, members, name, Role::Member)?)
 }
 
 /// The kind that `modelType` names, where an element of the kind may have the role.

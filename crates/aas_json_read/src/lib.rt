@@ -3,7 +3,9 @@
 #![tactic(auto)]
 
 mod common;
+mod documents;
 mod elements;
+mod found;
 mod parts;
 mod payload;
 mod semantics;

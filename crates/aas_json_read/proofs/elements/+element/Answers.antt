@@ -34,7 +34,7 @@ items_after-loop-item-preserved t c =
     let o = c.in_ok-child_of.field-0 in
     let split : plain_items (items_view (drop i xs)) f ≡ add_item (plain f (view c.item-item.result)) (plain_items (items_view (drop (i + 1) xs)) f) =
     ap (λ vs. plain_items (items_view vs) f) (drop_item xs i c.item-item.result (omega arith) c.item-item.is) in
-    subst (λ all. AddsItems c.args.role c.args.before all (plain_items (items_view (drop (i + 1) xs)) f) (plain_items (items_view xs) f)) (sym c.in_ok-add_child.ensures)
+    subst (λ all. AddsItems c.args.role c.args.before all (plain_items (items_view (drop (i + 1) xs)) f) (plain_items (items_view xs) f)) (sym c.in_ok-add_found.ensures)
     (adds_one c.args.role c.args.before c.loop-item.all o (plain f (view c.item-item.result)) (plain_items (items_view (drop (i + 1) xs)) f) (plain_items (items_view xs) f)
     (subst (λ rest. AddsItems c.args.role c.args.before c.loop-item.all rest (plain_items (items_view xs) f)) split c.loop-item.invariant) c.in_ok-child_of.ensures.says c.in_ok-child_of.ensures.place)
 
