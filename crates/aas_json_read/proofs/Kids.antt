@@ -166,25 +166,25 @@ module _ (a b d : List Element) (ins : list_all (λ e. suits role.Input (seen e)
   pub inputs_are : (o : Option Data) → list_of (λ e. spell_variable (spelled_child e)) a ≡ o → variables_attribute is_input (map spelled_child (a ++ (b ++ d))) ≡ o
   inputs_are o e =
       ap (list_of spell_variable) (
-        kept_of is_input a b d (map spelled_child a) [] [] (all_kept is_input role.Input (λ c s. and_left (is_input c.role) _ s) a ins)
-        (none_kept is_input role.Output (λ c s. (output_only c.role (and_left (is_output c.role) _ s)).0) b outs)
-        (none_kept is_input role.Inoutput (λ c s. (inoutput_only c.role (and_left (is_inoutput c.role) _ s)).0) d both)
-        ∙ sym (append_none (map spelled_child a))
+      kept_of is_input a b d (map spelled_child a) [] [] (all_kept is_input role.Input (λ c s. and_left (is_input c.role) _ s) a ins)
+      (none_kept is_input role.Output (λ c s. (output_only c.role (and_left (is_output c.role) _ s)).0) b outs)
+      (none_kept is_input role.Inoutput (λ c s. (inoutput_only c.role (and_left (is_inoutput c.role) _ s)).0) d both)
+      ∙ sym (append_none (map spelled_child a))
       ) ∙ spelled_list spell_variable a ∙ e
 
   pub outputs_are : (o : Option Data) → list_of (λ e. spell_variable (spelled_child e)) b ≡ o → variables_attribute is_output (map spelled_child (a ++ (b ++ d))) ≡ o
   outputs_are o e =
       ap (list_of spell_variable) (
-        kept_of is_output a b d [] (map spelled_child b) [] (none_kept is_output role.Input (λ c s. (input_only c.role (and_left (is_input c.role) _ s)).0) a ins)
-        (all_kept is_output role.Output (λ c s. and_left (is_output c.role) _ s) b outs)
-        (none_kept is_output role.Inoutput (λ c s. (inoutput_only c.role (and_left (is_inoutput c.role) _ s)).1) d both)
-        ∙ sym (append_none (map spelled_child b))
+      kept_of is_output a b d [] (map spelled_child b) [] (none_kept is_output role.Input (λ c s. (input_only c.role (and_left (is_input c.role) _ s)).0) a ins)
+      (all_kept is_output role.Output (λ c s. and_left (is_output c.role) _ s) b outs)
+      (none_kept is_output role.Inoutput (λ c s. (inoutput_only c.role (and_left (is_inoutput c.role) _ s)).1) d both)
+      ∙ sym (append_none (map spelled_child b))
       ) ∙ spelled_list spell_variable b ∙ e
 
   pub inoutputs_are : (o : Option Data) → list_of (λ e. spell_variable (spelled_child e)) d ≡ o → variables_attribute is_inoutput (map spelled_child (a ++ (b ++ d))) ≡ o
   inoutputs_are o e =
       ap (list_of spell_variable) (
-        kept_of is_inoutput a b d [] [] (map spelled_child d) (none_kept is_inoutput role.Input (λ c s. (input_only c.role (and_left (is_input c.role) _ s)).1) a ins)
-        (none_kept is_inoutput role.Output (λ c s. (output_only c.role (and_left (is_output c.role) _ s)).1) b outs)
-        (all_kept is_inoutput role.Inoutput (λ c s. and_left (is_inoutput c.role) _ s) d both)
+      kept_of is_inoutput a b d [] [] (map spelled_child d) (none_kept is_inoutput role.Input (λ c s. (input_only c.role (and_left (is_input c.role) _ s)).1) a ins)
+      (none_kept is_inoutput role.Output (λ c s. (output_only c.role (and_left (is_output c.role) _ s)).1) b outs)
+      (all_kept is_inoutput role.Inoutput (λ c s. and_left (is_inoutput c.role) _ s) d both)
       ) ∙ spelled_list spell_variable d ∙ e

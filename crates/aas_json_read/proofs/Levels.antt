@@ -75,11 +75,11 @@ pub element_is : (find : List ℕ → Form → Option Data) (r : Role) (c : Comm
 element_is find r c x kids k is f name own below =
     let children = map spelled_child kids in
     let Says : Kind → Type 0 = λ j. Some (string (name_of j)) ≡ find (codes "modelType") text → Some (spell_own x) ≡ plain_own j find → FindsKids find j children
-        → Some (spell_element (made r c x kids)) ≡ plain_object (Some (sorted (rows_for (name_of j)))) find in
+    → Some (spell_element (made r c x kids)) ≡ plain_object (Some (sorted (rows_for (name_of j)))) find in
     subst Says is (λ n o b.
-        ap Some (spell_at r c x kids)
-        ∙ found_says (rows_for (model_type_of x)) (element_attributes c x children) find
-          (found_level find c x children f n (says_found (own_rows (kind_of x)) (own_attributes x []) find (own_rise (kind_of x)) o) b)) name own below
+    ap Some (spell_at r c x kids)
+    ∙ found_says (rows_for (model_type_of x)) (element_attributes c x children) find
+    (found_level find c x children f n (says_found (own_rows (kind_of x)) (own_attributes x []) find (own_rise (kind_of x)) o) b)) name own below
 
 -- ---- an element without what its kind demands
 

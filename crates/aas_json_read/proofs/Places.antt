@@ -109,8 +109,8 @@ placed_with r c x kids s =
     let cs = map seen kids in
     ap (λ (y : Placed). y.placed) (seen_at r c x kids)
     ∙ both (list_all (admits x) cs && in_order (ranks cs)) (list_all (λ (d : Placed). d.placed) cs)
-      (both (list_all (admits x) cs) (in_order (ranks cs)) (all_are (λ d. admits x d ≡ true) (admits x) (λ d e. e) cs s.admitted) s.order)
-      (all_are (λ (d : Placed). d.placed ≡ true) (λ (d : Placed). d.placed) (λ d e. e) cs s.placed)
+    (both (list_all (admits x) cs) (in_order (ranks cs)) (all_are (λ d. admits x d ≡ true) (admits x) (λ d e. e) cs s.admitted) s.order)
+    (all_are (λ (d : Placed). d.placed ≡ true) (λ (d : Placed). d.placed) (λ d e. e) cs s.placed)
 
 -- ---- each kind
 
@@ -210,7 +210,7 @@ variables_fit a b d e f g c x r is =
     let last = one_role role.Inoutput x (inoutput_stands x is) d g in
     let later = stand_before x 1 (map seen b) (map seen d) outputs (each_so (Stands x 2) (IsFrom 1) (stands_from x 1 2 refl) (map seen d) inoutputs) last in
     let from = each_with (IsFrom 0) (map seen b) (map seen d) (each_so (Stands x 1) (IsFrom 0) (stands_from x 0 1 refl) (map seen b) outputs)
-        (each_so (Stands x 2) (IsFrom 0) (stands_from x 0 2 refl) (map seen d) inoutputs) in
+    (each_so (Stands x 2) (IsFrom 0) (stands_from x 0 2 refl) (map seen d) inoutputs) in
     let all = stand_before x 0 (map seen a) (map seen b ++ map seen d) inputs from later in
     let mapped : map seen a ++ (map seen b ++ map seen d) ≡ map seen (a ++ (b ++ d)) = ap (λ cs. map seen a ++ cs) (sym (map-append seen b d)) ∙ sym (map-append seen a (b ++ d)) in
     placed_with r c x (a ++ (b ++ d)) (subst (Standing x) mapped all)

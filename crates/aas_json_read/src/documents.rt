@@ -136,7 +136,11 @@ fn environment_in(alloc: Global, members: &Map<String, Value>) -> Result<Environ
     })
 }
 
-fn submodels_member(alloc: Global, members: &Map<String, Value>, name: &str) -> Result<Many<Submodel>, NoMemory>
+fn submodels_member(
+    alloc: Global,
+    members: &Map<String, Value>,
+    name: &str,
+) -> Result<Many<Submodel>, NoMemory>
     ensures says { IfOk result (λ found. list_of spell_submodel found ≡ plain_member (members_view members.now.entries) name.now (many submodel)) }
     ensures shape { IfOk result (λ found. Each IsShapedSubmodel found) }
 {

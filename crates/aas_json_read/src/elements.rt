@@ -23,7 +23,11 @@ use std::alloc::Global;
 /// The element that a value spells, for a place where its parent holds it in a role: an annotation is a data element.
 /// `None` where the value lacks what the table demands.
 #[cycle(element)]
-pub(crate) fn element_of(alloc: Global, value: &Value, role: Role) -> Result<Option<Element>, NoMemory>
+pub(crate) fn element_of(
+    alloc: Global,
+    value: &Value,
+    role: Role,
+) -> Result<Option<Element>, NoMemory>
     ensures says { IfOk result (λ found. option_map spell_element found ≡ plain (one (elements_under role)) (view value.now)) }
     ensures place { IfOk result (λ found. IfSome found (λ e. suits role (seen e) ≡ true)) }
 {
@@ -63,7 +67,11 @@ fn element_in(
 
 /// The children of an element of a kind, in their order. A kind without children has none.
 #[cycle(element)]
-fn kids_in(alloc: Global, members: &Map<String, Value>, kind: Kind) -> Result<Many<Element>, NoMemory>
+fn kids_in(
+    alloc: Global,
+    members: &Map<String, Value>,
+    kind: Kind,
+) -> Result<Many<Element>, NoMemory>
     ensures says { IfOk result (λ kids. FindsKids (plain_member (members_view members.now.entries)) kind (map spelled_child kids)) }
     ensures places { IfOk result (λ kids. FitUnder kind kids) }
 {
@@ -95,7 +103,13 @@ fn variables_in(alloc: Global, members: &Map<String, Value>) -> Result<Many<Elem
     ensures says { IfOk result (λ kids. FindsKids (plain_member (members_view members.now.entries)) Kind.Operation (map spelled_child kids)) }
     ensures places { IfOk result (λ kids. FitUnder Kind.Operation kids) }
 {
-    let input = children_after(alloc, Many::new(alloc), members, "inputVariables", Role::Input)?;
+    let input = children_after(
+        alloc,
+        Many::new(alloc),
+        members,
+        "inputVariables",
+        Role::Input,
+    )?;
     let output = children_after(alloc, input, members, "outputVariables", Role::Output)?;
     let all = children_after(alloc, output, members, "inoutputVariables", Role::Inoutput)?;
     Ok(all)
@@ -151,7 +165,11 @@ fn child_of(alloc: Global, value: &Value, role: Role) -> Result<Option<Element>,
 
 /// The element that is the value of a variable of an Operation.
 #[cycle(element)]
-fn variable_in(alloc: Global, members: &Map<String, Value>, role: Role) -> Result<Option<Element>, NoMemory>
+fn variable_in(
+    alloc: Global,
+    members: &Map<String, Value>,
+    role: Role,
+) -> Result<Option<Element>, NoMemory>
     requires { elements_under role ≡ element }
     ensures says { IfOk result (λ found. option_map (λ e. spell_variable (spelled_child e)) found ≡ plain_object (Some (sorted (parts operation_variable))) (plain_member (members_view members.now.entries))) }
     ensures place { IfOk result (λ found. IfSome found (λ e. suits role (seen e) ≡ true)) }
@@ -163,7 +181,11 @@ fn variable_in(alloc: Global, members: &Map<String, Value>, role: Role) -> Resul
 }
 
 /// The elements that are listed under a name, in their order, as members of what lists them.
-pub(crate) fn members_in(alloc: Global, members: &Map<String, Value>, name: &str) -> Result<Many<Element>, NoMemory>
+pub(crate) fn members_in(
+    alloc: Global,
+    members: &Map<String, Value>,
+    name: &str,
+) -> Result<Many<Element>, NoMemory>
     ensures says { IfOk result (λ found. list_of spell_element found ≡ plain_member (members_view members.now.entries) name.now (many element)) }
     ensures shape { IfOk result (λ found. Each IsShaped found) }
 {
