@@ -1,1 +1,4 @@
+pub mod Children
 pub mod Found
+pub mod Own
+pub mod Shaped

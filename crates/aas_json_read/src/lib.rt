@@ -1,7 +1,100 @@
 //! Documents and elements out of JSON (IDTA-01001-3-0, JSON mapping).
+//!
+//! Each reader answers the one whole tree that the JSON value spells by the attribute table, or the first fault. A list
+//! that is empty is read as if it were absent. Want of memory may be answered at any time.
 
 #![tactic(auto)]
 
+mod common;
+mod documents;
+mod elements;
+mod found;
 mod parts;
+mod payload;
+mod read;
 mod semantics;
 mod sorts;
+
+ghost use Rattle.std.specs.Prelude.{◌-◌};
+ghost use Rattle.serde_json.specs.View.{view};
+ghost use Rattle.aas_table.specs.TooDeep.{limits};
+ghost use Rattle.aas_spelling.specs.Reads.{Reads, ReadsEach, ReadsBytes, ReadsEachOfBytes};
+ghost use Rattle.aas_mapping.specs.Trees.{asset_informations, concepts, elements, environments, shells, specific_asset_ids, submodels};
+
+use crate::read::read_shaped;
+use crate::sorts::{
+    AssetInformations, Concepts, Elements, Environments, Shells, SpecificAssetIds, Submodels,
+};
+use aas_members::{read_bytes, read_part};
+use aas_model::{
+    AssetInformation, Concept, Element, Environment, ReadFault, Shell, SpecificAssetId, Submodel,
+};
+use aas_table::table::Sort;
+use aas_table::too_deep::Levels;
+use serde_json::Value;
+use std::alloc::Global;
+
+/// The submodel that the bytes spell as a JSON text.
+///
+/// # Errors
+///
+/// `NotJson` where the bytes are no JSON text (RFC 8259) in UTF-8, with at most 127 arrays and objects in one another;
+/// else `NotMapping` at the first place that departs from the attribute table; else `TooDeep` at the first place with
+/// more than 30 levels of elements, 4 of references or 12 of kept data.
+pub fn read_submodel(alloc: Global, bytes: &[u8]) -> Result<Submodel, ReadFault>
+    ensures reads { ReadsBytes submodels limits result bytes.now }
+    ensures each { ReadsEachOfBytes submodels limits result bytes.now }
+{
+    read_shaped::<Submodels>(alloc, Sort::Submodel, bytes, Levels::LIMITS)
+}
+
+/// The shell that the bytes spell as a JSON text. Errors are those of [`read_submodel`].
+pub fn read_shell(alloc: Global, bytes: &[u8]) -> Result<Shell, ReadFault>
+    ensures reads { ReadsBytes shells limits result bytes.now }
+    ensures each { ReadsEachOfBytes shells limits result bytes.now }
+{
+    read_bytes::<Shells>(alloc, Sort::Shell, bytes, Levels::LIMITS)
+}
+
+/// The concept description that the bytes spell as a JSON text. Errors are those of [`read_submodel`].
+pub fn read_concept(alloc: Global, bytes: &[u8]) -> Result<Concept, ReadFault>
+    ensures reads { ReadsBytes concepts limits result bytes.now }
+    ensures each { ReadsEachOfBytes concepts limits result bytes.now }
+{
+    read_bytes::<Concepts>(alloc, Sort::Concept, bytes, Levels::LIMITS)
+}
+
+/// The element that the bytes spell as a JSON text, for a place of this level: a direct child of a submodel has level 1,
+/// a child one more than its parent. Errors are those of [`read_submodel`]; the element is one of the 30 levels, so above
+/// level 30 any element is `TooDeep` at `$`.
+pub fn read_element(alloc: Global, bytes: &[u8], level: u32) -> Result<Element, ReadFault>
+    ensures reads { ReadsBytes elements (record limits { elements = 31 - level }) result bytes.now }
+    ensures each { ReadsEachOfBytes elements (record limits { elements = 31 - level }) result bytes.now }
+{
+    read_shaped::<Elements>(alloc, Sort::Element, bytes, Levels::at_level(level))
+}
+
+/// The asset information that the bytes spell as a JSON text. Errors are those of [`read_submodel`].
+pub fn read_asset_information(alloc: Global, bytes: &[u8]) -> Result<AssetInformation, ReadFault>
+    ensures reads { ReadsBytes asset_informations limits result bytes.now }
+    ensures each { ReadsEachOfBytes asset_informations limits result bytes.now }
+{
+    read_bytes::<AssetInformations>(alloc, Sort::AssetInformation, bytes, Levels::LIMITS)
+}
+
+/// The environment that the bytes spell as a JSON text. Errors are those of [`read_submodel`]; levels are counted in each
+/// document anew.
+pub fn read_environment(alloc: Global, bytes: &[u8]) -> Result<Environment, ReadFault>
+    ensures reads { ReadsBytes environments limits result bytes.now }
+    ensures each { ReadsEachOfBytes environments limits result bytes.now }
+{
+    read_shaped::<Environments>(alloc, Sort::Environment, bytes, Levels::LIMITS)
+}
+
+/// The specific asset identifier that a JSON value spells. Errors are those of [`read_submodel`], but for `NotJson`.
+pub fn read_specific(alloc: Global, value: &Value) -> Result<SpecificAssetId, ReadFault>
+    ensures reads { Reads specific_asset_ids limits result (view value.now) }
+    ensures each { ReadsEach specific_asset_ids limits result (view value.now) }
+{
+    read_part::<SpecificAssetIds>(alloc, Sort::SpecificAssetId, value, Levels::LIMITS)
+}

@@ -7,11 +7,13 @@ ghost use Rattle.aas_mapping.specs.Parts.{spell_lang_text, spell_extension, spel
 
 use crate::semantics::semantics_in;
 use crate::sorts::{
-    Administrations, AssetInformations, Extensions, LangTexts, Qualifiers, Resources, SpecificAssetIds,
+    Administrations, AssetInformations, Extensions, LangTexts, Qualifiers, Resources,
+    SpecificAssetIds,
 };
 use aas_members::{Part, kept_member, list_member, one_member, string_member, word_member};
 use aas_model::{
-    Administration, AssetInformation, Extension, LangText, NoMemory, Qualifier, Resource, SpecificAssetId,
+    Administration, AssetInformation, Extension, LangText, NoMemory, Qualifier, Resource,
+    SpecificAssetId,
 };
 use aas_reference::References;
 use serde_json::{Map, Value};
@@ -167,7 +169,10 @@ impl Part for Administrations {
     }
 }
 
-fn administration_in(alloc: Global, members: &Map<String, Value>) -> Result<Administration, NoMemory>
+fn administration_in(
+    alloc: Global,
+    members: &Map<String, Value>,
+) -> Result<Administration, NoMemory>
     ensures { IfOk result (λ found. Some (spell_administration found) ≡ plain_object (Some (sorted (parts administration))) (plain_member (members_view members.now.entries))) }
 {
     Ok(Administration {

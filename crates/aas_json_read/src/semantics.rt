@@ -10,11 +10,18 @@ use serde_json::{Map, Value};
 use std::alloc::Global;
 
 /// The semantic identifiers among the members of an object.
-pub(crate) fn semantics_in(alloc: Global, members: &Map<String, Value>) -> Result<Semantics, NoMemory>
+pub(crate) fn semantics_in(
+    alloc: Global,
+    members: &Map<String, Value>,
+) -> Result<Semantics, NoMemory>
     ensures { IfOk result (λ found. FindsSemantics (plain_member (members_view members.now.entries)) found) }
 {
     Ok(Semantics {
         semantic_id: one_member::<References>(alloc, members, "semanticId")?,
-        supplemental_semantic_ids: list_member::<References>(alloc, members, "supplementalSemanticIds")?,
+        supplemental_semantic_ids: list_member::<References>(
+            alloc,
+            members,
+            "supplementalSemanticIds",
+        )?,
     })
 }

@@ -18,7 +18,14 @@ returns c =
     (asset_information_attributes record { asset_kind = c.in-Some.asset_kind; global_asset_id = global; specific_asset_ids = specific; asset_type = type; default_thumbnail = thumbnail })
     (plain_member (members_view c.args.members.now.entries)) refl (
       ap (option_map (λ v. string (name_of v))) (sym c.in-Some.is) ∙ c.word_member.ensures,
-      (c.in_ok-asset_type.ensures,
-      (c.in_ok-default_thumbnail.ensures,
-      (c.in_ok-global_asset_id.ensures,
-      (c.in_ok-specific_asset_ids.ensures, tt)))))
+      (
+        c.in_ok-asset_type.ensures,
+        (
+          c.in_ok-default_thumbnail.ensures,
+          (
+            c.in_ok-global_asset_id.ensures,
+            (c.in_ok-specific_asset_ids.ensures, tt),
+          ),
+        ),
+      ),
+    )

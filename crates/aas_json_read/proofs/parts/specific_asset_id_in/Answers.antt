@@ -15,7 +15,14 @@ returns c =
     (specific_asset_id_attributes record { name = c.in-Some.name; value = c.in-Some-2.value; external_subject_id = external; semantics = semantics })
     (plain_member (members_view c.args.members.now.entries)) refl (
       c.in_ok-external_subject_id.ensures,
-      (ap (option_map text_of) (sym c.in-Some.is) ∙ c.in_ok-name.ensures,
-      (c.in_ok-semantics.ensures.semantic_id,
-      (c.in_ok-semantics.ensures.supplemental,
-      (ap (option_map text_of) (sym c.in-Some-2.is) ∙ c.in_ok-value.ensures, tt)))))
+      (
+        ap (option_map text_of) (sym c.in-Some.is) ∙ c.in_ok-name.ensures,
+        (
+          c.in_ok-semantics.ensures.semantic_id,
+          (
+            c.in_ok-semantics.ensures.supplemental,
+            (ap (option_map text_of) (sym c.in-Some-2.is) ∙ c.in_ok-value.ensures, tt),
+          ),
+        ),
+      ),
+    )

@@ -1,0 +1,29 @@
+-- From what a value says to the whole tree that it spells.
+use Rattle.std.proofs.Common.{◌≡◌, ℕ, List, Option, Some, None, Result, Ok, Err, refl, sym, subst}
+use Rattle.serde_json.specs.Data.{Data}
+use Rattle.aas_table.specs.TooDeep.{Levels}
+use Rattle.aas_model.specs.declared.read_fault.ReadFault.{ReadFault}
+use Rattle.aas_model.specs.declared.read_fault.ReadFault.TheVariants.{NotJson, NotMapping, TooDeep, NoMemory}
+use Rattle.aas_spelling.specs.Values.{IsOrdered}
+use Rattle.aas_spelling.specs.Spells.{Trees}
+use Rattle.aas_spelling.specs.Reading.{reading}
+use Rattle.aas_spelling.specs.Reads.{Reads, ReadsIf, ReadsBytes}
+use Rattle.aas_spelling.proofs.Laws.{Laws, spells_said}
+use Rattle.aas_spelling.proofs.Reading.{reading_ordered}
+use Rattle.aas_json_read.specs.Shaped.{shaped}
+
+module _ {A : Type 0} (trees : Trees A) (Shape : A → Type 0) (laws : Laws trees Shape) (Known : A → Type 0) (shape : (t : A) → Known t → Shape t) where
+  read_whole : (l : Levels) (result : Result A ReadFault) (j : Data) → IsOrdered j → Reads (shaped trees.sort trees.spell Known) l result j → Reads trees l result j
+  read_whole l (Ok t) j order r = spells_said trees Shape laws l j t order (shape t r.whole) r.fits r.shallow r.says
+  read_whole l (Err NotJson) j order r = r
+  read_whole l (Err (NotMapping p)) j order r = r
+  read_whole l (Err (TooDeep p)) j order r = r
+  read_whole l (Err NoMemory) j order r = r
+
+  -- What is read of bytes, with the shape that is known of it, is whole.
+  pub reads_whole : (l : Levels) (result : Result A ReadFault) (bytes : List ℕ) → ReadsBytes (shaped trees.sort trees.spell Known) l result bytes → ReadsBytes trees l result bytes
+  reads_whole l result bytes r = by_reading (reading bytes) refl r
+    where
+      by_reading : (o : Option Data) → reading bytes ≡ o → ReadsIf (shaped trees.sort trees.spell Known) l result o → ReadsIf trees l result o
+      by_reading None is r = r
+      by_reading (Some j) is r = read_whole l result j (reading_ordered bytes j is) r

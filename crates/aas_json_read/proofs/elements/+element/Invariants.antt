@@ -1,0 +1,37 @@
+use Rattle.std.proofs.Common.{◌+◌, ◌*◌, drop}
+use Rattle.serde_json.specs.Data.{depth, items_depth, members_depth}
+use Rattle.serde_json.specs.View.{view, items_view, members_view}
+use Rattle.aas_table.specs.Table.{one}
+use Rattle.aas_table.specs.Plain.{plain_items}
+use Rattle.aas_json_read.specs.Own.{sort_under}
+use Rattle.aas_json_read.specs.Children.{AddsItems}
+use Rattle.aas_json_read.proofs.elements.+element.Given as goal
+
+abbrev pub decreases-child_of : goal.decreases-child_of
+decreases-child_of l = 8 * depth (view l.value.now) + 1
+
+abbrev pub decreases-element_of : goal.decreases-element_of
+decreases-element_of l = 8 * depth (view l.value.now)
+
+abbrev pub decreases-variable_in : goal.decreases-variable_in
+decreases-variable_in l = 8 * members_depth (members_view l.members.now.entries) + 6
+
+abbrev pub decreases-element_in : goal.decreases-element_in
+decreases-element_in l = 8 * members_depth (members_view l.members.now.entries) + 6
+
+abbrev pub decreases-kids_in : goal.decreases-kids_in
+decreases-kids_in l = 8 * members_depth (members_view l.members.now.entries) + 5
+
+abbrev pub decreases-variables_in : goal.decreases-variables_in
+decreases-variables_in l = 8 * members_depth (members_view l.members.now.entries) + 4
+
+abbrev pub decreases-children_after : goal.decreases-children_after
+decreases-children_after l = 8 * members_depth (members_view l.members.now.entries) + 3
+
+abbrev pub decreases-items_after : goal.decreases-items_after
+decreases-items_after l = 8 * items_depth (items_view l.items.now.items) + 2
+
+-- what was added, before what is left, is what all items say
+abbrev pub invariant-items_after-loop-item : goal.invariant-items_after-loop-item
+invariant-items_after-loop-item l =
+    AddsItems l.role l.fn.before l.all (plain_items (items_view (drop l.item-index l.item-items)) (one (sort_under l.role))) (plain_items (items_view l.item-items) (one (sort_under l.role)))

@@ -1,0 +1,14 @@
+use Rattle.serde_json.specs.View.{view}
+use Rattle.aas_table.specs.TooDeep.{limits}
+use Rattle.aas_mapping.specs.Trees.{specific_asset_ids}
+use Rattle.aas_mapping.proofs.PartsLaws.{AnyShape, specific_asset_ids_laws}
+use Rattle.aas_spelling.proofs.Laws.{reads_each}
+use Rattle.aas_json_read.proofs.Specific.{reads_specific}
+use Rattle.aas_json_read.proofs.read_specific.Goals as goal
+
+pub returns-clause-reads : goal.returns-clause-reads
+returns-clause-reads c = reads_specific limits c.read_part.result (view c.args.value.now) c.read_part.ensures
+
+pub returns-clause-each : goal.returns-clause-each
+returns-clause-each c =
+    reads_each specific_asset_ids AnyShape specific_asset_ids_laws limits c.read_part.result (view c.args.value.now) (returns-clause-reads c)

@@ -1,0 +1,47 @@
+ghost use Rattle.std.specs.Prelude.{◌≡◌, None, codes, IfOk, MatchOption};
+ghost use Rattle.serde_json.specs.View.{members_view};
+ghost use Rattle.aas_table.specs.Plain.{plain_member};
+ghost use Rattle.aas_table.specs.Table.{text};
+ghost use Rattle.aas_json_read.specs.Found.{FindsCommon, FindsHead};
+
+use crate::semantics::semantics_in;
+use crate::sorts::{Administrations, Extensions, LangTexts, Qualifiers};
+use aas_members::{kept_member, list_member, one_member, string_member};
+use aas_model::{Common, Head, NoMemory};
+use serde_json::{Map, Value};
+use std::alloc::Global;
+
+/// The attributes that all elements have, among the members of an object.
+pub(crate) fn common_in(alloc: Global, members: &Map<String, Value>) -> Result<Common, NoMemory>
+    ensures { IfOk result (λ found. FindsCommon (plain_member (members_view members.now.entries)) found) }
+{
+    Ok(Common {
+        id_short: string_member(alloc, members, "idShort")?,
+        category: string_member(alloc, members, "category")?,
+        description: list_member::<LangTexts>(alloc, members, "description")?,
+        display_name: list_member::<LangTexts>(alloc, members, "displayName")?,
+        extensions: list_member::<Extensions>(alloc, members, "extensions")?,
+        embedded_data_specifications: kept_member(alloc, members, "embeddedDataSpecifications")?,
+        semantics: semantics_in(alloc, members)?,
+        qualifiers: list_member::<Qualifiers>(alloc, members, "qualifiers")?,
+    })
+}
+
+/// The attributes that all documents have, among the members of an object, or `None` where it has no identifier.
+pub(crate) fn head_in(alloc: Global, members: &Map<String, Value>) -> Result<Option<Head>, NoMemory>
+    ensures { IfOk result (λ found. MatchOption found (plain_member (members_view members.now.entries) (codes "id") text ≡ None) (FindsHead (plain_member (members_view members.now.entries)))) }
+{
+    let Some(id) = string_member(alloc, members, "id")? else {
+        return Ok(None);
+    };
+    Ok(Some(Head {
+        id,
+        administration: one_member::<Administrations>(alloc, members, "administration")?,
+        id_short: string_member(alloc, members, "idShort")?,
+        category: string_member(alloc, members, "category")?,
+        description: list_member::<LangTexts>(alloc, members, "description")?,
+        display_name: list_member::<LangTexts>(alloc, members, "displayName")?,
+        extensions: list_member::<Extensions>(alloc, members, "extensions")?,
+        embedded_data_specifications: kept_member(alloc, members, "embeddedDataSpecifications")?,
+    }))
+}

@@ -1,0 +1,209 @@
+ghost use Rattle.std.specs.Prelude.{◌≡◌, IfOk, IfSome, Some, option_map};
+ghost use Rattle.serde_json.specs.View.{members_view};
+ghost use Rattle.aas_table.specs.Plain.{plain_member};
+ghost use Rattle.aas_model.specs.Payload.{kind_of};
+ghost use Rattle.aas_json_read.specs.Own.{spell_own, plain_own};
+
+use crate::sorts::{LangTexts, SpecificAssetIds};
+use aas_members::{flag_member, list_member, one_member, string_member, word_member};
+use aas_model::{Kind, NoMemory, Payload};
+use aas_reference::References;
+use serde_json::{Map, Value};
+use std::alloc::Global;
+
+/// The own attributes of an element of a kind, among the members of an object, or `None` where a required one is absent.
+/// Its children are none of them.
+pub(crate) fn payload_in(
+    alloc: Global,
+    members: &Map<String, Value>,
+    kind: Kind,
+) -> Result<Option<Payload>, NoMemory>
+    ensures says { IfOk result (λ found. option_map spell_own found ≡ plain_own kind (plain_member (members_view members.now.entries))) }
+    ensures kind { IfOk result (λ found. IfSome found (λ p. kind_of p ≡ kind)) }
+{
+    match kind {
+        Kind::Property => Ok(property_in(alloc, members)?),
+        Kind::MultiLanguageProperty => Ok(Some(multi_language_property_in(alloc, members)?)),
+        Kind::Range => Ok(range_in(alloc, members)?),
+        Kind::File => Ok(file_in(alloc, members)?),
+        Kind::Blob => Ok(blob_in(alloc, members)?),
+        Kind::ReferenceElement => Ok(Some(reference_element_in(alloc, members)?)),
+        Kind::RelationshipElement => Ok(relationship_in(alloc, members)?),
+        Kind::AnnotatedRelationshipElement => Ok(annotated_relationship_in(alloc, members)?),
+        Kind::Entity => Ok(entity_in(alloc, members)?),
+        Kind::BasicEventElement => Ok(event_in(alloc, members)?),
+        Kind::Capability => Ok(Some(Payload::Capability)),
+        Kind::Operation => Ok(Some(Payload::Operation)),
+        Kind::SubmodelElementCollection => Ok(Some(Payload::SubmodelElementCollection)),
+        Kind::SubmodelElementList => Ok(element_list_in(alloc, members)?),
+    }
+}
+
+fn property_in(alloc: Global, members: &Map<String, Value>) -> Result<Option<Payload>, NoMemory>
+    ensures says { IfOk result (λ found. option_map spell_own found ≡ plain_own Kind.Property (plain_member (members_view members.now.entries))) }
+    ensures kind { IfOk result (λ found. IfSome found (λ p. kind_of p ≡ Kind.Property)) }
+{
+    let Some(value_type) = word_member(members, "valueType") else {
+        return Ok(None);
+    };
+    Ok(Some(Payload::Property {
+        value_type,
+        value: string_member(alloc, members, "value")?,
+        value_id: one_member::<References>(alloc, members, "valueId")?,
+    }))
+}
+
+fn multi_language_property_in(
+    alloc: Global,
+    members: &Map<String, Value>,
+) -> Result<Payload, NoMemory>
+    ensures says { IfOk result (λ found. Some (spell_own found) ≡ plain_own Kind.MultiLanguageProperty (plain_member (members_view members.now.entries))) }
+    ensures kind { IfOk result (λ found. kind_of found ≡ Kind.MultiLanguageProperty) }
+{
+    Ok(Payload::MultiLanguageProperty {
+        value: list_member::<LangTexts>(alloc, members, "value")?,
+        value_id: one_member::<References>(alloc, members, "valueId")?,
+    })
+}
+
+fn range_in(alloc: Global, members: &Map<String, Value>) -> Result<Option<Payload>, NoMemory>
+    ensures says { IfOk result (λ found. option_map spell_own found ≡ plain_own Kind.Range (plain_member (members_view members.now.entries))) }
+    ensures kind { IfOk result (λ found. IfSome found (λ p. kind_of p ≡ Kind.Range)) }
+{
+    let Some(value_type) = word_member(members, "valueType") else {
+        return Ok(None);
+    };
+    Ok(Some(Payload::Range {
+        value_type,
+        min: string_member(alloc, members, "min")?,
+        max: string_member(alloc, members, "max")?,
+    }))
+}
+
+fn file_in(alloc: Global, members: &Map<String, Value>) -> Result<Option<Payload>, NoMemory>
+    ensures says { IfOk result (λ found. option_map spell_own found ≡ plain_own Kind.File (plain_member (members_view members.now.entries))) }
+    ensures kind { IfOk result (λ found. IfSome found (λ p. kind_of p ≡ Kind.File)) }
+{
+    let Some(content_type) = string_member(alloc, members, "contentType")? else {
+        return Ok(None);
+    };
+    Ok(Some(Payload::File {
+        content_type: Some(content_type),
+        value: string_member(alloc, members, "value")?,
+    }))
+}
+
+fn blob_in(alloc: Global, members: &Map<String, Value>) -> Result<Option<Payload>, NoMemory>
+    ensures says { IfOk result (λ found. option_map spell_own found ≡ plain_own Kind.Blob (plain_member (members_view members.now.entries))) }
+    ensures kind { IfOk result (λ found. IfSome found (λ p. kind_of p ≡ Kind.Blob)) }
+{
+    let Some(content_type) = string_member(alloc, members, "contentType")? else {
+        return Ok(None);
+    };
+    Ok(Some(Payload::Blob {
+        content_type: Some(content_type),
+        value: string_member(alloc, members, "value")?,
+    }))
+}
+
+fn reference_element_in(alloc: Global, members: &Map<String, Value>) -> Result<Payload, NoMemory>
+    ensures says { IfOk result (λ found. Some (spell_own found) ≡ plain_own Kind.ReferenceElement (plain_member (members_view members.now.entries))) }
+    ensures kind { IfOk result (λ found. kind_of found ≡ Kind.ReferenceElement) }
+{
+    Ok(Payload::ReferenceElement {
+        value: one_member::<References>(alloc, members, "value")?,
+    })
+}
+
+fn relationship_in(alloc: Global, members: &Map<String, Value>) -> Result<Option<Payload>, NoMemory>
+    ensures says { IfOk result (λ found. option_map spell_own found ≡ plain_own Kind.RelationshipElement (plain_member (members_view members.now.entries))) }
+    ensures kind { IfOk result (λ found. IfSome found (λ p. kind_of p ≡ Kind.RelationshipElement)) }
+{
+    let Some(first) = one_member::<References>(alloc, members, "first")? else {
+        return Ok(None);
+    };
+    let Some(second) = one_member::<References>(alloc, members, "second")? else {
+        return Ok(None);
+    };
+    Ok(Some(Payload::RelationshipElement {
+        first: Some(first),
+        second: Some(second),
+    }))
+}
+
+fn annotated_relationship_in(
+    alloc: Global,
+    members: &Map<String, Value>,
+) -> Result<Option<Payload>, NoMemory>
+    ensures says { IfOk result (λ found. option_map spell_own found ≡ plain_own Kind.AnnotatedRelationshipElement (plain_member (members_view members.now.entries))) }
+    ensures kind { IfOk result (λ found. IfSome found (λ p. kind_of p ≡ Kind.AnnotatedRelationshipElement)) }
+{
+    let Some(first) = one_member::<References>(alloc, members, "first")? else {
+        return Ok(None);
+    };
+    let Some(second) = one_member::<References>(alloc, members, "second")? else {
+        return Ok(None);
+    };
+    Ok(Some(Payload::AnnotatedRelationshipElement {
+        first: Some(first),
+        second: Some(second),
+    }))
+}
+
+fn entity_in(alloc: Global, members: &Map<String, Value>) -> Result<Option<Payload>, NoMemory>
+    ensures says { IfOk result (λ found. option_map spell_own found ≡ plain_own Kind.Entity (plain_member (members_view members.now.entries))) }
+    ensures kind { IfOk result (λ found. IfSome found (λ p. kind_of p ≡ Kind.Entity)) }
+{
+    let Some(entity_type) = word_member(members, "entityType") else {
+        return Ok(None);
+    };
+    Ok(Some(Payload::Entity {
+        entity_type: Some(entity_type),
+        global_asset_id: string_member(alloc, members, "globalAssetId")?,
+        specific_asset_ids: list_member::<SpecificAssetIds>(alloc, members, "specificAssetIds")?,
+    }))
+}
+
+fn event_in(alloc: Global, members: &Map<String, Value>) -> Result<Option<Payload>, NoMemory>
+    ensures says { IfOk result (λ found. option_map spell_own found ≡ plain_own Kind.BasicEventElement (plain_member (members_view members.now.entries))) }
+    ensures kind { IfOk result (λ found. IfSome found (λ p. kind_of p ≡ Kind.BasicEventElement)) }
+{
+    let Some(direction) = word_member(members, "direction") else {
+        return Ok(None);
+    };
+    let Some(state) = word_member(members, "state") else {
+        return Ok(None);
+    };
+    let Some(observed) = one_member::<References>(alloc, members, "observed")? else {
+        return Ok(None);
+    };
+    Ok(Some(Payload::BasicEventElement {
+        observed: Some(observed),
+        direction,
+        state,
+        message_topic: string_member(alloc, members, "messageTopic")?,
+        message_broker: one_member::<References>(alloc, members, "messageBroker")?,
+        last_update: string_member(alloc, members, "lastUpdate")?,
+        min_interval: string_member(alloc, members, "minInterval")?,
+        max_interval: string_member(alloc, members, "maxInterval")?,
+    }))
+}
+
+fn element_list_in(alloc: Global, members: &Map<String, Value>) -> Result<Option<Payload>, NoMemory>
+    ensures says { IfOk result (λ found. option_map spell_own found ≡ plain_own Kind.SubmodelElementList (plain_member (members_view members.now.entries))) }
+    ensures kind { IfOk result (λ found. IfSome found (λ p. kind_of p ≡ Kind.SubmodelElementList)) }
+{
+    let Some(type_value_list_element) = word_member(members, "typeValueListElement") else {
+        return Ok(None);
+    };
+    Ok(Some(Payload::SubmodelElementList {
+        order_relevant: flag_member(members, "orderRelevant"),
+        semantic_id_list_element: one_member::<References>(
+            alloc,
+            members,
+            "semanticIdListElement",
+        )?,
+        type_value_list_element,
+        value_type_list_element: word_member(members, "valueTypeListElement"),
+    }))
+}
