@@ -1,5 +1,5 @@
 -- What a value says as a key or as a reference is spelled by one.
-use Rattle.std.proofs.Common.{◌≡◌, ℕ, List, [], ◌∷◌, ◌&&◌, true, Option, Some, None, option_map, is_some, codes, refl, sym, ap, ◌∙◌}
+use Rattle.std.proofs.Common.{ℕ, List, ◌&&◌, true, Option, option_map, is_some, codes, refl, sym, ap, ◌∙◌}
 use Rattle.serde_json.specs.Data.{Data, object, Members}
 use Rattle.aas_names.specs.KeyTypeNames as key_type
 use Rattle.aas_names.specs.ReferenceTypeNames as reference_type
@@ -35,7 +35,7 @@ reference_object g keys referred type all =
     let t = named_there reference_type.name_of reference_type.all (g (codes "type") (word reference_types)) type type_there in (
       made t.0 keys.0 referred.0,
       ap object (same_members (sorted (parts reference)) g (attribute (attributes_at t.0 keys.0 (option_map spell_reference referred.0))) (keys.1, (referred.1, (t.1, tt))))
-      ∙ sym (spell_at t.0 keys.0 referred.0),
+          ∙ sym (spell_at t.0 keys.0 referred.0),
     )
 
 -- ---- values

@@ -1,5 +1,5 @@
 -- The laws of references: the five facts from which all others follow.
-use Rattle.std.proofs.Common.{◌≡◌, ℕ, ◌≤◌, ◌&&◌, nat_le, Bool, true, Option, Some, None, option_map, refl, ◌∙◌}
+use Rattle.std.proofs.Common.{◌≡◌, nat_le, true, Option, Some, None, option_map, refl}
 use Rattle.std.proofs.lemmas.Bool.{leb-true, le-leb}
 use Rattle.serde_json.specs.Data.{Data}
 use Rattle.aas_table.specs.Table.{one, reference}

@@ -1,6 +1,9 @@
 pub mod Exists
 pub mod Facts
+pub mod Faults
+pub mod KeyLists
 pub mod Levels
+pub mod Places
 pub mod Reading
 pub mod Said
 pub mod Sameness

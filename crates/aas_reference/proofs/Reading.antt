@@ -1,5 +1,5 @@
 -- What a reader of references answers.
-use Rattle.std.proofs.Common.{◌≡◌, Result, Ok, Err}
+use Rattle.std.proofs.Common.{Result, Ok, Err}
 use Rattle.serde_json.specs.Data.{Data}
 use Rattle.aas_table.specs.Table.{reference}
 use Rattle.aas_table.specs.TooDeep.{Levels}

@@ -32,7 +32,7 @@ pub says : (s : Sort) (rows : List Row) (attributes : Attributes) (ms : Members)
     → Says (sorted rows) attributes ms
 says s rows attributes ms r d e =
     let both = there_or_not (are_there (sorted rows) (plain_member ms)) (members_by (sorted rows) (plain_member ms)) (members_by (sorted rows) (attribute attributes))
-        (sym (ap (λ x. plain_object x (plain_member ms)) r) ∙ e) in
+    (sym (ap (λ x. plain_object x (plain_member ms)) r) ∙ e) in
     record { there = both.0; agree = same_under (sorted rows) (plain_member ms) (attribute attributes) d both.1 }
 
 -- ---- the member that says something

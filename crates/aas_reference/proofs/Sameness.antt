@@ -1,5 +1,5 @@
 -- What the test of sameness tells.
-use Rattle.std.proofs.Common.{◌≡◌, ℕ, ◌+◌, ◌&&◌, List, [], ◌∷◌, length, Bool, true, false, bytes_eq, refl, sym, ap, ap₂, ◌∙◌, true≢false, arith}
+use Rattle.std.proofs.Common.{◌≡◌, ℕ, ◌&&◌, List, [], ◌∷◌, length, Bool, true, false, bytes_eq, refl, sym, ap, ap₂, true≢false, arith}
 use Rattle.std.specs.Bool.{Decides}
 use Rattle.std.specs.List.{list_all, zip}
 use Rattle.std.proofs.lemmas.Slice.Eq.{bytes_eq-Decides}

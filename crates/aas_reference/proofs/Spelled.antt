@@ -1,6 +1,5 @@
 -- What a whole reference spells is good, and is spelled from one reference.
-use Rattle.std.proofs.Common.{◌≡◌, ℕ, zero, suc, ◌≤◌, ◌&&◌, List, [], ◌∷◌, Bool, true, Option, Some, None, option_map, unwrap_or, refl, sym, ap, ◌∙◌, subst, true≢false, arith}
-use Rattle.serde_json.specs.Data.{Data}
+use Rattle.std.proofs.Common.{◌≡◌, ℕ, zero, suc, ◌≤◌, ◌&&◌, List, [], ◌∷◌, true, Option, Some, None, option_map, unwrap_or, refl, sym, ap, ◌∙◌, subst, true≢false, arith}
 use Rattle.aas_names.specs.KeyTypeNames as key_type
 use Rattle.aas_names.specs.ReferenceTypeNames as reference_type
 use Rattle.aas_names.specs.declared.reference_type.ReferenceType.{ReferenceType}
@@ -65,7 +64,7 @@ pub same_reference : (r s : Reference) → spell_reference r ≡ spell_reference
 same_reference = by_levels (λ r. (s : Reference) → spell_reference r ≡ spell_reference s → r ≡ s) (λ t ks o h s e.
     let y = out-Reference s in
     let same = same_attributes (parts reference) (attributes_at t ks (option_map spell_reference o)) (attributes_at y.ref_type y.keys (option_map spell_reference y.referred)) refl
-        (sym (spell_at t ks o) ∙ e ∙ ap spell_reference (sym (made_out s)) ∙ spell_at y.ref_type y.keys y.referred) in
+    (sym (spell_at t ks o) ∙ e ∙ ap spell_reference (sym (made_out s)) ∙ spell_at y.ref_type y.keys y.referred) in
     let keys = same_lists spell_key ks y.keys same_key same.0 in
     let referred = same_options spell_reference o y.referred (λ r z is _ same. h r is z same) same.1.0 in
     let types = same_words reference_type.name_of reference_type.all reference_type.found t y.ref_type same.1.1.0 in

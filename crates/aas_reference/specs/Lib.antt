@@ -1,3 +1,4 @@
+pub mod Faults
 pub mod Rules
 pub mod Same
 pub mod Spelling
