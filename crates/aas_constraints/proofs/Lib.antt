@@ -1,0 +1,4 @@
+pub mod Lexical
+pub mod Lists
+pub mod Sets
+pub mod Walks
