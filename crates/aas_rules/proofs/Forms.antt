@@ -1,9 +1,10 @@
 -- The tests of texts tell whether the texts have the forms.
 use Rattle.std.proofs.Common.{◌≡◌, ℕ, ℤ, ◌↔◌, ◌⊎◌, ◌||◌, Decides, List, [], ◌∷◌, Bool, true, false, Option, Some, None, bytes_eq, codes, refl, sym, ap, arith}
-use Rattle.std.specs.Prelude.{◌≤ℤ◌, int_le, pos, neg_ℤ, ◌-◌, ◌^◌, ◌%◌, ◌==◌, length}
+use Rattle.std.specs.Prelude.{◌≤ℤ◌, int_le, pos, neg_ℤ, ◌-◌, ◌^◌, ◌%◌, ◌==◌, ◌≤◌, nat_le, length}
 use Rattle.std.specs.Char.{is_ascii_hexdigit}
 use Rattle.std.specs.List.{list_all}
-use Rattle.std.proofs.lemmas.Bool.Decides.{Decides-and, Decides-or, Decides-eqb}
+use Rattle.std.specs.Str.{encode_utf8_all}
+use Rattle.std.proofs.lemmas.Bool.Decides.{Decides-and, Decides-or, Decides-eqb, nat_tests}
 use Rattle.std.proofs.lemmas.Int.{ints}
 use Rattle.std.proofs.lemmas.Slice.Eq.{bytes_eq-Decides}
 use Rattle.aas_names.specs.declared.value_type.ValueType.{ValueType}
@@ -11,13 +12,21 @@ use Rattle.aas_names.specs.declared.value_type.ValueType.TheVariants as xs
 use Rattle.aas_forms.specs.Form.{lit, ◌∣◌}
 use Rattle.aas_lexical.specs.Numbers.{integer, integer_value, float, integer_from, integer_up_to, integer_between}
 use Rattle.aas_lexical.specs.Values.{HasForm}
+use Rattle.aas_lexical.specs.Names.{language, version, id_short, IsIdentifier, IsString}
+use Rattle.aas_lexical.specs.Media.{media_type}
+use Rattle.aas_lexical.specs.Times.{utc_date_time}
+use Rattle.aas_lexical.specs.Cut.Names.{after_language, after_version, after_id_short}
+use Rattle.aas_lexical.specs.Cut.Media.{after_media_type}
+use Rattle.aas_lexical.specs.Cut.Times.{after_utc_date_time}
 use Rattle.aas_lexical.specs.Cut.Numbers.{after_integer, after_decimal_with_exponent}
 use Rattle.aas_lexical.proofs.NumbersExact.{decimal_exact, decimal_with_exponent_exact, integer_exact}
 use Rattle.aas_lexical.proofs.BinaryExact.{base64_exact}
 use Rattle.aas_lexical.proofs.DatesExact.{date_exact, g_year_month_exact, g_year_exact, g_month_day_exact, g_day_exact, g_month_exact}
 use Rattle.aas_lexical.proofs.TimesExact.{time_exact, date_time_exact, utc_date_time_exact}
 use Rattle.aas_lexical.proofs.DurationsExact.{duration_exact}
-use Rattle.aas_rules.specs.Decided.{is_end, is_one_of, is_float, is_from, is_up_to, is_between, bytes_have_form}
+use Rattle.aas_lexical.proofs.MediaExact.{media_type_exact}
+use Rattle.aas_lexical.proofs.NamesExact.{language_exact, version_exact, id_short_exact}
+use Rattle.aas_rules.specs.Decided.{is_identifier, is_language, is_version, is_media_type, is_utc_date_time, is_path_name, is_string, is_end, is_one_of, is_float, is_from, is_up_to, is_between, bytes_have_form}
 
 -- a cut that leaves nothing
 pub end_tells : {P : Type 0} (o : Option (List ℕ)) → (o ≡ Some []) ↔ P → Decides (is_end o) P
@@ -40,6 +49,9 @@ one_of_four a b c d text =
     (Decides-or (bytes_eq text b) _ (bytes_eq-Decides text b) (Decides-or (bytes_eq text c) _ (bytes_eq-Decides text c) (last_word text d)))
 
 -- ---- numbers
+
+le_tells : (a b : ℕ) → Decides (nat_le a b) (a ≤ b)
+le_tells a b = (λ h. grind (arith, nat_tests), λ h. grind (arith, nat_tests))
 
 int_le_tells : (a b : ℤ) → Decides (int_le a b) (a ≤ℤ b)
 int_le_tells a b = (λ h. grind (arith, ints), λ h. grind (arith, ints))
@@ -97,3 +109,26 @@ form_tells xs.UnsignedByte text = between_tells (pos 0) (pos (2 ^ 8 - 1)) text
 form_tells xs.UnsignedInt text = between_tells (pos 0) (pos (2 ^ 32 - 1)) text
 form_tells xs.UnsignedLong text = between_tells (pos 0) (pos (2 ^ 64 - 1)) text
 form_tells xs.UnsignedShort text = between_tells (pos 0) (pos (2 ^ 16 - 1)) text
+
+-- ---- other texts
+
+pub identifier_tells : (s : List ℕ) → Decides (is_identifier s) (IsIdentifier s)
+identifier_tells s = Decides-and (nat_le 1 (length s)) _ (le_tells 1 (length s)) (le_tells (length s) 2048)
+
+pub language_tells : (s : List ℕ) → Decides (is_language s) (language (encode_utf8_all s))
+language_tells s = end_tells (after_language (encode_utf8_all s)) (language_exact (encode_utf8_all s))
+
+pub version_tells : (s : List ℕ) → Decides (is_version s) (version (encode_utf8_all s))
+version_tells s = end_tells (after_version (encode_utf8_all s)) (version_exact (encode_utf8_all s))
+
+pub media_type_tells : (s : List ℕ) → Decides (is_media_type s) (media_type (encode_utf8_all s))
+media_type_tells s = end_tells (after_media_type (encode_utf8_all s)) (media_type_exact (encode_utf8_all s))
+
+pub utc_date_time_tells : (s : List ℕ) → Decides (is_utc_date_time s) (utc_date_time (encode_utf8_all s))
+utc_date_time_tells s = end_tells (after_utc_date_time (encode_utf8_all s)) (utc_date_time_exact (encode_utf8_all s))
+
+pub path_name_tells : (s : List ℕ) → Decides (is_path_name s) (id_short (encode_utf8_all s))
+path_name_tells s = end_tells (after_id_short (encode_utf8_all s)) (id_short_exact (encode_utf8_all s))
+
+pub string_tells : (s : List ℕ) → Decides (is_string s) (IsString s)
+string_tells s = (λ e. e, λ h. h)

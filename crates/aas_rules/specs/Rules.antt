@@ -257,14 +257,40 @@ row n s = record { number = n; sentence = s }
 abbrev pub seen : (Seen → Bool) → Sentence
 seen test = local (λ o. test (seen_of o))
 
-abbrev pub value_has_form : Payload → Bool
-value_has_form (p.Property t v i) = if_any (has_form t) v
-value_has_form (p.Range t min max) = if_any (has_form t) min && if_any (has_form t) max
-value_has_form _ = true
+-- the table is cut where the code is cut
+abbrev pub rules_to_21 : List Rule
+rules_to_21 =
+    row 0 (local element_has_form)
+    ∷ row 2 (seen id_short_is_name)
+    ∷ row 14 (local (λ o. is_managed o.payload))
+    ∷ row 20 (seen qualifiers_have_form)
+    ∷ row 21 (seen qualifiers_differ)
+    ∷ []
+
+abbrev pub rules_to_120 : List Rule
+rules_to_120 =
+    row 22 (placed name_is_new)
+    ∷ row 77 (seen extensions_differ)
+    ∷ row 107 (placed has_list_semantics)
+    ∷ row 108 (placed has_list_kind)
+    ∷ row 109 (placed has_list_value_type)
+    ∷ row 114 (placed has_first_semantics)
+    ∷ row 117 (placed is_named)
+    ∷ row 118 (seen semantics_have_main)
+    ∷ row 120 (placed is_unnamed_in_list)
+    ∷ []
+
+-- 121 to 128
+abbrev pub rules_of_references : List Rule
+rules_of_references = map (λ r. row r.number (seen (references_keep r))) reference.reference_rules
+
+abbrev pub rules_to_134 : List Rule
+rules_to_134 =
+    row 129 (placed is_template_or_none)
+    ∷ row 130 (seen texts_are_strings)
+    ∷ row 133 (seen subjects_are_external)
+    ∷ row 134 (placed variable_is_new)
+    ∷ []
 
 abbrev pub rules : List Rule
-rules =
-    row 0 (local (λ o. value_has_form o.payload))
-    ∷ row 22 (placed name_is_new)
-    ∷ row 117 (placed is_named)
-    ∷ []
+rules = rules_to_21 ++ rules_to_120 ++ rules_of_references ++ rules_to_134
