@@ -1,6 +1,6 @@
 -- Lists, item by item.
-use Rattle.std.proofs.Common.{◌≡◌, ℕ, suc, zero, ◌+◌, ◌<◌, List, [], ◌∷◌, ◌++◌, length, take, drop, get_or, map, filter_map, flat_map, Option, Some, None, option_map, append_assoc, refl, sym, ap, ◌∙◌, arith}
-use Rattle.std.specs.List.{cons_option}
+use Rattle.std.proofs.Common.{◌≡◌, ℕ, suc, zero, ◌+◌, ◌<◌, List, [], ◌∷◌, ◌++◌, length, take, drop, get_or, map, filter_map, flat_map, Option, Some, None, option_map, ◌&&◌, Bool, true, false, append_assoc, refl, sym, ap, ◌∙◌, arith}
+use Rattle.std.specs.List.{cons_option, list_all}
 use Rattle.std.proofs.Math.Seq.{drop-cons}
 use Rattle.std.proofs.Math.Numerals.{add-one}
 use Rattle.aas_rules.specs.Faults.{first}
@@ -64,3 +64,17 @@ first_some-last [] None = refl
 first_some-last [] (Some x) = refl
 first_some-last (None ∷ xs) x = first_some-last xs x
 first_some-last (Some y ∷ xs) x = refl
+
+-- ---- tests of all items
+
+pub all_append : {X : Type 0} (test : X → Bool) (xs ys : List X) → list_all test (xs ++ ys) ≡ (list_all test xs && list_all test ys)
+all_append test [] ys = refl
+all_append test (x ∷ xs) ys = by_test (test x) (all_append test xs ys)
+  where
+    by_test : (b : Bool) → list_all test (xs ++ ys) ≡ (list_all test xs && list_all test ys) → (b && list_all test (xs ++ ys)) ≡ ((b && list_all test xs) && list_all test ys)
+    by_test true e = e
+    by_test false e = refl
+
+pub all_flat : {X Y : Type 0} (test : Y → Bool) (f : X → List Y) (xs : List X) → list_all test (flat_map f xs) ≡ list_all (λ x. list_all test (f x)) xs
+all_flat test f [] = refl
+all_flat test f (x ∷ xs) = all_append test (f x) (flat_map f xs) ∙ ap (λ b. list_all test (f x) && b) (all_flat test f xs)

@@ -4,7 +4,7 @@ use denote.Ref.{Bor}
 use Rattle.aas_model.specs.declared.element.Element.{Element, out-Element}
 use Rattle.aas_model.specs.declared.path.Fault.{Fault}
 use Rattle.aas_model.specs.declared.reference.Reference.{Reference}
-use Rattle.aas_rules.specs.Sites.{Own, sites, sites_among, tree_of, trees}
+use Rattle.aas_rules.specs.Sites.{Own, Site, sites, sites_among, tree_of, trees}
 use Rattle.aas_rules.specs.Rules.{semantics_of, first_some, is_repeat}
 use Rattle.aas_rules.specs.Faults.{broken, faults_at, first}
 
@@ -26,9 +26,13 @@ pub record Knows (b : List Own) (name : Option (List ℕ)) (again : Bool) (lead 
   pub names : again ≡ is_repeat b name
   pub semantics : lead ≡ first_some (map semantics_of b)
 
--- the least number that is broken at an element
+-- a place, whatever its path
+abbrev pub place : Bool → Option Own → List Own → Own → Site
+place t a b o = record { in_template = t; path = []; above = a; before = b; own = o }
+
+-- the least number that is broken at a place
 abbrev pub first_broken : Bool → Option Own → List Own → Own → Option ℕ
-first_broken t a b o = first (broken (record { in_template = t; path = []; above = a; before = b; own = o }))
+first_broken t a b o = first (broken (place t a b o))
 
 -- the first fault in an element, and among the elements that come after the siblings b
 unfoldable pub found_in : Bool → Option Own → List Own → Element → Option Fault

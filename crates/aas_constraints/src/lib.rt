@@ -3,8 +3,14 @@
 #![tactic(auto)]
 
 mod check;
-mod forms;
+mod demands;
+mod holders;
+mod lexical;
 mod names;
+mod parts;
 mod place;
+mod references;
+mod strings;
+mod texts;
 
 pub use check::check_element;

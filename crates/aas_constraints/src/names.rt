@@ -1,11 +1,12 @@
-ghost use Rattle.std.specs.Prelude.{◌≡◌, ◌∷◌, [], ◌++◌, List, ℕ, filter_map, IfOk};
+ghost use Rattle.std.specs.Prelude.{◌≡◌, ◌∷◌, [], ◌++◌, List, ℕ, filter_map, map, IfOk};
 ghost use Rattle.std.specs.Prelude.{chars};
-ghost use Rattle.aas_rules.specs.Texts.{is_among};
+ghost use Rattle.aas_rules.specs.Texts.{all_differ, is_among};
 ghost use Rattle.aas_rules.specs.Sites.{Own};
 ghost use Rattle.aas_rules.specs.Rules.{name_of, is_repeat};
 ghost use Rattle.aas_constraints.specs.Repeats.{HasTexts};
 
-use aas_model::{NoMemory, Text};
+use aas_model::{Extension, NoMemory, Qualifier, Text};
+use std::alloc::Global;
 use std::collections::BTreeSet;
 
 /// Whether the text is among those of the set, which has it from then on.
@@ -31,4 +32,30 @@ pub(crate) fn meet_name<'a>(
         Some(text) => Ok(meet(set, text.as_str())?),
         None => Ok(false),
     }
+}
+
+/// Whether no two qualifiers have one type. AASd-021.
+pub(crate) fn qualifiers_differ(alloc: Global, qualifiers: &[Qualifier]) -> Result<bool, NoMemory>
+    ensures { IfOk result (λ differ. differ ≡ all_differ (map (λ q. q.qualifier_type) qualifiers.now)) }
+{
+    let mut types = BTreeSet::new(alloc);
+    for qualifier in qualifiers {
+        if meet(&mut types, qualifier.qualifier_type.as_str())? {
+            return Ok(false);
+        }
+    }
+    Ok(true)
+}
+
+/// Whether no two extensions have one name. AASd-077.
+pub(crate) fn extensions_differ(alloc: Global, extensions: &[Extension]) -> Result<bool, NoMemory>
+    ensures { IfOk result (λ differ. differ ≡ all_differ (map (λ a. a.name) extensions.now)) }
+{
+    let mut names = BTreeSet::new(alloc);
+    for extension in extensions {
+        if meet(&mut names, extension.name.as_str())? {
+            return Ok(false);
+        }
+    }
+    Ok(true)
 }

@@ -4,26 +4,9 @@ ghost use Rattle.aas_rules.specs.Sites.{Own, stands_in_list, step_to};
 ghost use Rattle.aas_rules.specs.Rules.{stands_in_operation, semantics_of};
 ghost use Rattle.aas_constraints.specs.Walk.{own_of, above_of, Knows, first_broken, or_next};
 
-use crate::forms::{is_path_name, payload_has_form};
+use crate::demands::{stands_in_list, stands_in_operation};
+use crate::texts::is_path_name;
 use aas_model::{Duplicate, Element, NoMemory, PathStep, Payload, Reference};
-
-pub(crate) fn stands_in_list(above: Option<&Element>) -> bool
-    ensures { result ≡ stands_in_list (above_of above.entry) }
-{
-    match above {
-        Some(parent) => matches!(&parent.payload, Payload::SubmodelElementList { .. }),
-        None => false,
-    }
-}
-
-fn stands_in_operation(above: Option<&Element>) -> bool
-    ensures { result ≡ stands_in_operation (above_of above.entry) }
-{
-    match above {
-        Some(parent) => matches!(&parent.payload, Payload::Operation),
-        None => false,
-    }
-}
 
 /// The first semanticId, or else the one of the element.
 pub(crate) fn first_semantics<'a>(
@@ -50,9 +33,6 @@ pub(crate) fn first_broken(
 {
     let in_list = stands_in_list(above);
     let in_operation = stands_in_operation(above);
-    if !payload_has_form(&e.payload) {
-        return Some(0);
-    }
     if is_repeat && !in_operation {
         return Some(22);
     }
