@@ -4,6 +4,8 @@
 
 mod check;
 mod demands;
+mod documents;
+mod element;
 mod holders;
 mod lexical;
 mod names;
@@ -13,4 +15,4 @@ mod references;
 mod strings;
 mod texts;
 
-pub use check::check_element;
+pub use check::{check_concept, check_element, check_shell, check_submodel};

@@ -1,12 +1,17 @@
 ghost use Rattle.std.specs.Prelude.{◌≡◌, IfOk, List};
 ghost use Rattle.std.specs.Option.{option_copied};
 ghost use Rattle.aas_rules.specs.Sites.{Own, stands_in_list, step_to};
-ghost use Rattle.aas_rules.specs.Rules.{stands_in_operation, semantics_of};
+ghost use Rattle.aas_rules.specs.Rules.{semantics_of};
 ghost use Rattle.aas_constraints.specs.Walk.{own_of, above_of, Knows, first_broken, or_next};
 
-use crate::demands::{stands_in_list, stands_in_operation};
+use crate::demands::stands_in_list;
+use crate::element::{
+    element_references_fault, own_fault_to_21, own_fault_to_120, own_fault_to_134,
+};
 use crate::texts::is_path_name;
-use aas_model::{Duplicate, Element, NoMemory, PathStep, Payload, Reference};
+use aas_model::{Duplicate, Element, NoMemory, PathStep, Reference};
+use aas_reference::least;
+use std::alloc::Global;
 
 /// The first semanticId, or else the one of the element.
 pub(crate) fn first_semantics<'a>(
@@ -21,25 +26,31 @@ pub(crate) fn first_semantics<'a>(
     }
 }
 
+fn or_next(one: Option<u16>, next: Option<u16>) -> Option<u16>
+    ensures { result ≡ or_next one next }
+{
+    match one {
+        Some(number) => Some(number),
+        None => next,
+    }
+}
+
 /// The least number that is broken at an element, of whose earlier siblings is known what `Knows` says.
 pub(crate) fn first_broken(
+    alloc: Global,
     e: &Element,
     in_template: bool,
     above: Option<&Element>,
     is_repeat: bool,
     lead: Option<&Reference>,
-) -> Option<u16>
-    ensures { (b : List Own) → Knows b (own_of e.now).common.id_short is_repeat (option_copied lead.entry) → result ≡ first_broken in_template (above_of above.entry) b (own_of e.now) }
+) -> Result<Option<u16>, NoMemory>
+    ensures { IfOk result (λ n. (b : List Own) → Knows b (own_of e.now).common.id_short is_repeat (option_copied lead.entry) → n ≡ first_broken in_template (above_of above.entry) b (own_of e.now)) }
 {
-    let in_list = stands_in_list(above);
-    let in_operation = stands_in_operation(above);
-    if is_repeat && !in_operation {
-        return Some(22);
-    }
-    if e.common.id_short.is_none() && !in_list {
-        return Some(117);
-    }
-    None
+    let to_21 = own_fault_to_21(alloc, e)?;
+    let to_120 = own_fault_to_120(alloc, e, above, is_repeat, lead)?;
+    let to_134 = own_fault_to_134(e, in_template, above, is_repeat, lead);
+    let own = or_next(to_21, or_next(to_120, to_134));
+    Ok(least(own, element_references_fault(e)))
 }
 
 /// The step to a child at a place, counted from 0.

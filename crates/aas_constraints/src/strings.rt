@@ -19,11 +19,15 @@ pub(crate) trait HoldsTexts {
 }
 
 /// Whether the texts of several things have only the characters that XML allows.
-#[tactic(auto, using(crate::proofs::Lists::all_flat))]
 pub(crate) fn are_strings<T: HoldsTexts>(items: &[T]) -> bool
     ensures { result ≡ list_all is_string (flat_map T.texts items.now) }
 {
-    items.iter().all(|item| item.is_of_strings())
+    for item in items {
+        if !item.is_of_strings() {
+            return false;
+        }
+    }
+    true
 }
 
 /// Whether the texts of what is there have only the characters that XML allows.

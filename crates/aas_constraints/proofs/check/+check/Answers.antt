@@ -12,11 +12,11 @@ use Rattle.aas_constraints.proofs.check.+check.Goals as goal
 
 pub check_in-returns-in-Some : goal.check_in-returns-in-Some
 check_in-returns-in-Some t c = λ b knows.
-    ap (λ p. Some (fault p c.in-Some.number)) c.new.ensures ∙ found_here c.args.in_template (above_of c.args.above) b c.args.e.now c.in-Some.number (sym c.in-Some.is ∙ c.first_broken.ensures b knows)
+    ap Some c.fault_here.ensures ∙ found_here c.args.in_template (above_of c.args.above) b c.args.e.now c.in-Some.number (sym c.in-Some.is ∙ c.in_ok-number.ensures b knows)
 
 pub check_in-returns-in_ok-check_among-in-None : goal.check_in-returns-in_ok-check_among-in-None
 check_in-returns-in_ok-check_among-in-None t c = λ b knows.
-    c.in_ok-check_among-in-None.ensures ∙ found_below c.args.in_template (above_of c.args.above) b c.args.e.now (sym c.in-None.is ∙ c.first_broken.ensures b knows)
+    c.in_ok-check_among-in-None.ensures ∙ found_below c.args.in_template (above_of c.args.above) b c.args.e.now (sym c.in-None.is ∙ c.in_ok-number.ensures b knows)
 
 pub check_among-returns-in-Some : goal.check_among-returns-in-Some
 check_among-returns-in-Some t c =
