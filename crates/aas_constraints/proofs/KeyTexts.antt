@@ -1,0 +1,61 @@
+-- What is wanted of the keys of a reference and of those within it, level by level.
+use Rattle.std.proofs.Common.{◌≡◌, ℕ, ◌&&◌, not, cond, List, [], ◌∷◌, ◌++◌, map, flat_map, Bool, true, false, Option, Some, None, option_map, unwrap_or, refl, sym, ap, ◌∙◌}
+use Rattle.std.specs.List.{list_all}
+use Rattle.aas_names.specs.declared.reference_type.ReferenceType.{ReferenceType}
+use Rattle.aas_model.specs.declared.reference.Key.{Key}
+use Rattle.aas_model.specs.declared.reference.Reference.{Reference, out-Reference}
+use Rattle.aas_model.specs.declared.reference.Reference.TheFolds.{fold-roll-Reference}
+use Rattle.aas_reference.specs.Rules.{Level, levels_of}
+use Rattle.aas_reference.specs.Faults.{level_of}
+use Rattle.aas_reference.proofs.Levels.{made, made_out}
+use Rattle.aas_rules.specs.Decided.{is_identifier, is_string}
+use Rattle.aas_rules.specs.Attributes.{reference_texts}
+use Rattle.aas_rules.specs.Lexical.{reference_has_form}
+use Rattle.aas_constraints.specs.References.{reference_is_string}
+use Rattle.aas_constraints.proofs.Lists.{all_flat}
+
+levels_at : (t : ReferenceType) (ks : List Key) (o : Option Reference) → levels_of (made t ks o) ≡ record { ref_type = t; keys = ks } ∷ unwrap_or (option_map levels_of o) []
+levels_at t ks None = fold-roll-Reference (List Level) (λ x. record { ref_type = x.ref_type; keys = x.keys } ∷ unwrap_or x.referred []) (record { ref_type = t; keys = ks; referred = None })
+levels_at t ks (Some r) = fold-roll-Reference (List Level) (λ x. record { ref_type = x.ref_type; keys = x.keys } ∷ unwrap_or x.referred []) (record { ref_type = t; keys = ks; referred = Some r })
+
+levels_out : (r : Reference) (o : Option Reference) → (out-Reference r).referred ≡ o → levels_of r ≡ level_of r ∷ unwrap_or (option_map levels_of o) []
+levels_out r o e =
+    ap levels_of (sym (made_out r)) ∙ levels_at (out-Reference r).ref_type (out-Reference r).keys (out-Reference r).referred ∙ ap (λ x. level_of r ∷ unwrap_or (option_map levels_of x) []) e
+
+and_true : (b : Bool) → (b && true) ≡ b
+and_true true = refl
+and_true false = refl
+
+abbrev each_key : (Key → Bool) → Reference → Bool
+each_key test r = list_all (λ x. list_all test x.keys) (levels_of r)
+
+outer : (test : Key → Bool) (r : Reference) → (out-Reference r).referred ≡ None → each_key test r ≡ list_all test (out-Reference r).keys
+outer test r e = ap (list_all (λ x. list_all test x.keys)) (levels_out r None e) ∙ and_true (list_all test (out-Reference r).keys)
+
+inner : (test : Key → Bool) (r s : Reference) → (out-Reference r).referred ≡ Some s → each_key test r ≡ (list_all test (out-Reference r).keys && each_key test s)
+inner test r s e = ap (list_all (λ x. list_all test x.keys)) (levels_out r (Some s) e)
+
+pub form_outer : (r : Reference) → (out-Reference r).referred ≡ None → reference_has_form r ≡ list_all (λ k. is_identifier k.value) (out-Reference r).keys
+form_outer r e = outer (λ k. is_identifier k.value) r e
+
+pub form_inner : (r s : Reference) → (out-Reference r).referred ≡ Some s → reference_has_form r ≡ (list_all (λ k. is_identifier k.value) (out-Reference r).keys && reference_has_form s)
+form_inner r s e = inner (λ k. is_identifier k.value) r s e
+
+-- ---- the characters of the values
+
+pub string_outer : (r : Reference) → (out-Reference r).referred ≡ None → reference_is_string r ≡ list_all (λ k. is_string k.value) (out-Reference r).keys
+string_outer r e = outer (λ k. is_string k.value) r e
+
+pub string_inner : (r s : Reference) → (out-Reference r).referred ≡ Some s → reference_is_string r ≡ (list_all (λ k. is_string k.value) (out-Reference r).keys && reference_is_string s)
+string_inner r s e = inner (λ k. is_string k.value) r s e
+
+by_maps : (ks : List Key) → list_all is_string (map (λ k. k.value) ks) ≡ list_all (λ k. is_string k.value) ks
+by_maps [] = refl
+by_maps (k ∷ ks) = ap (λ b. is_string k.value && b) (by_maps ks)
+
+by_levels : (ls : List Level) → list_all (λ x. list_all is_string (map (λ k. k.value) x.keys)) ls ≡ list_all (λ x. list_all (λ k. is_string k.value) x.keys) ls
+by_levels [] = refl
+by_levels (l ∷ ls) = ap (λ b. b && list_all (λ x. list_all is_string (map (λ k. k.value) x.keys)) ls) (by_maps l.keys) ∙ ap (λ b. list_all (λ k. is_string k.value) l.keys && b) (by_levels ls)
+
+pub string_by_keys : (r : Reference) → list_all is_string (reference_texts r) ≡ reference_is_string r
+string_by_keys r = all_flat is_string (λ x. map (λ y. y.value) x.keys) (levels_of r) ∙ by_levels (levels_of r)

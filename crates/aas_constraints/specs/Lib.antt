@@ -1,0 +1,4 @@
+pub mod Own
+pub mod References
+pub mod Repeats
+pub mod Walk

@@ -1,0 +1,42 @@
+-- What the walk over a tree knows and finds.
+use Rattle.std.specs.Prelude.{◌≡◌, ℕ, Bool, List, [], map, flat_map, Option, Some, None}
+use denote.Ref.{Bor}
+use Rattle.aas_model.specs.declared.element.Element.{Element, out-Element}
+use Rattle.aas_model.specs.declared.path.Fault.{Fault}
+use Rattle.aas_model.specs.declared.reference.Reference.{Reference}
+use Rattle.aas_rules.specs.Sites.{Own, Site, sites, sites_among, tree_of, trees}
+use Rattle.aas_rules.specs.Rules.{semantics_of, first_some, is_repeat}
+use Rattle.aas_rules.specs.Faults.{broken, faults_at, first}
+
+-- what is there, or else the next
+abbrev pub or_next : {X : Type 0} → Option X → Option X → Option X
+or_next None y = y
+or_next (Some x) y = Some x
+
+-- an element without its children
+abbrev pub own_of : Element → Own
+own_of e = record { common = (out-Element e).common; payload = (out-Element e).payload; role = (out-Element e).role }
+
+abbrev pub above_of : Option (Bor Element) → Option Own
+above_of None = None
+above_of (Some e) = Some (own_of e.now)
+
+-- what is known of the earlier siblings b of an element with a name: whether one has the name, and the first semanticId among them
+pub record Knows (b : List Own) (name : Option (List ℕ)) (again : Bool) (lead : Option Reference) : Type 0 where
+  pub names : again ≡ is_repeat b name
+  pub semantics : lead ≡ first_some (map semantics_of b)
+
+-- a place, whatever its path
+abbrev pub place : Bool → Option Own → List Own → Own → Site
+place t a b o = record { in_template = t; path = []; above = a; before = b; own = o }
+
+-- the least number that is broken at a place
+abbrev pub first_broken : Bool → Option Own → List Own → Own → Option ℕ
+first_broken t a b o = first (broken (place t a b o))
+
+-- the first fault in an element, and among the elements that come after the siblings b
+unfoldable pub found_in : Bool → Option Own → List Own → Element → Option Fault
+found_in t a b e = first (flat_map faults_at (sites t a b (tree_of e)))
+
+unfoldable pub found_among : Bool → Option Own → List Own → List Element → Option Fault
+found_among t a b ks = first (flat_map faults_at (sites_among t a b (trees (map tree_of ks))))

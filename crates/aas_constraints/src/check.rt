@@ -1,0 +1,111 @@
+ghost use Rattle.std.specs.Prelude.{◌≡◌, [], IfOk, List};
+ghost use Rattle.std.specs.Option.{option_copied};
+ghost use Rattle.aas_rules.specs.Sites.{Own};
+ghost use Rattle.aas_rules.specs.Faults.{concept_faults, element_faults, fault, faults, first, shell_faults};
+ghost use Rattle.aas_constraints.specs.Walk.{own_of, above_of, Knows, found_in, found_among};
+
+use crate::documents::{concept_fault, is_template, shell_fault, submodel_fault};
+use crate::names::meet_name;
+use crate::place::{first_broken, first_semantics, step_to};
+use aas_model::{
+    Concept, Element, Fault, Many, NoMemory, Path, Reference, Shell, Submodel,
+};
+use std::alloc::Global;
+use std::collections::BTreeSet;
+
+/// A fault at the place where one stands.
+fn fault_here(alloc: Global, number: u16) -> Fault
+    ensures { result ≡ fault [] number }
+{
+    Fault {
+        number,
+        path: Path {
+            steps: Many::new(alloc),
+        },
+    }
+}
+
+/// The first fault in an element, of whose earlier siblings is known what `Knows` says.
+#[cycle(check)]
+fn check_in(
+    alloc: Global,
+    e: &Element,
+    in_template: bool,
+    above: Option<&Element>,
+    is_repeat: bool,
+    lead: Option<&Reference>,
+) -> Result<Option<Fault>, NoMemory>
+    ensures { IfOk result (λ f. (b : List Own) → Knows b (own_of e.now).common.id_short is_repeat (option_copied lead.entry) → f ≡ found_in in_template (above_of above.entry) b e.now) }
+{
+    match first_broken(alloc, e, in_template, above, is_repeat, lead)? {
+        Some(number) => Ok(Some(fault_here(alloc, number))),
+        None => Ok(check_among(alloc, &e.kids, in_template, Some(e))?),
+    }
+}
+
+/// The first fault among the children of an element or a document.
+#[cycle(check)]
+fn check_among(
+    alloc: Global,
+    kids: &Many<Element>,
+    in_template: bool,
+    above: Option<&Element>,
+) -> Result<Option<Fault>, NoMemory>
+    ensures { IfOk result (λ f. f ≡ found_among in_template (above_of above.entry) [] kids.now) }
+{
+    let mut names = BTreeSet::new(alloc);
+    let mut lead = None;
+    for (place, kid) in kids.as_slice().iter().enumerate() {
+        let is_repeat = meet_name(&mut names, &kid.common.id_short)?;
+        if let Some(mut fault) = check_in(alloc, kid, in_template, above, is_repeat, lead)? {
+            fault.path.steps.insert(0, step_to(above, place, kid)?)?;
+            return Ok(Some(fault));
+        }
+        lead = first_semantics(lead, kid);
+    }
+    Ok(None)
+}
+
+/// The first fault of an element as the only child of a submodel of kind Template.
+pub fn check_element(alloc: Global, e: &Element) -> Result<Option<Fault>, NoMemory>
+    ensures { IfOk result (λ f. f ≡ first (element_faults e.now)) }
+{
+    match check_in(alloc, e, true, None, false, None)? {
+        Some(mut fault) => {
+            fault.path.steps.insert(0, step_to(None, 0, e)?)?;
+            Ok(Some(fault))
+        }
+        None => Ok(None),
+    }
+}
+
+/// The first fault of a submodel: at the submodel or at the first faulty element in preorder, there with the least number.
+/// `None` exactly where there is none.
+pub fn check_submodel(alloc: Global, d: &Submodel) -> Result<Option<Fault>, NoMemory>
+    ensures { IfOk result (λ f. f ≡ first (faults d.now)) }
+{
+    match submodel_fault(alloc, d)? {
+        Some(number) => Ok(Some(fault_here(alloc, number))),
+        None => Ok(check_among(alloc, &d.kids, is_template(d.kind), None)?),
+    }
+}
+
+/// The first fault of a shell, which is the one with the least number. `None` exactly where there is none.
+pub fn check_shell(alloc: Global, d: &Shell) -> Result<Option<Fault>, NoMemory>
+    ensures { IfOk result (λ f. f ≡ first (shell_faults d.now)) }
+{
+    match shell_fault(alloc, d)? {
+        Some(number) => Ok(Some(fault_here(alloc, number))),
+        None => Ok(None),
+    }
+}
+
+/// The first fault of a concept description, which is the one with the least number. `None` exactly where there is none.
+pub fn check_concept(alloc: Global, d: &Concept) -> Result<Option<Fault>, NoMemory>
+    ensures { IfOk result (λ f. f ≡ first (concept_faults d.now)) }
+{
+    match concept_fault(alloc, d)? {
+        Some(number) => Ok(Some(fault_here(alloc, number))),
+        None => Ok(None),
+    }
+}

@@ -1,0 +1,18 @@
+//! The constraints of IDTA-01001-3-0: the first fault of a document or an element.
+
+#![tactic(auto)]
+
+mod check;
+mod demands;
+mod documents;
+mod element;
+mod holders;
+mod lexical;
+mod names;
+mod parts;
+mod place;
+mod references;
+mod strings;
+mod texts;
+
+pub use check::{check_concept, check_element, check_shell, check_submodel};

@@ -1,0 +1,7 @@
+pub mod Attributes
+pub mod Decided
+pub mod Faults
+pub mod Lexical
+pub mod Rules
+pub mod Sites
+pub mod Texts
