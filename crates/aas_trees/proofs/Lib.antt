@@ -1,0 +1,4 @@
+pub mod Depth
+pub mod OnePath
+pub mod Patches
+pub mod Paths
