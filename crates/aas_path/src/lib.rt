@@ -1,0 +1,13 @@
+//! Paths: their text, the elements to which they lead, and changes of the elements there.
+//!
+//! A step by name costs the siblings that it passes, a step by place costs nothing more. No call copies a tree, and none but `insert`,
+//! `parse_path` and the two that print take memory.
+
+#![tactic(auto)]
+
+mod lending;
+mod lookup;
+mod steps;
+
+pub use lending::at_mut;
+pub use lookup::at;
