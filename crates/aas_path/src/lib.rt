@@ -5,9 +5,13 @@
 
 #![tactic(auto)]
 
+mod edits;
 mod lending;
 mod lookup;
+mod removal;
 mod steps;
 
+pub use edits::{InsertFault, ReplaceFault, insert, replace};
 pub use lending::at_mut;
 pub use lookup::at;
+pub use removal::remove;
