@@ -1,2 +1,5 @@
+pub mod Drops
+pub mod FitWalk
+pub mod PatchWalk
 mod Kept
 mod Lenders

@@ -1,1 +1,3 @@
+pub mod Gaps
 pub mod Refusals
+pub mod Walk

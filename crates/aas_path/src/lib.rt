@@ -5,13 +5,16 @@
 
 #![tactic(auto)]
 
+mod ahead;
 mod edits;
 mod lending;
 mod lookup;
+mod patches;
 mod removal;
 mod steps;
 
 pub use edits::{InsertFault, ReplaceFault, insert, replace};
 pub use lending::at_mut;
 pub use lookup::at;
+pub use patches::{apply, apply_all, patch_fits, patch_fits_all};
 pub use removal::remove;

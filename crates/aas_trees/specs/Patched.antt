@@ -1,6 +1,6 @@
 -- Trees with new attributes for some elements, which are named by their places in preorder. This profile's own rule, for
 -- the value updates of IDTA-01002-3-0.
-use Rattle.std.specs.Prelude.{◌≡◌, ℕ, ◌+◌, ◌<◌, ◌==◌, if◌then◌else◌, List, [], ◌∷◌, All, AllPairs, map, slice_get, Some}
+use Rattle.std.specs.Prelude.{◌≡◌, ℕ, ◌+◌, ◌<◌, ◌==◌, if◌then◌else◌, List, [], ◌∷◌, All, map, slice_get, Some}
 use Rattle.std.specs.List.{flat_map}
 use Rattle.aas_model.specs.Payload.{kind_of}
 use Rattle.aas_model.specs.declared.documents.Submodel.{Submodel}
@@ -19,9 +19,18 @@ kinds = fold-Element (List Kind) kinds_over
 abbrev pub kinds_of_all : List Element → List Kind
 kinds_of_all ks = flat_map kinds ks
 
+-- each rank is above the one before, and the first above k
+abbrev pub RiseFrom : ℕ → List PatchRow → Type 0
+RiseFrom k [] = Unit {0}
+RiseFrom k (r ∷ rows) = (k < r.rank) × RiseFrom r.rank rows
+
+abbrev pub Rise : List PatchRow → Type 0
+Rise [] = Unit {0}
+Rise (r ∷ rows) = RiseFrom r.rank rows
+
 -- each rank is above the one before, and the element at each rank is there and has the kind of the row's payload
 pub record Fits (ks : List Kind) (rows : List PatchRow) : Type 0 where
-  pub rising : AllPairs (λ r s. r.rank < s.rank) rows
+  pub rising : Rise rows
   pub kinds_agree : All (λ r. slice_get ks r.rank ≡ Some (kind_of r.payload)) rows
 
 -- the payload of the first row of rank k, or else the element's own
