@@ -1,5 +1,10 @@
 pub mod Drops
 pub mod FitWalk
-pub mod PatchWalk
 mod Kept
 mod Lenders
+pub mod NameSteps
+pub mod PatchWalk
+pub mod PlaceNumbers
+pub mod PlaceSteps
+pub mod RunsFound
+mod Tests

@@ -1,3 +1,6 @@
 pub mod Gaps
+pub mod PathText
 pub mod Refusals
+pub mod Runs
+pub mod StepText
 pub mod Walk

@@ -1,7 +1,7 @@
 //! Paths: their text, the elements to which they lead, and changes of the elements there.
 //!
-//! A step by name costs the siblings that it passes, a step by place costs nothing more. No call copies a tree, and none but `insert`,
-//! `parse_path` and the two that print take memory.
+//! A step by name costs the siblings that it passes, a step by place costs nothing more. No call copies a tree, and none
+//! but `insert`, `parse_path` and the two that print take memory.
 
 #![tactic(auto)]
 
@@ -9,12 +9,16 @@ mod ahead;
 mod edits;
 mod lending;
 mod lookup;
+mod parsing;
 mod patches;
+mod path_fault;
 mod removal;
+mod runs;
 mod steps;
 
 pub use edits::{InsertFault, ReplaceFault, insert, replace};
 pub use lending::at_mut;
 pub use lookup::at;
 pub use patches::{apply, apply_all, patch_fits, patch_fits_all};
+pub use path_fault::PathFault;
 pub use removal::remove;
