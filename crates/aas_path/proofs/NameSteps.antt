@@ -1,9 +1,9 @@
 -- A step by name at the front of a text, behind its dot.
-use Rattle.std.proofs.Common.{◌≡◌, ℕ, zero, suc, ◌+◌, ◌<◌, ◌≤◌, Bool, true, false, ◌⊎◌, ◌||◌, ◌&&◌, ◌==◌, List, [], ◌∷◌, ◌++◌, length, take, drop, get_or, refl, sym, ap, ◌∙◌, subst, inl, inr, lit≤, lit<, arith, length-append, append-nil, append_assoc, codes, decimal}
+use Rattle.std.proofs.Common.{◌≡◌, ℕ, zero, suc, ◌+◌, ◌-◌, ◌<◌, ◌≤◌, Bool, true, false, ◌⊎◌, ◌||◌, ◌&&◌, ◌==◌, List, [], ◌∷◌, ◌++◌, length, take, drop, get_or, refl, sym, ap, ◌∙◌, subst, inl, inr, lit≤, lit<, arith, length-append, append-nil, append_assoc, codes, decimal}
 use Rattle.std.proofs.Math.Numerals.{add-one}
 use Rattle.std.proofs.Math.Seq.{take-add}
 use Rattle.std.proofs.lemmas.Bool.Decides.{nat_tests}
-use Rattle.std.proofs.lemmas.List.{take-append-drop, take-take, length-take-le, drop_more, take_more}
+use Rattle.std.proofs.lemmas.List.{take-append-drop, take-take, take_rest, length-take-le, drop_more, take_more}
 use Rattle.std.proofs.lemmas.Str.{encodes-IsAscii}
 use Rattle.std.proofs.lemmas.Str.Ascii.{IsAscii-nil, IsAscii-cons}
 use Rattle.std.specs.Char.{is_ascii_alphabetic, is_ascii_alphanumeric}
@@ -71,11 +71,11 @@ encoded n h = encodes-IsAscii n (characters_ascii n (name_from n h).all)
 
 -- ---- a step by name, behind its dot
 
-record NameStep (text : List ℕ) (s : PathStep) (rest : List ℕ) : Type 0 where
-  name : List ℕ
-  is : s ≡ Name name
-  good : IsName name
-  whole : text ≡ name ++ rest
+pub record NameStep (text : List ℕ) (s : PathStep) (rest : List ℕ) : Type 0 where
+  pub name : List ℕ
+  pub is : s ≡ Name name
+  pub good : IsName name
+  pub whole : text ≡ name ++ rest
 
 pub tails : (c : ℕ) (x y : List ℕ) → c ∷ x ≡ c ∷ y → x ≡ y
 tails c x y e = cc
@@ -86,7 +86,7 @@ dot_no_bracket x y e = absurd (cc)
 dotted_name : (text n m rest : List ℕ) → id_short n → m ≡ n → 46 ∷ text ≡ 46 ∷ (m ++ rest) → NameStep text (Name n) rest
 dotted_name text n m rest keeps same whole = record { name = n; is = refl; good = name_from n keeps; whole = tails 46 text (m ++ rest) whole ∙ ap (λ (m : List ℕ). m ++ rest) same }
 
-dotted : (text : List ℕ) (s : PathStep) (rest : List ℕ) → IsStep (46 ∷ text) s rest → NameStep text s rest
+pub dotted : (text : List ℕ) (s : PathStep) (rest : List ℕ) → IsStep (46 ∷ text) s rest → NameStep text s rest
 dotted text (Name n) rest h = dotted_name text n (encode_utf8_all n) rest h.keeps (encoded n h.keeps) h.whole
 dotted text (Place i) rest h = absurd (dot_no_bracket text ((decimal i ++ codes "]") ++ rest) h.whole)
 
@@ -198,3 +198,12 @@ wrong_end text n run begins short not =
 
 pub good_name : (text : List ℕ) (n : ℕ) → IsRun is_name_character text n → BeginsWith is_ascii_alphabetic text → n ≤ 128 → id_short (take n text)
 good_name text n run begins short = name_to (take n text) (record { begins = begins_run text n run begins; all = run.front; short = omega (arith, length-take-le n text run.within) })
+
+pub name_ascii : (n : List ℕ) → id_short n → IsAscii n
+name_ascii n h = characters_ascii n (name_from n h).all
+
+-- a name that was cut off, with what is behind it
+pub cut_name : (text name : List ℕ) (n : ℕ) → name ≡ take n text → id_short (take n text) → EndsStep (drop n text) → IsStep (46 ∷ text) (Name name) (take (length text - n) (drop n text))
+cut_name text name n is good ends =
+    let step : IsStep (46 ∷ text) (Name (take n text)) (drop n text) = is_name text n (name_from (take n text) good) ends in
+    subst (λ (m : List ℕ). IsStep (46 ∷ text) (Name m) (take (length text - n) (drop n text))) (sym is) (subst (IsStep (46 ∷ text) (Name (take n text))) (sym (take_rest text n)) step)

@@ -53,18 +53,31 @@ place_of_digits ds h =
 
 -- ---- a step by place, behind its bracket
 
-record PlaceStep (text : List ℕ) (s : PathStep) (rest : List ℕ) : Type 0 where
-  digits : List ℕ
-  good : IsDigits digits
-  whole : text ≡ digits ++ 93 ∷ rest
-  ends : EndsStep rest
+pub record PlaceStep (text : List ℕ) (s : PathStep) (rest : List ℕ) : Type 0 where
+  pub place : ℕ
+  pub digits : List ℕ
+  pub is : s ≡ Place place
+  pub small : place < 10 ^ 9
+  pub writes : digits ≡ decimal place
+  pub good : IsDigits digits
+  pub whole : text ≡ digits ++ 93 ∷ rest
+  pub ends : EndsStep rest
 
-bracketed_place : (text ds rest : List ℕ) (s : PathStep) → IsDigits ds → EndsStep rest → 91 ∷ text ≡ 91 ∷ ((ds ++ 93 ∷ []) ++ rest) → PlaceStep text s rest
-bracketed_place text ds rest s good ends whole = record { digits = ds; good = good; whole = tails 91 text ((ds ++ 93 ∷ []) ++ rest) whole ∙ append_assoc ds (93 ∷ []) rest; ends = ends }
+bracketed_place : (text ds rest : List ℕ) (n : ℕ) → ds ≡ decimal n → n < 10 ^ 9 → EndsStep rest → 91 ∷ text ≡ 91 ∷ ((ds ++ 93 ∷ []) ++ rest) → PlaceStep text (Place n) rest
+bracketed_place text ds rest n is small ends whole = record {
+  place = n;
+  digits = ds;
+  is = refl;
+  small = small;
+  writes = is;
+  good = subst IsDigits (sym is) (digits_of_place n small);
+  whole = tails 91 text ((ds ++ 93 ∷ []) ++ rest) whole ∙ append_assoc ds (93 ∷ []) rest;
+  ends = ends;
+}
 
-bracketed : (text : List ℕ) (s : PathStep) (rest : List ℕ) → IsStep (91 ∷ text) s rest → PlaceStep text s rest
+pub bracketed : (text : List ℕ) (s : PathStep) (rest : List ℕ) → IsStep (91 ∷ text) s rest → PlaceStep text s rest
 bracketed text (Name n) rest h = absurd (dot_no_bracket (encode_utf8_all n ++ rest) text (sym h.whole))
-bracketed text (Place i) rest h = bracketed_place text (decimal i) rest (Place i) (digits_of_place i h.keeps) h.ends h.whole
+bracketed text (Place i) rest h = bracketed_place text (decimal i) rest i refl h.keeps h.ends h.whole
 
 place_text : (n : ℕ) (ds : List ℕ) → ds ≡ decimal n → 91 ∷ (ds ++ 93 ∷ []) ≡ step_text (Place n)
 place_text n ds is = ap (λ (ds : List ℕ). 91 ∷ (ds ++ 93 ∷ [])) is

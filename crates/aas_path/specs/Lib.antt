@@ -1,4 +1,5 @@
 pub mod Gaps
+pub mod ParseFaults
 pub mod PathText
 pub mod Refusals
 pub mod Runs

@@ -1,10 +1,15 @@
-ghost use Rattle.std.specs.Prelude.{◌≡◌, ◌+◌, ◌<◌, ◌≤◌, ◌^◌, ◌∷◌, ◌↔◌, length, take, drop, decimal, slice_get, Some, IsTrue, IfOk, MatchResult};
+ghost use Rattle.std.specs.Prelude.{◌≡◌, ◌+◌, ◌<◌, ◌≤◌, ◌^◌, ◌∷◌, ◌↔◌, length, take, drop, decimal, slice_get, ◌⊎◌, ℕ, List, Some, IsTrue, IfOk, IfErr, MatchResult};
+ghost use Rattle.aas_model.specs.declared.path.PathStep.{PathStep};
+ghost use Rattle.aas_path.specs.ParseFaults.{IsStepFault, IsPathFault, behind};
+ghost use Rattle.aas_path.specs.PathText.{IsPath};
 ghost use Rattle.aas_path.specs.StepText.{EndsStep, IsPlace, IsStep, IsNoStep, most_digits};
 ghost use Rattle.aas_trees.specs.PathRule.{id_short};
 
 use crate::runs::{begins_with, run_len};
+use crate::path_fault::PathFault;
 use aas_forms::{Ascii, ByteClass, after_word};
-use aas_model::PathStep;
+use aas_model::{Many, NoMemory, Path, PathStep, Text};
+use std::alloc::Global;
 
 /// A letter, a digit or `_`.
 #[derive(Clone, Copy)]
@@ -92,5 +97,84 @@ fn place(text: &[u8]) -> Result<(u64, &[u8]), usize>
         Ok((number(&text[..len]), behind))
     } else {
         Err(len + 1)
+    }
+}
+
+// The text of a name.
+fn name_of(alloc: Global, name: &[u8]) -> Result<Text, NoMemory>
+    requires { id_short name.now }
+    ensures { IfOk result (λ text. text ≡ name.now) }
+{
+    match str::from_utf8(name) {
+        Ok(name) => Text::from_str(alloc, name),
+        // A name is ASCII.
+        Err(_) => Err(NoMemory),
+    }
+}
+
+// The step behind its dot, and what is behind it.
+fn named(alloc: Global, text: &[u8]) -> Result<(PathStep, &[u8]), PathFault>
+    ensures { MatchResult result (λ x. IsStep (46 ∷ text.now) x.0 x.1.now) (IsStepFault 46 text.now) }
+{
+    match name_len(text) {
+        Ok(len) => match name_of(alloc, &text[..len]) {
+            Ok(name) => Ok((PathStep::Name(name), &text[len..])),
+            Err(NoMemory) => Err(PathFault::NoMemory),
+        },
+        Err(at) => Err(PathFault::BadPath { at }),
+    }
+}
+
+// The step behind its first byte, `.` or `[`, and what is behind it.
+fn step(alloc: Global, lead: u8, text: &[u8]) -> Result<(PathStep, &[u8]), PathFault>
+    requires { (lead ≡ 46) ⊎ (lead ≡ 91) }
+    ensures { MatchResult result (λ x. IsStep (lead ∷ text.now) x.0 x.1.now) (IsStepFault lead text.now) }
+{
+    if lead == b'.' {
+        return named(alloc, text);
+    }
+    match place(text) {
+        Ok((place, behind)) => Ok((PathStep::Place(place), behind)),
+        Err(at) => Err(PathFault::BadPath { at }),
+    }
+}
+
+// The same fault of the text that `read` more bytes stand before.
+fn behind(read: usize, fault: PathFault) -> PathFault
+    requires { (at : ℕ) → fault ≡ PathFault.BadPath at → read + at < 2 ^ 64 }
+    ensures { result ≡ behind read fault }
+{
+    match fault {
+        PathFault::BadPath { at } => PathFault::BadPath { at: read + at },
+        PathFault::NoMemory => PathFault::NoMemory,
+    }
+}
+
+/// The path that the text writes: an idShort, and behind it any number of idShorts after `.` and of places in brackets.
+///
+/// IDTA-01002-3-0, idShortPath.
+pub fn parse_path(alloc: Global, text: &[u8]) -> Result<Path, PathFault>
+    ensures path { IfOk result (λ path. IsPath text.now path.steps) }
+    ensures only { (p : List PathStep) → IsPath text.now p → IfOk result (λ path. path.steps ≡ p) }
+    ensures bad { IfErr result (IsPathFault text.now) }
+{
+    let mut steps = Many::new(alloc);
+    let mut lead = b'.';
+    let mut rest = text;
+    loop {
+        let read = text.len() - rest.len();
+        match step(alloc, lead, rest) {
+            Ok((step, next)) => {
+                steps.push(step)?;
+                match next {
+                    [] => return Ok(Path { steps }),
+                    [first, more @ ..] => {
+                        lead = *first;
+                        rest = more;
+                    },
+                }
+            },
+            Err(fault) => return Err(behind(read, fault)),
+        }
     }
 }

@@ -12,6 +12,11 @@ pub enum PathFault {
 }
 
 impl From<NoMemory> for PathFault {
+    ghost use Rattle.std.specs.Prelude.{◌≡◌};
+    ghost use Rattle.aas_path.specs.declared.path_fault.PathFault.TheVariants as path_fault;
+
+    ghost from_gives = { λ _ fault. fault ≡ path_fault.NoMemory };
+
     fn from(_fault: NoMemory) -> PathFault {
         PathFault::NoMemory
     }
