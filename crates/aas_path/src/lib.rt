@@ -1,0 +1,27 @@
+//! Paths: their text, the elements to which they lead, and changes of the elements there.
+//!
+//! A step by name costs the siblings that it passes, a step by place costs nothing more. No call copies a tree, and none
+//! but `insert`, `parse_path` and the two that print take memory.
+
+#![tactic(auto)]
+
+mod ahead;
+mod edits;
+mod lending;
+mod lookup;
+mod parsing;
+mod patches;
+mod path_fault;
+mod printing;
+mod removal;
+mod runs;
+mod steps;
+
+pub use edits::{InsertFault, ReplaceFault, insert, replace};
+pub use lending::at_mut;
+pub use lookup::at;
+pub use parsing::parse_path;
+pub use patches::{apply, apply_all, patch_fits, patch_fits_all};
+pub use path_fault::PathFault;
+pub use printing::{print_fault_path, print_path};
+pub use removal::remove;

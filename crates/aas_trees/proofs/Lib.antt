@@ -1,0 +1,5 @@
+pub mod Depth
+pub mod OnePath
+pub mod Patches
+pub mod Paths
+pub mod Removed

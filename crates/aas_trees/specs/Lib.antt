@@ -1,0 +1,10 @@
+pub mod Below
+pub mod Children
+pub mod Edits
+pub mod ElementAt
+pub mod Laws
+pub mod Lent
+pub mod PathRule
+pub mod Patched
+pub mod Places
+pub mod WithElement
