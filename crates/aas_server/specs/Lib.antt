@@ -1,0 +1,4 @@
+pub mod Answer
+pub mod Console
+pub mod PathText
+pub mod Status
