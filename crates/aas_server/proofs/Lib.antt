@@ -1,1 +1,3 @@
+mod Answers
 pub mod KnownBytes
+mod Words

@@ -1,9 +1,15 @@
-//! The console part of the commands of the program, and the exit status.
+//! The commands of the program over any console: what each of them answers, and the exit status.
 #![tactic(auto)]
 
 mod answered;
+mod commands;
 mod console;
 mod path_text;
 mod status;
+mod value;
 
+pub use commands::run;
 pub use status::Status;
+
+#[cfg(test)]
+mod tests;

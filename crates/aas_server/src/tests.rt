@@ -1,0 +1,101 @@
+// The commands over a link in memory.
+use crate::run;
+use aas_outside::MemLink;
+use aas_text::{Many, Text};
+use std::alloc::Global;
+use std::test::Fail;
+
+fn words_of(alloc: Global, words: &[&str]) -> Result<Many<Text>, Fail> {
+    let mut all = Many::new(alloc);
+    for word in words {
+        all.push(Text::from_str(alloc, word)?)?;
+    }
+    Ok(all)
+}
+
+const MOTOR: &str =
+    r#"{"modelType":"SubmodelElementCollection","idShort":"Motor","value":[{"modelType":"Property","idShort":"Maker","valueType":"xs:string","value":"Acme"},{"modelType":"Property","idShort":"Type","valueType":"xs:string","value":"M1"}]}"#;
+
+#[test]
+fn inputs_of_value(rt: HostRuntime) -> Result<(), Fail> {
+    let alloc = rt.alloc();
+    let rows = [
+        (MOTOR, 0, "{\"Maker\":\"Acme\",\"Type\":\"M1\"}\n"),
+        ("", 7, "aasd: refused 9 not JSON\n"),
+        (r#"{"modelType":"Prop"#, 7, "aasd: refused 9 not JSON\n"),
+        (
+            r#"{"modelType":"Capability","idShort":"C"}"#,
+            7,
+            "aasd: refused 23 not yet\n",
+        ),
+        ("[]", 7, "aasd: refused 23 not yet\n"),
+        (
+            r#"{"modelType":"Property","idShort":"Speed","valueType":"xs:int","value":"-2147483648"}"#,
+            0,
+            "-2147483648\n",
+        ),
+        (
+            r#"{"modelType":"SubmodelElementCollection","idShort":"C","value":[{"modelType":"Property","idShort":"Speed","valueType":"xs:int","value":"2147483648"}]}"#,
+            7,
+            "aasd: refused 18 lexical fault at C.Speed\n",
+        ),
+    ];
+    let words = words_of(alloc, &["value"])?;
+    for piece in [1, 7, 10_000] {
+        for (input, status, text) in rows {
+            let mut console = MemLink::new(alloc, input.as_bytes(), piece, 100, &[])?;
+            assert_eq!(rt; run(alloc, &words, &mut console), status, "{input}");
+            assert_eq!(rt; console.sent(), text.as_bytes(), "{input}");
+        }
+    }
+    Ok(())
+}
+
+fn spaces(alloc: Global, count: usize) -> Result<Vec<u8>, Fail> {
+    Ok(vec![in alloc; b' '; count]?)
+}
+
+#[test]
+fn an_input_that_is_too_large(rt: HostRuntime) -> Result<(), Fail> {
+    let alloc = rt.alloc();
+    let words = words_of(alloc, &["value"])?;
+    for (count, text) in [
+        (4_194_304, "aasd: refused 9 not JSON\n"),
+        (4_194_305, "aasd: refused 2 too large\n"),
+    ] {
+        let input = spaces(alloc, count)?;
+        let mut console = MemLink::new(alloc, &input, 5000, 100, &[])?;
+        assert_eq!(rt; run(alloc, &words, &mut console), 7);
+        assert_eq!(rt; console.sent(), text.as_bytes());
+    }
+    Ok(())
+}
+
+#[test]
+fn words_that_are_no_command(rt: HostRuntime) -> Result<(), Fail> {
+    let alloc = rt.alloc();
+    let rows: [&[&str]; 4] = [&[], &["Value"], &["value", "value"], &["-v"]];
+    for words in rows {
+        let words = words_of(alloc, words)?;
+        let mut console = MemLink::new(alloc, b"[]", 1, 100, &[])?;
+        assert_eq!(rt; run(alloc, &words, &mut console), 2);
+        assert_eq!(rt; console.sent(), b"aasd: not a command\n".as_slice());
+    }
+    Ok(())
+}
+
+// A byte a call: two takes of the input, one of its end, then the gives of the line.
+#[test]
+fn a_console_that_fails(rt: HostRuntime) -> Result<(), Fail> {
+    let alloc = rt.alloc();
+    let words = words_of(alloc, &["value"])?;
+    for (call, sent) in [(1, ""), (3, ""), (4, ""), (5, "a"), (10, "aasd: ")] {
+        let mut console = MemLink::new(alloc, b"[]", 1, 100, &[call])?;
+        assert_eq!(rt; run(alloc, &words, &mut console), 3);
+        assert_eq!(rt; console.sent(), sent.as_bytes());
+    }
+    let mut full = MemLink::new(alloc, b"[]", 1, 4, &[])?;
+    assert_eq!(rt; run(alloc, &words, &mut full), 3);
+    assert_eq!(rt; full.sent(), b"aasd".as_slice());
+    Ok(())
+}

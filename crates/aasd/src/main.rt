@@ -1,0 +1,43 @@
+//! `aasd`: the commands of `aas_server` on the console.
+#![tactic(auto)]
+
+mod console;
+
+use aas_server::{Status, run};
+use aas_text::{Many, NoMemory, Text};
+use console::ConsoleLink;
+use std::env;
+use std::io::ErrorKind;
+use std::process::ExitCode;
+use std::rt::Env;
+
+fn main(rt: HostRuntime) -> ExitCode {
+    let mut console = ConsoleLink::new(rt.stdin(), rt.stdout());
+    let status = match words(&rt) {
+        Ok(words) => run(rt.alloc(), &words, &mut console),
+        Err(NoMemory) => Status::NoMemory.code(),
+    };
+    ExitCode::from(status)
+}
+
+/// The words of the command line, without the program's name. Where one of them isn't UTF-8 they
+/// make no command, and none is handed on.
+fn words(rt: &(impl Env + AllocGlobal)) -> Result<Many<Text>, NoMemory> {
+    let mut words = Many::new(rt.alloc());
+    match env::args(rt) {
+        Ok(args) => {
+            for word in args.skip(1) {
+                words.push(Text::from_str(rt.alloc(), word.as_str())?)?;
+            }
+        }
+        Err(fault) => {
+            if fault.kind() == ErrorKind::OutOfMemory {
+                return Err(NoMemory);
+            }
+        }
+    }
+    Ok(words)
+}
+
+#[cfg(test)]
+mod tests;
