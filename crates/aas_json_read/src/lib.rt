@@ -14,6 +14,8 @@ mod payload;
 mod read;
 mod semantics;
 mod sorts;
+#[cfg(test)]
+mod tests;
 
 ghost use Rattle.std.specs.Prelude.{◌-◌};
 ghost use Rattle.serde_json.specs.View.{view};
