@@ -1,3 +1,4 @@
+pub mod Folded
 pub mod KeyTexts
 pub mod Least
 pub mod Lists

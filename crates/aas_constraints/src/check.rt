@@ -7,9 +7,7 @@ ghost use Rattle.aas_constraints.specs.Walk.{own_of, above_of, Knows, found_in, 
 use crate::documents::{concept_fault, is_template, shell_fault, submodel_fault};
 use crate::names::meet_name;
 use crate::place::{first_broken, first_semantics, step_to};
-use aas_model::{
-    Concept, Element, Fault, Many, NoMemory, Path, Reference, Shell, Submodel,
-};
+use aas_model::{Concept, Element, Fault, Many, NoMemory, Path, Reference, Shell, Submodel};
 use std::alloc::Global;
 use std::collections::BTreeSet;
 

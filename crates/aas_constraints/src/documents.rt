@@ -171,8 +171,7 @@ fn global_ids_agree(asset: &AssetInformation) -> bool
     ensures { result ≡ global_ids_agree asset.now }
 {
     let ids = asset.specific_asset_ids.as_slice();
-    ids.iter()
-        .all(|id| !is_global_name(&id.name) || equals(&asset.global_asset_id, &id.value))
+    ids.iter().all(|id| !is_global_name(&id.name) || equals(&asset.global_asset_id, &id.value))
 }
 
 /// Whether a globalAssetId or a specificAssetId is there. AASd-131.

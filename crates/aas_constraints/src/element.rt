@@ -43,7 +43,9 @@ fn is_name_byte(character: char) -> bool
 fn are_name_bytes_after_first(text: &str) -> bool
     ensures { result ≡ list_all is_name_byte (drop 1 (chars text.now)) }
 {
-    text.chars().skip(1).all(|character| is_name_byte(character))
+    text.chars()
+        .skip(1)
+        .all(|character| is_name_byte(character))
 }
 
 #[tactic(auto, using(crate::proofs::Lists::name_some, crate::proofs::Lists::name_none))]
@@ -91,7 +93,8 @@ fn specific_asset_ids(payload: &Payload) -> &[SpecificAssetId]
 {
     match payload {
         Payload::Entity {
-            specific_asset_ids, ..
+            specific_asset_ids,
+            ..
         } => specific_asset_ids.as_slice(),
         _ => &[],
     }

@@ -99,15 +99,16 @@ impl HoldsReferences for Payload {
     #[tactic(auto, using(crate::proofs::Least::fault_append))]
     fn references_fault(&self) -> Option<u16> {
         match self {
-            Payload::Property { value_id, .. }
-            | Payload::MultiLanguageProperty { value_id, .. } => fault_of_option(value_id),
+            Payload::Property { value_id, .. } | Payload::MultiLanguageProperty { value_id, .. } =>
+                fault_of_option(value_id),
             Payload::ReferenceElement { value } => fault_of_option(value),
             Payload::RelationshipElement { first, second }
             | Payload::AnnotatedRelationshipElement { first, second } => {
                 least(fault_of_option(first), fault_of_option(second))
             }
             Payload::Entity {
-                specific_asset_ids, ..
+                specific_asset_ids,
+                ..
             } => fault_among(specific_asset_ids.as_slice()),
             Payload::BasicEventElement {
                 observed,

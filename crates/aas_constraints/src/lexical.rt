@@ -78,19 +78,24 @@ fn extension_has_form(extension: &Extension) -> bool
 pub(crate) fn extensions_have_form(extensions: &[Extension]) -> bool
     ensures { result ≡ list_all extension_has_form extensions.now }
 {
-    extensions.iter().all(|extension| extension_has_form(extension))
+    extensions
+        .iter()
+        .all(|extension| extension_has_form(extension))
 }
 
 pub(crate) fn qualifiers_have_types(qualifiers: &[Qualifier]) -> bool
     ensures { result ≡ list_all qualifier_has_form qualifiers.now }
 {
-    qualifiers.iter().all(|qualifier| is_there(&qualifier.qualifier_type))
+    qualifiers
+        .iter()
+        .all(|qualifier| is_there(&qualifier.qualifier_type))
 }
 
 pub(crate) fn specific_asset_ids_have_form(ids: &[SpecificAssetId]) -> bool
     ensures { result ≡ list_all specific_asset_id_has_form ids.now }
 {
-    ids.iter().all(|id| is_there(&id.name) && is_identifier(&id.value))
+    ids.iter()
+        .all(|id| is_there(&id.name) && is_identifier(&id.value))
 }
 
 pub(crate) fn languages_have_form(texts: &[LangText]) -> bool
@@ -118,7 +123,9 @@ pub(crate) fn payload_has_form(payload: &Payload) -> bool
 {
     match payload {
         Payload::Property {
-            value_type, value, ..
+            value_type,
+            value,
+            ..
         } => value_has_form(*value_type, value),
         Payload::Range {
             value_type,
@@ -131,7 +138,8 @@ pub(crate) fn payload_has_form(payload: &Payload) -> bool
             value,
         } => is_media_type_if_any(content_type) && value_has_form(ValueType::Base64Binary, value),
         Payload::Entity {
-            global_asset_id, ..
+            global_asset_id,
+            ..
         } => is_identifier_if_any(global_asset_id),
         Payload::BasicEventElement {
             last_update,

@@ -28,13 +28,17 @@ pub(crate) fn has_main_semantics(semantics: &Semantics) -> bool
 pub(crate) fn qualifiers_have_main(qualifiers: &[Qualifier]) -> bool
     ensures { result ≡ list_all (λ q. has_main_semantics q.semantics) qualifiers.now }
 {
-    qualifiers.iter().all(|qualifier| has_main_semantics(&qualifier.semantics))
+    qualifiers
+        .iter()
+        .all(|qualifier| has_main_semantics(&qualifier.semantics))
 }
 
 pub(crate) fn extensions_have_main(extensions: &[Extension]) -> bool
     ensures { result ≡ list_all (λ a. has_main_semantics a.semantics) extensions.now }
 {
-    extensions.iter().all(|extension| has_main_semantics(&extension.semantics))
+    extensions
+        .iter()
+        .all(|extension| has_main_semantics(&extension.semantics))
 }
 
 pub(crate) fn specific_asset_ids_have_main(ids: &[SpecificAssetId]) -> bool
@@ -56,7 +60,9 @@ fn is_template_qualifier(qualifier: &Qualifier) -> bool
 pub(crate) fn has_template_qualifier(qualifiers: &[Qualifier]) -> bool
     ensures { result ≡ has_template_qualifier qualifiers.now }
 {
-    qualifiers.iter().any(|qualifier| is_template_qualifier(qualifier))
+    qualifiers
+        .iter()
+        .any(|qualifier| is_template_qualifier(qualifier))
 }
 
 fn is_external_if_any(reference: &Option<Reference>) -> bool
@@ -72,5 +78,6 @@ fn is_external_if_any(reference: &Option<Reference>) -> bool
 pub(crate) fn subjects_are_external(ids: &[SpecificAssetId]) -> bool
     ensures { result ≡ list_all (λ a. if_any (λ r. is_external (out-Reference r).ref_type) a.external_subject_id) ids.now }
 {
-    ids.iter().all(|id| is_external_if_any(&id.external_subject_id))
+    ids.iter()
+        .all(|id| is_external_if_any(&id.external_subject_id))
 }

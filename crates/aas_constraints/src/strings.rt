@@ -132,7 +132,8 @@ impl HoldsTexts for Payload {
                 value,
             } => is_string_if_any(content_type) && is_string_if_any(value),
             Payload::Entity {
-                global_asset_id, ..
+                global_asset_id,
+                ..
             } => is_string_if_any(global_asset_id),
             Payload::BasicEventElement {
                 message_topic,

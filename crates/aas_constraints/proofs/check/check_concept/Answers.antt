@@ -4,7 +4,7 @@ use Rattle.aas_constraints.proofs.Walks.{document_none, document_some}
 use Rattle.aas_constraints.proofs.check.check_concept.Goals as goal
 
 pub returns-in-Some : goal.returns-in-Some
-returns-in-Some c = ap Some c.fault_here-in-Some.ensures ∙ document_some concept_rules c.args.d.now c.in-Some.number (sym c.in_ok-number.ensures ∙ c.in-Some.is)
+returns-in-Some c = ap Some c.fault_here.ensures ∙ document_some concept_rules c.args.d.now c.in-Some.number (sym c.in_ok-number.ensures ∙ c.in-Some.is)
 
 pub returns-in-None : goal.returns-in-None
-returns-in-None c = document_none concept_rules c.args.d.now (sym c.in_ok-concept_fault.ensures ∙ c.in-None.is)
+returns-in-None c = document_none concept_rules c.args.d.now (sym c.in_ok-number.ensures ∙ c.in-None.is)
