@@ -1,5 +1,5 @@
 -- The spelling of an element, by that of its children.
-use Rattle.std.proofs.Common.{◌≡◌, ℕ, ◌<◌, ◌&&◌, List, [], ◌∷◌, ◌++◌, length, get_or, zero, suc, Bool, true, map, codes, Option, refl, sym, ap, ap₂, ◌∙◌, subst, arith}
+use Rattle.std.proofs.Common.{◌≡◌, ℕ, ◌<◌, ◌&&◌, List, [], ◌∷◌, ◌++◌, length, get_or, Bool, true, map, codes, Option, refl, sym, ap, ap₂, ◌∙◌, subst}
 use Rattle.serde_json.specs.Data.{Data, Members, object, no_items}
 use Rattle.aas_table.specs.Plain.{listed}
 use Rattle.aas_table.specs.Spelled.{attribute, spelled, list_of, onto}

@@ -1,4 +1,4 @@
-use Rattle.std.proofs.Common.{codes, ap, sym, ◌∙◌}
+use Rattle.std.proofs.Common.{codes, ap, ◌∙◌}
 use Rattle.serde_json.specs.Data.{object}
 use Rattle.aas_table.specs.Spelled.{attribute, list_of}
 use Rattle.aas_table.specs.Table.{has_semantics}

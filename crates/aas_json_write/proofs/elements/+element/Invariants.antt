@@ -1,4 +1,4 @@
-use Rattle.std.proofs.Common.{◌≡◌, ℕ, ◌<◌, List, ◌++◌, true, length, get_or, map, filter, take, drop}
+use Rattle.std.proofs.Common.{◌≡◌, ℕ, ◌<◌, ◌++◌, true, length, get_or, map, filter, take, drop}
 use Rattle.aas_members.specs.Array.{items_of}
 use Rattle.aas_mapping.specs.Elements.{spelled_child, spell_variable}
 use Rattle.aas_model.specs.declared.element.Element.{Element}
