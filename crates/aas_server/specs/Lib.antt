@@ -1,6 +1,5 @@
 pub mod Answer
 pub mod Commands
 pub mod Console
-pub mod PathText
 pub mod Status
 pub mod ValueAnswer

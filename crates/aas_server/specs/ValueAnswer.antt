@@ -13,11 +13,11 @@ use Rattle.aas_table.specs.TooDeep.{limits, too_deep}
 use Rattle.aas_spelling.specs.Reading.{reading}
 use Rattle.aas_spelling.specs.Spells.{Spells}
 use Rattle.aas_mapping.specs.Trees.{elements}
+use Rattle.aas_path.specs.PathText.{fault_path_text}
 use Rattle.aas_rules.specs.Faults.{element_faults, first}
 use Rattle.aas_value.specs.ValueForm.{value_form}
 use Rattle.aas_server.specs.Answer.{Answer, done, refused}
 use Rattle.aas_server.specs.Console.{input_limit}
-use Rattle.aas_server.specs.PathText.{path_text}
 
 -- ---- an element that was read
 
@@ -28,8 +28,8 @@ constraint_name n = codes "AASd-" ++ (if nat_lt n 10 then codes "00" else (if na
 -- number 0 stands for the lexical rules
 abbrev pub fault_answer : Fault → Answer
 fault_answer f =
-    if f.number == 0 then refused 18 (codes "lexical fault at " ++ path_text f.path)
-    else refused 19 (constraint_name f.number ++ codes " at " ++ path_text f.path)
+    if f.number == 0 then refused 18 (codes "lexical fault at " ++ fault_path_text f.path.steps)
+    else refused 19 (constraint_name f.number ++ codes " at " ++ fault_path_text f.path.steps)
 
 -- by an element's value form and its first fault: the form as compact text
 abbrev pub form_answer : Option Data → Option Fault → Answer

@@ -4,7 +4,6 @@
 mod answered;
 mod commands;
 mod console;
-mod path_text;
 mod status;
 mod value;
 

@@ -23,21 +23,46 @@ fn inputs_of_value(rt: HostRuntime) -> Result<(), Fail> {
         (MOTOR, 0, "{\"Maker\":\"Acme\",\"Type\":\"M1\"}\n"),
         ("", 7, "aasd: refused 9 not JSON\n"),
         (r#"{"modelType":"Prop"#, 7, "aasd: refused 9 not JSON\n"),
+        ("[]", 7, "aasd: refused 10 not in the mapping at $\n"),
         (
             r#"{"modelType":"Capability","idShort":"C"}"#,
             7,
-            "aasd: refused 23 not yet\n",
+            "aasd: refused 16 no value form\n",
         ),
-        ("[]", 7, "aasd: refused 23 not yet\n"),
         (
             r#"{"modelType":"Property","idShort":"Speed","valueType":"xs:int","value":"-2147483648"}"#,
             0,
             "-2147483648\n",
         ),
         (
-            r#"{"modelType":"SubmodelElementCollection","idShort":"C","value":[{"modelType":"Property","idShort":"Speed","valueType":"xs:int","value":"2147483648"}]}"#,
+            r#"{"modelType":"Property","idShort":"Speed","valueType":"xs:int","value":"2147483648"}"#,
             7,
-            "aasd: refused 18 lexical fault at C.Speed\n",
+            "aasd: refused 18 lexical fault at Speed\n",
+        ),
+        (
+            r#"{"modelType":"Range","idShort":"R","valueType":"xs:int","min":"1"}"#,
+            0,
+            "{\"max\":null,\"min\":1}\n",
+        ),
+        (
+            r#"{"modelType":"SubmodelElementCollection","idShort":"C","value":[{"modelType":"Property","idShort":"P","valueType":"xs:int"},{"modelType":"Property","idShort":"P","valueType":"xs:int"}]}"#,
+            7,
+            "aasd: refused 19 AASd-022 at C.P\n",
+        ),
+        (
+            r#"{"modelType":"SubmodelElementList","idShort":"L","typeValueListElement":"Property"}"#,
+            7,
+            "aasd: refused 19 AASd-109 at L\n",
+        ),
+        (
+            r#"{"modelType":"Property","valueType":"xs:int"}"#,
+            7,
+            "aasd: refused 19 AASd-117 at [0]\n",
+        ),
+        (
+            r#"{"modelType":"Entity","idShort":"E","entityType":"CoManagedEntity","globalAssetId":"urn:a"}"#,
+            7,
+            "aasd: refused 19 AASd-014 at E\n",
         ),
     ];
     let words = words_of(alloc, &["value"])?;

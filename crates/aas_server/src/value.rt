@@ -8,11 +8,11 @@ ghost use Rattle.aas_server.specs.Answer.{done, refused, answer_of};
 ghost use Rattle.aas_server.specs.ValueAnswer.{constraint_name, fault_answer, element_answer, IsValueAnswer};
 
 use crate::answered::{Answered, refusal};
-use crate::path_text::print_path;
 use aas_constraints::check_element;
 use aas_json_read::read_element;
 use aas_members::Exact;
 use aas_model::{Element, Extent, Fault, ReadFault};
+use aas_path::print_fault_path;
 use aas_text::{NoMemory, Text};
 use aas_value::element_value;
 use itoa::Buffer;
@@ -26,7 +26,12 @@ pub fn answer_value(alloc: Global, input: &[u8]) -> Result<Answered, NoMemory>
     match read_element(alloc, input, 1) {
         Ok(element) => answer_element(alloc, &element),
         Err(ReadFault::NotJson) => refusal(alloc, 9, b"not JSON"),
-        Err(ReadFault::NotMapping { pointer }) => refusal_at(alloc, 10, b"not in the mapping at ", &pointer),
+        Err(ReadFault::NotMapping { pointer }) => refusal_at(
+            alloc,
+            10,
+            b"not in the mapping at ",
+            &pointer,
+        ),
         Err(ReadFault::TooDeep { pointer }) => refusal_at(alloc, 11, b"too deep at ", &pointer),
         Err(ReadFault::NoMemory) => Err(NoMemory),
     }
@@ -59,12 +64,12 @@ fn answer_fault(alloc: Global, fault: &Fault) -> Result<Answered, NoMemory>
 {
     if fault.number == 0 {
         let mut text = Vec::from_slice(alloc, b"lexical fault at ")?;
-        print_path(&fault.path, &mut text)?;
+        print_fault_path(&fault.path, &mut text)?;
         refusal(alloc, 18, &text)
     } else {
         let mut text = constraint_name(alloc, fault.number)?;
         text.extend_from_slice(b" at ")?;
-        print_path(&fault.path, &mut text)?;
+        print_fault_path(&fault.path, &mut text)?;
         refusal(alloc, 19, &text)
     }
 }

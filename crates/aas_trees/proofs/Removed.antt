@@ -27,4 +27,4 @@ unfolding element_below removed_among
 removed_among-none [] l s ks e = last_none ks (child_by l s ks) e
 removed_among-none (t ∷ p) l s ks e =
     further_none ks (λ k. with_kids k (removed_among (is_list k) t p (kids_of k))) (element_below (t ∷ p)) (child_by l s ks) (λ c is. (child_by-there l s ks c is).1)
-        (λ k none. ap (with_kids k) (removed_among-none p (is_list k) t (kids_of k) none) ∙ roll-out-Element k) e
+    (λ k none. ap (with_kids k) (removed_among-none p (is_list k) t (kids_of k) none) ∙ roll-out-Element k) e
