@@ -21,9 +21,6 @@ use Rattle.aas_trees.specs.PathRule.{is_name_character, id_short, StepKeepsRule}
 
 -- ---- names are ASCII
 
-letter_ascii : (c : ℕ) → is_ascii_alphabetic c ≡ true → c < 128
-letter_ascii c h = grind (arith, nat_tests)
-
 letter_in_name : (c : ℕ) → is_ascii_alphabetic c ≡ true → is_name_character c ≡ true
 letter_in_name c h = grind (arith, nat_tests)
 
@@ -161,7 +158,7 @@ too_long text n run begins long =
     let long_text : 129 ≤ length text = omega (arith, run.within) in
     let front : length (take 128 text) ≡ 128 = length-take-le 128 text (omega arith) in
     let good : id_short (take 128 text) =
-        name_to (take 128 text) (record { begins = begins_take 128 text (lit< tt) begins; all = front_of is_name_character text n 128 run (omega arith); short = omega arith }) in record {
+    name_to (take 128 text) (record { begins = begins_take 128 text (lit< tt) begins; all = front_of is_name_character text n 128 run (omega arith); short = omega arith }) in record {
       none = λ s rest h.
           let d = dotted text s rest h in
           let no_longer = front_no_longer is_name_character (take n text) d.name (drop n text) rest run.front d.good.all (end_stops_name rest h.ends) (take-append-drop n text ∙ d.whole) in

@@ -166,8 +166,8 @@ part_of : (text : List ℕ) (steps : List PathStep) (lead : ℕ) (rest more : Li
 part_of text steps lead rest more n k r is =
     let far : suc n ≡ length (steps_text steps) + (k + 1) = omega arith in
     let front : 46 ∷ take n text ≡ steps_text steps ++ take (k + 1) (lead ∷ rest) =
-        ap (λ (j : ℕ). take j (46 ∷ text)) far ∙ ap (take (length (steps_text steps) + (k + 1))) r.whole ∙ take-add (length (steps_text steps)) (k + 1) (steps_text steps ++ lead ∷ rest)
-        ∙ (λ i. take-append_seam (steps_text steps) (lead ∷ rest) i ++ take (k + 1) (drop-append_seam (steps_text steps) (lead ∷ rest) i)) in
+    ap (λ (j : ℕ). take j (46 ∷ text)) far ∙ ap (take (length (steps_text steps) + (k + 1))) r.whole ∙ take-add (length (steps_text steps)) (k + 1) (steps_text steps ++ lead ∷ rest)
+    ∙ (λ i. take-append_seam (steps_text steps) (lead ∷ rest) i ++ take (k + 1) (drop-append_seam (steps_text steps) (lead ∷ rest) i)) in
     ap (λ (x : List ℕ). x ++ more) front ∙ append_assoc (steps_text steps) (take (k + 1) (lead ∷ rest)) more
 
 steps-append : (p q : List PathStep) → steps_text (p ++ q) ≡ steps_text p ++ steps_text q
@@ -182,7 +182,7 @@ read_begins text steps lead rest n k r is bad =
     let s : PathStep = bad.begins.0 in
     let more : List ℕ = bad.begins.1 in
     let whole : 46 ∷ (take n text ++ more) ≡ steps_text (steps ++ s ∷ []) =
-        part_of text steps lead rest more n k r is ∙ ap (λ (x : List ℕ). steps_text steps ++ x) (bad.begins.3 ∙ sym (append-nil (step_text s))) ∙ sym (steps-append steps (s ∷ [])) in
+    part_of text steps lead rest more n k r is ∙ ap (λ (x : List ℕ). steps_text steps ++ x) (bad.begins.3 ∙ sym (append-nil (step_text s))) ∙ sym (steps-append steps (s ∷ [])) in
     (more, steps ++ s ∷ [], path_undotted (steps ++ s ∷ []) (take n text ++ more) whole (keep-append steps s r.keep bad.begins.2))
 
 read_no_longer : (text : List ℕ) (steps : List PathStep) (lead : ℕ) (rest : List ℕ) (n k m : ℕ) → Read text steps lead rest → n ≡ length (steps_text steps) + k → IsNoStep (lead ∷ rest) (k + 1) → n < m → m ≤ length text → ¬ BeginsPath (take m text)
@@ -196,9 +196,9 @@ read_no_longer text steps lead rest n k m r is bad lt le h =
     let behind : List ℕ = take j (drop (k + 1 + 1) (lead ∷ rest)) ++ more in
     let first : take (k + 1 + 1) (lead ∷ rest) ≡ lead ∷ take (k + 1) rest = ap (λ (i : ℕ). take i (lead ∷ rest)) (add-one (k + 1)) in
     let whole : 46 ∷ (take m text ++ more) ≡ steps_text steps ++ lead ∷ (take (k + 1) rest ++ behind) =
-        part_of text steps lead rest more m (k + 1 + j) r far
-        ∙ ap (λ (x : List ℕ). steps_text steps ++ (x ++ more)) parts
-        ∙ ap (λ (x : List ℕ). steps_text steps ++ x) (append_assoc (take (k + 1 + 1) (lead ∷ rest)) (take j (drop (k + 1 + 1) (lead ∷ rest))) more ∙ ap (λ (x : List ℕ). x ++ behind) first) in
+    part_of text steps lead rest more m (k + 1 + j) r far
+    ∙ ap (λ (x : List ℕ). steps_text steps ++ (x ++ more)) parts
+    ∙ ap (λ (x : List ℕ). steps_text steps ++ x) (append_assoc (take (k + 1 + 1) (lead ∷ rest)) (take j (drop (k + 1 + 1) (lead ∷ rest))) more ∙ ap (λ (x : List ℕ). x ++ behind) first) in
     let s = on_from steps h.1 lead (take (k + 1) rest ++ behind) r.keep r.leads h.2.1 (ap (λ (t : List ℕ). 46 ∷ t) (sym h.2.0) ∙ whole) in
     bad.no_longer (omega arith) behind s.0 s.1 (subst (λ (x : List ℕ). IsStep (x ++ behind) s.0 s.1) (sym first) s.2)
 
@@ -222,14 +222,6 @@ push p s = steps-append p (s ∷ []) ∙ ap (λ (x : List ℕ). steps_text p ++ 
 read_step : (text : List ℕ) (steps : List PathStep) (lead : ℕ) (rest : List ℕ) (s : PathStep) (behind : List ℕ) → Read text steps lead rest → IsStep (lead ∷ rest) s behind → 46 ∷ text ≡ steps_text (steps ++ s ∷ []) ++ behind
 read_step text steps lead rest s behind r step =
     r.whole ∙ ap (λ (x : List ℕ). steps_text steps ++ x) step.whole ∙ sym (append_assoc (steps_text steps) (step_text s) behind) ∙ ap (λ (x : List ℕ). x ++ behind) (sym (push steps s))
-
--- one step more
-pub read_on : (text : List ℕ) (steps : List PathStep) (lead : ℕ) (rest : List ℕ) (s : PathStep) (next : ℕ) (behind : List ℕ) → Read text steps lead rest → IsStep (lead ∷ rest) s (next ∷ behind) → Read text (steps ++ s ∷ []) next behind
-read_on text steps lead rest s next behind r step = record {
-  whole = read_step text steps lead rest s (next ∷ behind) r step;
-  keep = keep-append steps s r.keep step.keeps;
-  leads = step.ends;
-}
 
 -- the last step
 pub read_all : (text : List ℕ) (steps : List PathStep) (lead : ℕ) (rest : List ℕ) (s : PathStep) → Read text steps lead rest → IsStep (lead ∷ rest) s [] → IsPath text (steps ++ s ∷ [])

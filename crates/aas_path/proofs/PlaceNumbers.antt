@@ -29,7 +29,7 @@ pub digit : (ds : List ℕ) (i v : ℕ) → IsPlace ds → i < length ds → v �
 digit ds i v place lt is =
     let range = digit_at ds i (all_digits ds place) lt in
     let next : v * 10 + (get_or ds i 0 - 48) ≡ digits_value 10 (take (i + 1) ds) =
-        ap (λ n. n * 10 + (get_or ds i 0 - 48)) is ∙ ap (λ d. digits_value 10 (take i ds) * 10 + d) (sym (value_of (get_or ds i 0) range)) ∙ sym (digits_value_more 10 ds i lt) in
+    ap (λ n. n * 10 + (get_or ds i 0 - 48)) is ∙ ap (λ d. digits_value 10 (take i ds) * 10 + d) (sym (value_of (get_or ds i 0) range)) ∙ sym (digits_value_more 10 ds i lt) in
     record { low = range.0; next = next; small = omega (arith, digits_value-take-le 10 ds (i + 1) (omega arith), whole_value ds place, place.1, next) }
 
 pub whole : (ds : List ℕ) (i v : ℕ) → IsPlace ds → length ds ≤ i → v ≡ digits_value 10 (take i ds) → (ds ≡ decimal v) × (v < 10 ^ 9)

@@ -170,11 +170,11 @@ too_many text n run lt =
     let long : m < length text = omega (arith, run.within) in
     let size : length (take m text) ≡ m = length-take-le m text (omega arith) in
     let good : IsDigits (take m text) = record {
-          all = front_of is_ascii_digit text n m run (omega arith);
-          some = omega (arith, most.some);
-          short = omega (arith, most.short);
-          no_zero = λ zero. size ∙ most.zero_alone (sym (get_or-take m text 0 0 most.some) ∙ zero);
-        } in record {
+      all = front_of is_ascii_digit text n m run (omega arith);
+      some = omega (arith, most.some);
+      short = omega (arith, most.short);
+      no_zero = λ zero. size ∙ most.zero_alone (sym (get_or-take m text 0 0 most.some) ∙ zero);
+    } in record {
       none = λ s rest h.
           let p = bracketed text s rest h in
           let same = same_digits text n (drop n text) text s rest run.front run.behind (sym (take-append-drop n text)) p in
@@ -187,7 +187,7 @@ too_many text n run lt =
           let size_next : length (take (m + 1) text) ≡ m + 1 = length-take-le (m + 1) text (omega arith) in
           let longer = front_no_longer is_ascii_digit (take (m + 1) text) p.digits more (93 ∷ rest) (front_of is_ascii_digit text n (m + 1) run (omega arith)) p.good.all bracket_no_digit p.whole in
           let first : get_or p.digits 0 0 ≡ get_or text 0 0 =
-              sym (get_or_append_left p.digits (93 ∷ rest) 0 0 p.good.some) ∙ sym (ap (λ (t : List ℕ). get_or t 0 0) p.whole) ∙ get_or_append_left (take (m + 1) text) more 0 0 (omega arith) ∙ get_or-take (m + 1) text 0 0 (omega arith) in
+          sym (get_or_append_left p.digits (93 ∷ rest) 0 0 p.good.some) ∙ sym (ap (λ (t : List ℕ). get_or t 0 0) p.whole) ∙ get_or_append_left (take (m + 1) text) more 0 0 (omega arith) ∙ get_or-take (m + 1) text 0 0 (omega arith) in
           absurd (omega (arith, at_most p.digits text p.good first, longer));
     }
 
@@ -240,7 +240,7 @@ no_end_at text behind n run good is not =
           let p = bracketed (take (n + 2) text ++ more) s rest (step_behind 91 text more (n + 2) s rest h) in
           let three : n + 2 ≡ n + 1 + 1 = omega arith in
           let parts : take (n + 2) text ++ more ≡ take n text ++ get_or text n 0 ∷ c ∷ more =
-              ap (λ k. take k text ++ more) three ∙ next_behind text more (n + 1) further ∙ next_behind text (c ∷ more) n within in
+          ap (λ k. take k text ++ more) three ∙ next_behind text more (n + 1) further ∙ next_behind text (c ∷ more) n within in
           let same = same_digits text n (get_or text n 0 ∷ c ∷ more) (take (n + 2) text ++ more) s rest run.front (stop_next text (c ∷ more) n within run.behind) parts p in
           let ends : EndsStep (c ∷ more) = subst EndsStep (sym (rests (get_or text n 0) 93 (c ∷ more) rest same.1)) p.ends in
           let behind_is : behind ≡ c ∷ drop (n + 1 + 1) text = sym rest_is ∙ drop_more text (n + 1) 0 further in

@@ -5,8 +5,8 @@ ghost use Rattle.aas_path.specs.PathText.{IsPath};
 ghost use Rattle.aas_path.specs.StepText.{EndsStep, IsPlace, IsStep, IsNoStep, most_digits};
 ghost use Rattle.aas_trees.specs.PathRule.{id_short};
 
-use crate::runs::{begins_with, run_len};
 use crate::path_fault::PathFault;
+use crate::runs::{begins_with, run_len};
 use aas_forms::{Ascii, ByteClass, after_word};
 use aas_model::{Many, NoMemory, Path, PathStep, Text};
 use std::alloc::Global;
@@ -33,11 +33,9 @@ fn ends_step(rest: &[u8]) -> bool
 
 // The length of the name at the front, if a step ends behind it, or of the longest front that begins one.
 fn name_len(text: &[u8]) -> Result<usize, usize>
-    ensures {
-        MatchResult result
+    ensures { MatchResult result
         (λ n. (n ≤ length text.now) × id_short (take n text.now) × EndsStep (drop n text.now))
-        (λ n. IsNoStep (46 ∷ text.now) (n + 1))
-    }
+        (λ n. IsNoStep (46 ∷ text.now) (n + 1)) }
 {
     let len = run_len(NameCharacter, text);
     if !begins_with(Ascii::Letter, text) {
@@ -76,11 +74,9 @@ fn number(digits: &[u8]) -> u64
 
 // The place behind a bracket and what is behind it, or the length of the longest front that begins one.
 fn place(text: &[u8]) -> Result<(u64, &[u8]), usize>
-    ensures {
-        MatchResult result
+    ensures { MatchResult result
         (λ x. IsStep (91 ∷ text.now) (PathStep.Place x.0) x.1.now)
-        (λ n. IsNoStep (91 ∷ text.now) (n + 1))
-    }
+        (λ n. IsNoStep (91 ∷ text.now) (n + 1)) }
 {
     let len = run_len(Ascii::Digit, text);
     let most = most_digits(text);
