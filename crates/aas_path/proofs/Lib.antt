@@ -1,3 +1,4 @@
+mod Answered
 pub mod Drops
 pub mod FitWalk
 pub mod Fronts
@@ -9,4 +10,3 @@ pub mod PathSteps
 pub mod PlaceNumbers
 pub mod PlaceSteps
 pub mod RunsFound
-mod Tests

@@ -21,9 +21,6 @@ use Rattle.aas_trees.specs.PathRule.{is_name_character, id_short, StepKeepsRule}
 
 -- ---- names are ASCII
 
-letter_ascii : (c : ℕ) → is_ascii_alphabetic c ≡ true → c < 128
-letter_ascii c h = grind (arith, nat_tests)
-
 letter_in_name : (c : ℕ) → is_ascii_alphabetic c ≡ true → is_name_character c ≡ true
 letter_in_name c h = grind (arith, nat_tests)
 

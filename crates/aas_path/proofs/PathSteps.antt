@@ -223,14 +223,6 @@ read_step : (text : List ℕ) (steps : List PathStep) (lead : ℕ) (rest : List 
 read_step text steps lead rest s behind r step =
     r.whole ∙ ap (λ (x : List ℕ). steps_text steps ++ x) step.whole ∙ sym (append_assoc (steps_text steps) (step_text s) behind) ∙ ap (λ (x : List ℕ). x ++ behind) (sym (push steps s))
 
--- one step more
-pub read_on : (text : List ℕ) (steps : List PathStep) (lead : ℕ) (rest : List ℕ) (s : PathStep) (next : ℕ) (behind : List ℕ) → Read text steps lead rest → IsStep (lead ∷ rest) s (next ∷ behind) → Read text (steps ++ s ∷ []) next behind
-read_on text steps lead rest s next behind r step = record {
-  whole = read_step text steps lead rest s (next ∷ behind) r step;
-  keep = keep-append steps s r.keep step.keeps;
-  leads = step.ends;
-}
-
 -- the last step
 pub read_all : (text : List ℕ) (steps : List PathStep) (lead : ℕ) (rest : List ℕ) (s : PathStep) → Read text steps lead rest → IsStep (lead ∷ rest) s [] → IsPath text (steps ++ s ∷ [])
 read_all text steps lead rest s r step = path_undotted (steps ++ s ∷ []) text (read_step text steps lead rest s [] r step ∙ append-nil (steps_text (steps ++ s ∷ []))) (keep-append steps s r.keep step.keeps)

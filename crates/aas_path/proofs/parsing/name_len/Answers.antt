@@ -2,7 +2,7 @@ use Rattle.std.proofs.Common.{subst, sym, arith}
 use Rattle.std.proofs.lemmas.List.{take_rest}
 use Rattle.aas_path.specs.StepText.{EndsStep}
 use Rattle.aas_path.proofs.NameSteps.{no_letter, too_long, wrong_end, good_name}
-use Rattle.aas_path.proofs.Tests.{holds, fails}
+use Rattle.aas_path.proofs.Answered.{holds, fails}
 use Rattle.aas_path.proofs.parsing.name_len.Goals as goal
 
 pub returns-then-not-begins_with : goal.returns-then-not-begins_with

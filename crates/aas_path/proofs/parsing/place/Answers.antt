@@ -4,7 +4,7 @@ use Rattle.std.specs.Char.{is_ascii_digit}
 use Rattle.aas_path.specs.Runs.{IsRun}
 use Rattle.aas_path.specs.StepText.{IsNoStep}
 use Rattle.aas_path.proofs.PlaceSteps.{no_digit, too_many, digits_of_run, place_of_digits, no_bracket, no_end, is_place, bracket_found, bracket_not_found}
-use Rattle.aas_path.proofs.Tests.{holds, fails}
+use Rattle.aas_path.proofs.Answered.{holds, fails}
 use Rattle.aas_path.proofs.parsing.place.Goals as goal
 
 pub returns-then-len-eq0 : goal.returns-then-len-eq0
