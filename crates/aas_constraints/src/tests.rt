@@ -34,11 +34,7 @@ fn reference(alloc: Global, value: &str) -> Result<Reference, NoMemory> {
     })
 }
 
-fn element(
-    alloc: Global,
-    id_short: Option<&str>,
-    payload: Payload,
-) -> Result<Element, NoMemory> {
+fn element(alloc: Global, id_short: Option<&str>, payload: Payload) -> Result<Element, NoMemory> {
     Ok(Element {
         common: Common {
             id_short: text(alloc, id_short)?,
@@ -109,7 +105,11 @@ fn is_step(step: &PathStep, expected: &str) -> bool {
 
 fn is_at(fault: &Fault, path: &[&str]) -> bool {
     let steps = fault.path.steps.as_slice();
-    steps.len() == path.len() && steps.iter().zip(path.iter()).all(|(step, expected)| is_step(step, expected))
+    steps.len() == path.len()
+        && steps
+            .iter()
+            .zip(path.iter())
+            .all(|(step, expected)| is_step(step, expected))
 }
 
 #[test]
@@ -141,7 +141,9 @@ fn children_of_a_list(rt: HostRuntime) -> Result<(), Fail> {
     other.common.semantics = semantics(alloc, Some(reference(alloc, "urn:other")?));
     let demanded = Some(reference(alloc, "urn:demanded")?);
     let mut parent = element(alloc, Some("L"), list(Some(ValueType::Int), demanded))?;
-    parent.kids.push(element(alloc, None, property(ValueType::Int))?)?;
+    parent
+        .kids
+        .push(element(alloc, None, property(ValueType::Int))?)?;
     parent.kids.push(other)?;
     let fault = check_submodel(alloc, &submodel(alloc, parent)?)?.ok_or("a fault")?;
     assert!(rt; fault.number == 107 && is_at(&fault, &["L", "[1]"]));
@@ -164,7 +166,9 @@ fn the_first_in_preorder(rt: HostRuntime) -> Result<(), Fail> {
     }
     let mut parent = element(alloc, Some("C"), Payload::SubmodelElementCollection)?;
     parent.kids.push(first)?;
-    parent.kids.push(element(alloc, Some("1bad"), property(ValueType::Int))?)?;
+    parent
+        .kids
+        .push(element(alloc, Some("1bad"), property(ValueType::Int))?)?;
     let fault = check_submodel(alloc, &submodel(alloc, parent)?)?.ok_or("a fault")?;
     assert!(rt; fault.number == 21 && is_at(&fault, &["C", "P"]));
     Ok(())
