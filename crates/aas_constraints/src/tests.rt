@@ -1,17 +1,14 @@
 use crate::{check_concept, check_element, check_shell, check_submodel};
 use aas_model::{
     AssetInformation, AssetKind, Common, Concept, Element, ElementName, EntityType, Fault, Head,
-    Key, KeyType, Many, NoMemory, PathStep, Payload, Qualifier, Reference, ReferenceType, Role,
-    Semantics, Shell, Submodel, Text, ValueType,
+    Key, KeyType, Many, PathStep, Payload, Qualifier, Reference, ReferenceType, Role, Semantics,
+    Shell, Submodel, Text, ValueType,
 };
 use std::alloc::Global;
-use std::test::Fail;
+use std::process::Abort;
 
-fn text(alloc: Global, text: Option<&str>) -> Result<Option<Text>, NoMemory> {
-    match text {
-        Some(text) => Ok(Some(Text::from_str(alloc, text)?)),
-        None => Ok(None),
-    }
+fn text(rt: &impl Abort, alloc: Global, text: &str) -> Text {
+    Text::from_str(alloc, text).ok().expect(rt, "memory")
 }
 
 fn semantics(alloc: Global, semantic_id: Option<Reference>) -> Semantics {
@@ -21,43 +18,49 @@ fn semantics(alloc: Global, semantic_id: Option<Reference>) -> Semantics {
     }
 }
 
-fn reference(alloc: Global, value: &str) -> Result<Reference, NoMemory> {
+fn reference(rt: &impl Abort, alloc: Global, value: &str) -> Reference {
     let mut keys = Many::new(alloc);
-    keys.push(Key {
+    let key = Key {
         key_type: KeyType::GlobalReference,
-        value: Text::from_str(alloc, value)?,
-    })?;
-    Ok(Reference {
+        value: text(rt, alloc, value),
+    };
+    keys.push(key).ok().expect(rt, "memory");
+    Reference {
         ref_type: ReferenceType::ExternalReference,
         keys,
         referred: None,
-    })
+    }
 }
 
-fn element(alloc: Global, id_short: Option<&str>, payload: Payload) -> Result<Element, NoMemory> {
-    Ok(Element {
-        common: Common {
-            id_short: text(alloc, id_short)?,
-            category: None,
-            description: Many::new(alloc),
-            display_name: Many::new(alloc),
-            extensions: Many::new(alloc),
-            embedded_data_specifications: Many::new(alloc),
-            semantics: semantics(alloc, None),
-            qualifiers: Many::new(alloc),
-        },
+fn common(alloc: Global, id_short: Option<Text>, semantic_id: Option<Reference>) -> Common {
+    Common {
+        id_short,
+        category: None,
+        description: Many::new(alloc),
+        display_name: Many::new(alloc),
+        extensions: Many::new(alloc),
+        embedded_data_specifications: Many::new(alloc),
+        semantics: semantics(alloc, semantic_id),
+        qualifiers: Many::new(alloc),
+    }
+}
+
+fn element(common: Common, payload: Payload, kids: Many<Element>) -> Element {
+    Element {
+        common,
         payload,
         role: Role::Member,
-        kids: Many::new(alloc),
-    })
+        kids,
+    }
 }
 
-fn property(value_type: ValueType) -> Payload {
-    Payload::Property {
+fn property(alloc: Global, common: Common, value_type: ValueType) -> Element {
+    let payload = Payload::Property {
         value_type,
         value: None,
         value_id: None,
-    }
+    };
+    element(common, payload, Many::new(alloc))
 }
 
 fn list(value_type: Option<ValueType>, semantic_id: Option<Reference>) -> Payload {
@@ -69,9 +72,16 @@ fn list(value_type: Option<ValueType>, semantic_id: Option<Reference>) -> Payloa
     }
 }
 
-fn head(alloc: Global) -> Result<Head, NoMemory> {
-    Ok(Head {
-        id: Text::from_str(alloc, "urn:x1")?,
+fn two(rt: &impl Abort, alloc: Global, first: Element, second: Element) -> Many<Element> {
+    let mut kids = Many::new(alloc);
+    kids.push(first).ok().expect(rt, "memory");
+    kids.push(second).ok().expect(rt, "memory");
+    kids
+}
+
+fn head(rt: &impl Abort, alloc: Global) -> Head {
+    Head {
+        id: text(rt, alloc, "urn:x1"),
         administration: None,
         id_short: None,
         category: None,
@@ -79,19 +89,19 @@ fn head(alloc: Global) -> Result<Head, NoMemory> {
         display_name: Many::new(alloc),
         extensions: Many::new(alloc),
         embedded_data_specifications: Many::new(alloc),
-    })
+    }
 }
 
-fn submodel(alloc: Global, kid: Element) -> Result<Submodel, NoMemory> {
+fn submodel(rt: &impl Abort, alloc: Global, kid: Element) -> Submodel {
     let mut kids = Many::new(alloc);
-    kids.push(kid)?;
-    Ok(Submodel {
-        head: head(alloc)?,
+    kids.push(kid).ok().expect(rt, "memory");
+    Submodel {
+        head: head(rt, alloc),
         kind: None,
         semantics: semantics(alloc, None),
         qualifiers: Many::new(alloc),
         kids,
-    })
+    }
 }
 
 fn is_step(step: &PathStep, expected: &str) -> bool {
@@ -103,100 +113,147 @@ fn is_step(step: &PathStep, expected: &str) -> bool {
     }
 }
 
-fn is_at(fault: &Fault, path: &[&str]) -> bool {
-    let steps = fault.path.steps.as_slice();
-    steps.len() == path.len()
-        && steps
-            .iter()
-            .zip(path.iter())
-            .all(|(step, expected)| is_step(step, expected))
+fn is_fault(fault: &Option<Fault>, number: u16, path: &[&str]) -> bool {
+    match fault {
+        Some(fault) => {
+            let steps = fault.path.steps.as_slice();
+            fault.number == number
+                && steps.len() == path.len()
+                && steps
+                    .iter()
+                    .zip(path.iter())
+                    .all(|(step, expected)| is_step(step, expected))
+        }
+        None => false,
+    }
+}
+
+fn element_fault(rt: &impl Abort, alloc: Global, element: &Element) -> Option<Fault> {
+    check_element(alloc, element).ok().expect(rt, "memory")
+}
+
+fn submodel_fault(rt: &impl Abort, alloc: Global, kid: Element) -> Option<Fault> {
+    let submodel = submodel(rt, alloc, kid);
+    check_submodel(alloc, &submodel).ok().expect(rt, "memory")
 }
 
 #[test]
-fn elements(rt: HostRuntime) -> Result<(), Fail> {
+fn properties(rt: HostRuntime) {
     let alloc = rt.alloc();
-    let entity = Payload::Entity {
+    let sound = property(
+        alloc,
+        common(alloc, Some(text(&rt, alloc, "P")), None),
+        ValueType::Int,
+    );
+    assert!(rt; element_fault(&rt, alloc, &sound).is_none());
+    let nameless = property(alloc, common(alloc, None, None), ValueType::Int);
+    assert!(rt; is_fault(&element_fault(&rt, alloc, &nameless), 117, &["[0]"]));
+}
+
+#[test]
+fn untyped_list(rt: HostRuntime) {
+    let alloc = rt.alloc();
+    let named = common(alloc, Some(text(&rt, alloc, "L")), None);
+    let untyped = element(named, list(None, None), Many::new(alloc));
+    assert!(rt; is_fault(&element_fault(&rt, alloc, &untyped), 109, &["L"]));
+}
+
+#[test]
+fn co_managed_entity(rt: HostRuntime) {
+    let alloc = rt.alloc();
+    let payload = Payload::Entity {
         entity_type: Some(EntityType::CoManagedEntity),
-        global_asset_id: text(alloc, Some("urn:g"))?,
+        global_asset_id: Some(text(&rt, alloc, "urn:g")),
         specific_asset_ids: Many::new(alloc),
     };
-    let faulty = [
-        (element(alloc, Some("L"), list(None, None))?, 109, "L"),
-        (element(alloc, None, property(ValueType::Int))?, 117, "[0]"),
-        (element(alloc, Some("E"), entity)?, 14, "E"),
-    ];
-    for (faulty, number, path) in &faulty {
-        let fault = check_element(alloc, faulty)?.ok_or("a fault")?;
-        assert!(rt; fault.number == *number && is_at(&fault, &[path]));
+    let named = common(alloc, Some(text(&rt, alloc, "E")), None);
+    let entity = element(named, payload, Many::new(alloc));
+    assert!(rt; is_fault(&element_fault(&rt, alloc, &entity), 14, &["E"]));
+}
+
+#[test]
+fn children_of_a_list(rt: HostRuntime) {
+    let alloc = rt.alloc();
+    let first = property(alloc, common(alloc, None, None), ValueType::Int);
+    let other = common(alloc, None, Some(reference(&rt, alloc, "urn:other")));
+    let second = property(alloc, other, ValueType::String);
+    let payload = list(
+        Some(ValueType::Int),
+        Some(reference(&rt, alloc, "urn:demanded")),
+    );
+    let named = common(alloc, Some(text(&rt, alloc, "L")), None);
+    let parent = element(named, payload, two(&rt, alloc, first, second));
+    assert!(rt; is_fault(&submodel_fault(&rt, alloc, parent), 107, &["L", "[1]"]));
+}
+
+fn qualifier(rt: &impl Abort, alloc: Global) -> Qualifier {
+    Qualifier {
+        kind: None,
+        qualifier_type: text(rt, alloc, "q"),
+        value_type: ValueType::String,
+        value: None,
+        value_id: None,
+        semantics: semantics(alloc, None),
     }
-    let sound = element(alloc, Some("P"), property(ValueType::Int))?;
-    assert!(rt; check_element(alloc, &sound)?.is_none());
-    Ok(())
 }
 
 #[test]
-fn children_of_a_list(rt: HostRuntime) -> Result<(), Fail> {
+fn the_first_in_preorder(rt: HostRuntime) {
     let alloc = rt.alloc();
-    let mut other = element(alloc, None, property(ValueType::String))?;
-    other.common.semantics = semantics(alloc, Some(reference(alloc, "urn:other")?));
-    let demanded = Some(reference(alloc, "urn:demanded")?);
-    let mut parent = element(alloc, Some("L"), list(Some(ValueType::Int), demanded))?;
-    parent
-        .kids
-        .push(element(alloc, None, property(ValueType::Int))?)?;
-    parent.kids.push(other)?;
-    let fault = check_submodel(alloc, &submodel(alloc, parent)?)?.ok_or("a fault")?;
-    assert!(rt; fault.number == 107 && is_at(&fault, &["L", "[1]"]));
-    Ok(())
+    let mut twice = common(alloc, Some(text(&rt, alloc, "P")), None);
+    twice
+        .qualifiers
+        .push(qualifier(&rt, alloc))
+        .ok()
+        .expect(&rt, "memory");
+    twice
+        .qualifiers
+        .push(qualifier(&rt, alloc))
+        .ok()
+        .expect(&rt, "memory");
+    let first = property(alloc, twice, ValueType::Int);
+    let bad = common(alloc, Some(text(&rt, alloc, "1bad")), None);
+    let kids = two(&rt, alloc, first, property(alloc, bad, ValueType::Int));
+    let named = common(alloc, Some(text(&rt, alloc, "C")), None);
+    let parent = element(named, Payload::SubmodelElementCollection, kids);
+    assert!(rt; is_fault(&submodel_fault(&rt, alloc, parent), 21, &["C", "P"]));
 }
 
-#[test]
-fn the_first_in_preorder(rt: HostRuntime) -> Result<(), Fail> {
-    let alloc = rt.alloc();
-    let mut first = element(alloc, Some("P"), property(ValueType::Int))?;
-    for _ in 0..2 {
-        first.common.qualifiers.push(Qualifier {
-            kind: None,
-            qualifier_type: Text::from_str(alloc, "q")?,
-            value_type: ValueType::String,
-            value: None,
-            value_id: None,
-            semantics: semantics(alloc, None),
-        })?;
-    }
-    let mut parent = element(alloc, Some("C"), Payload::SubmodelElementCollection)?;
-    parent.kids.push(first)?;
-    parent
-        .kids
-        .push(element(alloc, Some("1bad"), property(ValueType::Int))?)?;
-    let fault = check_submodel(alloc, &submodel(alloc, parent)?)?.ok_or("a fault")?;
-    assert!(rt; fault.number == 21 && is_at(&fault, &["C", "P"]));
-    Ok(())
-}
-
-#[test]
-fn shells_and_concepts(rt: HostRuntime) -> Result<(), Fail> {
-    let alloc = rt.alloc();
-    let mut shell = Shell {
-        head: head(alloc)?,
+fn shell_fault(rt: &impl Abort, alloc: Global, global_asset_id: Option<Text>) -> Option<Fault> {
+    let shell = Shell {
+        head: head(rt, alloc),
         derived_from: None,
         asset: AssetInformation {
             asset_kind: AssetKind::InstanceAsset,
-            global_asset_id: None,
+            global_asset_id,
             specific_asset_ids: Many::new(alloc),
             asset_type: None,
             default_thumbnail: None,
         },
         submodels: Many::new(alloc),
     };
-    let fault = check_shell(alloc, &shell)?.ok_or("a fault")?;
-    assert!(rt; fault.number == 131 && is_at(&fault, &[]));
-    shell.asset.global_asset_id = text(alloc, Some("urn:h"))?;
-    assert!(rt; check_shell(alloc, &shell)?.is_none());
+    check_shell(alloc, &shell).ok().expect(rt, "memory")
+}
+
+#[test]
+fn shells(rt: HostRuntime) {
+    let alloc = rt.alloc();
+    assert!(rt; is_fault(&shell_fault(&rt, alloc, None), 131, &[]));
+    let named = Some(text(&rt, alloc, "urn:h"));
+    assert!(rt; shell_fault(&rt, alloc, named).is_none());
+}
+
+#[test]
+fn concept_descriptions(rt: HostRuntime) {
+    let alloc = rt.alloc();
     let concept = Concept {
-        head: head(alloc)?,
+        head: head(&rt, alloc),
         is_case_of: Many::new(alloc),
     };
-    assert!(rt; check_concept(alloc, &concept)?.is_none());
-    Ok(())
+    assert!(rt;
+        check_concept(alloc, &concept)
+            .ok()
+            .expect(&rt, "memory")
+            .is_none()
+    );
 }
