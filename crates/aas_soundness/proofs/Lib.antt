@@ -1,0 +1,6 @@
+pub mod Bare
+pub mod Bridge
+pub mod Changed
+pub mod PathNames
+pub mod PlacedRows
+pub mod Places
