@@ -5,7 +5,7 @@ use Rattle.std.proofs.lemmas.List.Quantifiers.{position-Some}
 use Rattle.std.proofs.lemmas.Option.{get_or_from_slice_get}
 use Rattle.std.proofs.lemmas.Slice.Eq.{bytes_eq-Decides}
 use Rattle.aas_model.specs.declared.documents.Submodel.{Submodel}
-use Rattle.aas_model.specs.declared.element.Element.{Element, out-Element}
+use Rattle.aas_model.specs.declared.element.Element.{Element}
 use Rattle.aas_model.specs.declared.payload.Payload.{Payload}
 use Rattle.aas_model.specs.declared.payload.Payload.TheVariants as p
 use Rattle.aas_model.specs.declared.path.PathStep.{PathStep}
@@ -14,13 +14,13 @@ use Rattle.aas_rules.specs.Decided.{is_path_name}
 use Rattle.aas_rules.specs.Faults.{fault, faults, faults_at, document_faults, submodel_rules, is_template, IsSound}
 use Rattle.aas_rules.specs.Sites.{Own, Tree, Trees, node, none, first, root, sites_among, step_to, stands_in_list, named_or, tree_of, trees, is_list as is_list_of}
 use Rattle.aas_rules.specs.Texts.{if_any}
-use Rattle.aas_trees.specs.Children.{kids_of, id_short_of, is_list, is_list_payload, with_kids}
+use Rattle.aas_trees.specs.Children.{kids_of, id_short_of, is_list, is_list_payload}
 use Rattle.aas_trees.specs.ElementAt.{is_text, place_of, child_by, element_below, element_at}
 use Rattle.aas_trees.specs.WithElement.{with_child as with_child_by, with_below, with_element}
 use Rattle.aas_trees.proofs.Paths.{child_by-there}
 use Rattle.aas_soundness.specs.Law.{behind, local_faults}
 use Rattle.aas_soundness.specs.Values.{DifferInValues}
-use Rattle.aas_soundness.proofs.Bare.{own_of, tree_out, made, tree_made, same_bare}
+use Rattle.aas_soundness.proofs.Bare.{own_of, tree_out, tree_made, same_bare}
 use Rattle.aas_soundness.proofs.Changed.{child, with_child, tree_at, with_tree, path_by, path_to, local_here, local_among, free, free_among, place_law}
 use Rattle.aas_soundness.proofs.PathNames.{named_own}
 use Rattle.aas_soundness.proofs.Places.{no_first, no_second, no_map, locally_broken, all_none_local}

@@ -1,5 +1,5 @@
 -- An idShort that breaks no lexical rule and no rule of its form is one that a path can name.
-use Rattle.std.proofs.Common.{◌≡◌, ℕ, ◌<◌, ◌≤◌, ◌&&◌, Bool, true, false, List, [], ◌∷◌, length, Some, None, Option, All, refl, sym, subst, ap, arith}
+use Rattle.std.proofs.Common.{◌≡◌, ℕ, ◌<◌, ◌≤◌, ◌&&◌, Bool, true, false, List, [], ◌∷◌, length, Some, None, Option, refl, sym, subst, arith}
 use Rattle.std.specs.Prelude.{nat_le, encode_utf8_all}
 use Rattle.std.specs.Char.{is_ascii_alphabetic}
 use Rattle.std.specs.List.{list_all}
@@ -7,10 +7,9 @@ use Rattle.std.specs.Str.{IsAscii}
 use Rattle.std.proofs.lemmas.Bool.Decides.{nat_tests}
 use Rattle.std.proofs.lemmas.Str.Ascii.{IsAscii-nil, IsAscii-cons, encodes-IsAscii}
 use Rattle.aas_lexical.specs.Names.{is_name_byte, id_short}
-use Rattle.aas_rules.specs.Attributes.{seen_of}
-use Rattle.aas_rules.specs.Decided.{is_path_name}
-use Rattle.aas_rules.specs.Faults.{failing}
-use Rattle.aas_rules.specs.Lexical.{seen_has_form, payload_has_form}
+use Rattle.aas_rules.specs.Attributes.{Seen, seen_of}
+use Rattle.aas_rules.specs.Decided.{is_language, is_path_name}
+use Rattle.aas_rules.specs.Lexical.{extension_has_form, qualifier_has_form, specific_asset_id_has_form, reference_has_form, seen_has_form, payload_has_form}
 use Rattle.aas_rules.specs.Rules.{holds_locally, is_name, rules}
 use Rattle.aas_rules.specs.Sites.{Own}
 use Rattle.aas_rules.specs.Texts.{if_any}
@@ -51,9 +50,18 @@ path_name_if : (o : Option (List ℕ)) → if_any is_name o ≡ true → if_any 
 path_name_if None named few = refl
 path_name_if (Some s) named few = path_name s named few
 
+first_of_six : (a b c d e f : Bool) → a && b && c && d && e && f ≡ true → a ≡ true
+first_of_six true b c d e f h = refl
+first_of_six false b c d e f h = h
+
+short_name : (x : Seen) → seen_has_form x ≡ true → if_any (λ s. nat_le (length s) 128) x.id_short ≡ true
+short_name x e =
+    first_of_six (if_any (λ s. nat_le (length s) 128) x.id_short) (list_all extension_has_form x.extensions) (list_all qualifier_has_form x.qualifiers)
+    (list_all specific_asset_id_has_form x.specific_asset_ids) (list_all (λ l. is_language l.language) x.lang_texts) (list_all reference_has_form x.references) e
+
 -- what has no local fault has an idShort that a path can name, or none
 pub named_own : (o : Own) → locally_broken o ≡ [] → if_any is_path_name o.common.id_short ≡ true
 named_own o e =
     let all = each_passes (λ r. holds_locally r.sentence o) rules e in
     path_name_if o.common.id_short all.1.0
-    (and_first (if_any (λ s. nat_le (length s) 128) o.common.id_short) _ (and_first (seen_has_form (seen_of o)) (payload_has_form o.payload) all.0))
+    (short_name (seen_of o) (and_first (seen_has_form (seen_of o)) (payload_has_form o.payload) all.0))

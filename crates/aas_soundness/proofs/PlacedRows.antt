@@ -2,14 +2,13 @@
 use Rattle.std.proofs.Common.{◌≡◌, ℕ, Bool, true, not, ◌&&◌, ◌||◌, cond, List, [], ◌∷◌, ◌++◌, map, filter, filter_map, Option, Some, None, option_map, refl, ap, ap₂}
 use Rattle.std.specs.Prelude.{is_some, is_none}
 use Rattle.std.specs.List.{AllByRecursion, cons_option}
-use Rattle.aas_names.specs.declared.value_type.ValueType.{ValueType}
 use Rattle.aas_reference.specs.Rules as reference
 use Rattle.aas_model.specs.Payload.{kind_of}
 use Rattle.aas_model.specs.declared.payload.Payload.{Payload}
 use Rattle.aas_model.specs.declared.payload.Payload.TheVariants as p
 use Rattle.aas_rules.specs.Faults.{failing}
 use Rattle.aas_rules.specs.Rules.{Sentence, local, placed, Rule, row, seen, rules_to_21, rules_to_120, rules_of_references, rules_to_134, rules, references_keep, name_of, semantics_of, is_operation, stands_in_operation, is_repeat, first_some, agree, list_semantics, list_type, list_value_type, of_parent, type_admits, is_typed, value_type_of, same_type, list_is_typed}
-use Rattle.aas_rules.specs.Sites.{Own, Site, stands_in_list}
+use Rattle.aas_rules.specs.Sites.{Own, Site}
 use Rattle.aas_rules.specs.Texts.{if_any, is_among}
 use Rattle.aas_soundness.specs.Values.{without_values}
 use Rattle.aas_soundness.proofs.Bare.{bare_own, bare_site, in_list_bare}
@@ -74,8 +73,7 @@ to_120 x =
     let in_operation = in_operation_bare x.above in
     let reads_own = reads x.own.payload in
     let type = demand_bare list_type (λ o. (reads o).type) x.above in
-    let value_type = demand_bare list_value_type (λ o. (reads o).value_type) x.above in
-    (
+    let value_type = demand_bare list_value_type (λ o. (reads o).value_type) x.above in (
       ap₂ (λ u v. u || not v) in_operation repeat,
       (
         refl,
@@ -107,8 +105,8 @@ to_134 x = (refl, (refl, (refl, (ap₂ (λ u v. not u || not v) (in_operation_ba
 
 alike : (x : Site) → AllByRecursion (IsAlike x) rules
 alike x =
-    all_append (IsAlike x) rules_to_21 _ (to_21 x)
-    (all_append (IsAlike x) rules_to_120 _ (to_120 x) (all_append (IsAlike x) rules_of_references rules_to_134 (of_references x reference.reference_rules) (to_134 x)))
+    all_append (IsAlike x) rules_to_21 (rules_to_120 ++ rules_of_references ++ rules_to_134) (to_21 x)
+    (all_append (IsAlike x) rules_to_120 (rules_of_references ++ rules_to_134) (to_120 x) (all_append (IsAlike x) rules_of_references rules_to_134 (of_references x reference.reference_rules) (to_134 x)))
 
 failing_alike : (x : Site) (rs : List Rule) → AllByRecursion (IsAlike x) rs
     → failing (λ r. holds_in_place r.sentence (bare_site x)) rs ≡ failing (λ r. holds_in_place r.sentence x) rs
