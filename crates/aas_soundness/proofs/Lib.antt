@@ -4,3 +4,4 @@ pub mod Changed
 pub mod PathNames
 pub mod PlacedRows
 pub mod Places
+pub mod Siblings
