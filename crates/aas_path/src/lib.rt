@@ -26,5 +26,3 @@ pub use path_fault::PathFault;
 pub use printing::{print_fault_path, print_path};
 pub use removal::remove;
 
-#[cfg(test)]
-mod tests;
