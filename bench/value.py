@@ -1,7 +1,8 @@
 #!/usr/bin/env python3
 """Time and memory of `aasd value` over growing inputs.
 
-For each family of inputs the built program reads collections of 1,000, 10,000 and 40,000 properties. Printed are the input's size, the time (the best of
+For each family of inputs the built program reads 1,000, 10,000 and 40,000 elements, as the children of one collection or of nested ones, or one
+property with so many qualifiers. Printed are the input's size, the time (the best of
 some runs, less that of a run with no command), the time for a byte, and the peak memory with its ratio to the input. The script ends with status 1 where
 the time for a byte grows past 1.5 times from the first to the last, or peak memory passes 40 times the input (above 1 MB of input, where the program's own
 size no longer counts).
@@ -40,6 +41,39 @@ def typed_property(n):
     return {'idShort': f'P{n}', 'modelType': 'Property', 'value': value, 'valueType': value_type}
 
 
+def reference(key_type, value):
+    kind = 'ExternalReference' if key_type == 'GlobalReference' else 'ModelReference'
+    return {'keys': [{'type': key_type, 'value': value}], 'type': kind}
+
+
+# An element of each kind, as short as the limit of the input demands for 40,000 of them.
+KINDS = [
+    {'modelType': 'Property', 'value': '7', 'valueType': 'xs:int'},
+    {'modelType': 'MultiLanguageProperty', 'value': [{'language': 'en', 'text': 'x'}]},
+    {'max': '9', 'min': '0', 'modelType': 'Range', 'valueType': 'xs:int'},
+    {'contentType': 'a/b', 'modelType': 'File', 'value': '/f'},
+    {'contentType': 'a/b', 'modelType': 'Blob', 'value': 'QQ=='},
+    {'modelType': 'ReferenceElement'},
+    {'first': reference('Submodel', 'a'), 'modelType': 'RelationshipElement', 'second': reference('Submodel', 'b')},
+    {'first': reference('Submodel', 'a'), 'modelType': 'AnnotatedRelationshipElement', 'second': reference('Submodel', 'b')},
+    {'entityType': 'CoManagedEntity', 'modelType': 'Entity'},
+    {'direction': 'input', 'modelType': 'BasicEventElement', 'observed': reference('Submodel', 'a'), 'state': 'on'},
+    {'modelType': 'Capability'},
+    {'modelType': 'Operation'},
+    {'modelType': 'SubmodelElementCollection'},
+    {'modelType': 'SubmodelElementList', 'typeValueListElement': 'Capability'},
+]
+
+
+def of_each_kind(n):
+    return {'idShort': f'E{n}', **KINDS[n % len(KINDS)]}
+
+
+def qualified(count):
+    """One property with so many qualifiers."""
+    return {**text_property(0), 'qualifiers': [{'type': f'q{n}', 'value': f'{n}', 'valueType': 'xs:int'} for n in range(count)]}
+
+
 def collection(kids, name='Bench'):
     return {'idShort': name, 'modelType': 'SubmodelElementCollection', 'value': kids}
 
@@ -59,9 +93,12 @@ def nested(kid, count):
 
 
 FAMILIES = [
-    ('text properties', flat, text_property, COUNTS),
-    ('text properties, nested', nested, text_property, COUNTS),
-    ('all 30 types', flat, typed_property, (1_000, 10_000, 30_000)),
+    ('text properties', lambda count: flat(text_property, count), COUNTS),
+    ('text properties, nested', lambda count: nested(text_property, count), COUNTS),
+    ('all 30 types', lambda count: flat(typed_property, count), (1_000, 10_000, 30_000)),
+    ('every kind', lambda count: flat(of_each_kind, count), COUNTS),
+    ('every kind, nested', lambda count: nested(of_each_kind, count), COUNTS),
+    ('qualifiers of one property', qualified, COUNTS),
 ]
 
 
@@ -90,11 +127,11 @@ def main():
         empty = os.path.join(folder, 'empty')
         open(empty, 'wb').close()
         idle, _ = measured([], empty)
-        for name, shape, kid, counts in FAMILIES:
+        for name, made, counts in FAMILIES:
             print(name)
             first = None
             for count in counts:
-                text = json.dumps(shape(kid, count), separators=(',', ':')).encode()
+                text = json.dumps(made(count), separators=(',', ':')).encode()
                 if len(text) > LIMIT:
                     sys.exit(f'{name}: {len(text)} bytes are too many')
                 path = os.path.join(folder, 'input.json')
@@ -104,7 +141,7 @@ def main():
                 per_byte = max(took - idle, 1e-9) / len(text)
                 first = first or per_byte
                 good = good and per_byte <= 1.5 * first and (len(text) < 1_000_000 or peak <= 40 * len(text))
-                print(f'  {count:6} elements {len(text):9} bytes {took * 1000:9.1f} ms {per_byte * 1e9:7.1f} ns a byte'
+                print(f'  {count:6} of them {len(text):9} bytes {took * 1000:9.1f} ms {per_byte * 1e9:7.1f} ns a byte'
                       f' {peak / 1e6:8.1f} MB peak {peak / len(text):6.1f} times the input')
     sys.exit(0 if good else 1)
 

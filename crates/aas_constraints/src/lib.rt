@@ -13,8 +13,6 @@ mod parts;
 mod place;
 mod references;
 mod strings;
-#[cfg(test)]
-mod tests;
 mod texts;
 
 pub use check::{check_concept, check_element, check_shell, check_submodel};

@@ -14,8 +14,6 @@ mod payload;
 mod read;
 mod semantics;
 mod sorts;
-#[cfg(test)]
-mod tests;
 
 ghost use Rattle.std.specs.Prelude.{◌-◌};
 ghost use Rattle.serde_json.specs.View.{view};

@@ -127,9 +127,3 @@ map_twice g f (x ∷ xs) = ap (λ ys. g (f x) ∷ ys) (map_twice g f xs)
 -- children, spelled as a list of elements
 pub elements_list : (ks : List Element) → children_attribute (map spelled_child ks) ≡ list_of spell_element ks
 elements_list ks = ap (λ ds. listed (onto ds no_items)) (map_twice (λ (c : Child). c.spelling) spelled_child ks)
-
--- an element is in order where its kept data and its children are
-pub made_in_order : (c : Common) (x : Payload) (r : Role) (ks : List Element) → kept_in_order c.embedded_data_specifications ≡ true → elements_in_order ks ≡ true
-    → element_in_order (roll-Element (record { common = c; payload = x; role = r; kids = ks })) ≡ true
-made_in_order c x r ks kept kids =
-    fold-roll-Element Bool (λ y. kept_in_order y.common.embedded_data_specifications && each_true y.kids) (record { common = c; payload = x; role = r; kids = ks }) ∙ ap₂ (λ a b. a && b) kept kids

@@ -15,8 +15,6 @@ mod kinds;
 mod laws;
 mod parts;
 mod sorts;
-#[cfg(test)]
-mod tests;
 mod write;
 
 pub use elements::element_value;

@@ -25,6 +25,3 @@ pub use patches::{apply, apply_all, patch_fits, patch_fits_all};
 pub use path_fault::PathFault;
 pub use printing::{print_fault_path, print_path};
 pub use removal::remove;
-
-#[cfg(test)]
-mod tests;

@@ -25,19 +25,14 @@ fn inputs_of_value(rt: HostRuntime) -> Result<(), Fail> {
         (r#"{"modelType":"Prop"#, 7, "aasd: refused 9 not JSON\n"),
         ("[]", 7, "aasd: refused 10 not in the mapping at $\n"),
         (
+            r#"{"modelType":"Property","Value":"x","idShort":1}"#,
+            7,
+            "aasd: refused 10 not in the mapping at /Value\n",
+        ),
+        (
             r#"{"modelType":"Capability","idShort":"C"}"#,
             7,
             "aasd: refused 16 no value form\n",
-        ),
-        (
-            r#"{"modelType":"Property","idShort":"Speed","valueType":"xs:int","value":"-2147483648"}"#,
-            0,
-            "-2147483648\n",
-        ),
-        (
-            r#"{"modelType":"Property","idShort":"Speed","valueType":"xs:int","value":"2147483648"}"#,
-            7,
-            "aasd: refused 18 lexical fault at Speed\n",
         ),
         (
             r#"{"modelType":"Range","idShort":"R","valueType":"xs:int","min":"1"}"#,
@@ -72,6 +67,51 @@ fn inputs_of_value(rt: HostRuntime) -> Result<(), Fail> {
             assert_eq!(rt; run(alloc, &words, &mut console), status, "{input}");
             assert_eq!(rt; console.sent(), text.as_bytes(), "{input}");
         }
+    }
+    Ok(())
+}
+
+#[test]
+fn values_by_their_type(rt: HostRuntime) -> Result<(), Fail> {
+    let alloc = rt.alloc();
+    let refusal = "aasd: refused 18 lexical fault at V";
+    let words = words_of(alloc, &["value"])?;
+    for (value_type, text, status, expected) in [
+        ("int", "-2147483648", 0, "-2147483648"),
+        ("int", "2147483648", 7, refusal),
+        ("int", "+5", 0, "\"+5\""),
+        (
+            "integer",
+            "123456789012345678901234567890",
+            0,
+            "\"123456789012345678901234567890\"",
+        ),
+        (
+            "unsignedLong",
+            "18446744073709551615",
+            0,
+            "18446744073709551615",
+        ),
+        ("double", "2.50", 0, "\"2.50\""),
+        ("double", "5", 0, "5"),
+        ("boolean", "1", 0, "\"1\""),
+        ("date", "2023-02-29", 7, refusal),
+        ("date", "2024-02-29Z", 0, "\"2024-02-29Z\""),
+        ("gMonthDay", "--02-29", 0, "\"--02-29\""),
+        ("gMonthDay", "--02-30", 7, refusal),
+        ("duration", "P1Y2MT3.5S", 0, "\"P1Y2MT3.5S\""),
+        ("duration", "P", 7, refusal),
+        ("duration", "P1YT", 7, refusal),
+        ("time", "24:00:00.0", 0, "\"24:00:00.0\""),
+        ("time", "24:00:01", 7, refusal),
+    ] {
+        let input = format!(in alloc;
+            r#"{{"modelType":"Property","idShort":"V","valueType":"xs:{value_type}","value":"{text}"}}"#
+        )?;
+        let mut console = MemLink::new(alloc, input.as_bytes(), 100, 100, &[])?;
+        assert_eq!(rt; run(alloc, &words, &mut console), status, "{input}");
+        let line = format!(in alloc; "{expected}\n")?;
+        assert_eq!(rt; console.sent(), line.as_bytes(), "{input}");
     }
     Ok(())
 }
