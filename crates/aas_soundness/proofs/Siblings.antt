@@ -7,7 +7,7 @@ use Rattle.std.proofs.lemmas.List.Folds.{list_any-append}
 use Rattle.std.proofs.lemmas.Slice.Eq.{bytes_eq-Decides}
 use Rattle.std.specs.Prelude.{bytes_eq}
 use Rattle.aas_model.specs.declared.documents.Submodel.{Submodel}
-use Rattle.aas_model.specs.declared.element.Element.{Element, out-Element, fold_out-Element}
+use Rattle.aas_model.specs.declared.element.Element.{Element, out-Element}
 use Rattle.aas_model.specs.declared.path.PathStep.{PathStep}
 use Rattle.aas_model.specs.declared.payload.Payload.{Payload}
 use Rattle.aas_model.specs.declared.payload.Payload.TheVariants as payload
@@ -20,20 +20,8 @@ use Rattle.aas_trees.specs.Children.{kids_of, id_short_of, is_list_payload}
 use Rattle.aas_trees.specs.Laws.{HasOnePath}
 use Rattle.aas_trees.specs.Places.{element_in, element_in_all, Differ, SiblingsDiffer}
 use Rattle.aas_trees.proofs.OnePath.{one_path}
-
--- ---- lists with nothing in them
-
-no_first : {X : Type 0} (xs ys : List X) → xs ++ ys ≡ [] → xs ≡ []
-no_first [] ys e = refl
-no_first (x ∷ xs) ys e = absurd (cc)
-
-no_second : {X : Type 0} (xs ys : List X) → xs ++ ys ≡ [] → ys ≡ []
-no_second [] ys e = e
-no_second (x ∷ xs) ys e = absurd (cc)
-
-no_map : {X Y : Type 0} (f : X → Y) (xs : List X) → map f xs ≡ [] → xs ≡ []
-no_map f [] e = refl
-no_map f (x ∷ xs) e = absurd (cc)
+use Rattle.aas_soundness.proofs.Bare.{own_of, tree_out}
+use Rattle.aas_soundness.proofs.Places.{no_first, no_second, no_map}
 
 -- ---- what holds at a place without faults
 
@@ -84,13 +72,6 @@ fits t a b o e =
     }
 
 -- ---- elements without faults
-
-abbrev own_of : Element → Own
-own_of e = record { common = (out-Element e).common; payload = (out-Element e).payload; role = (out-Element e).role }
-
-tree_out : (e : Element) → tree_of e ≡ node (own_of e) (trees (map tree_of (kids_of e)))
-unfolding tree_of
-tree_out e = fold_out-Element Tree tree_over e
 
 -- at e, whose parent is a and whose earlier siblings are b, and below it
 record Clean (t : Bool) (a : Option Own) (b : List Own) (e : Element) : Type 0 where
