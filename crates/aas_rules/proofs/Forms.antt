@@ -1,6 +1,6 @@
 -- The tests of texts tell whether the texts have the forms.
-use Rattle.std.proofs.Common.{◌≡◌, ℕ, ℤ, ◌↔◌, ◌⊎◌, ◌||◌, Decides, List, [], ◌∷◌, Bool, true, false, Option, Some, None, bytes_eq, codes, refl, sym, ap, arith}
-use Rattle.std.specs.Prelude.{◌≤ℤ◌, int_le, pos, neg_ℤ, ◌-◌, ◌^◌, ◌%◌, ◌==◌, ◌≤◌, nat_le, length}
+use Rattle.std.proofs.Common.{◌≡◌, ℕ, ℤ, ◌↔◌, ◌⊎◌, ◌||◌, Decides, List, [], ◌∷◌, Bool, true, false, Option, Some, None, bytes_eq, codes, refl, arith}
+use Rattle.std.specs.Prelude.{◌≤ℤ◌, int_le, pos, neg_ℤ, ◌-◌, ◌^◌, ◌%◌, ◌≤◌, nat_le, length}
 use Rattle.std.specs.Char.{is_ascii_hexdigit}
 use Rattle.std.specs.List.{list_all}
 use Rattle.std.specs.Str.{encode_utf8_all}
@@ -9,7 +9,6 @@ use Rattle.std.proofs.lemmas.Int.{ints}
 use Rattle.std.proofs.lemmas.Slice.Eq.{bytes_eq-Decides}
 use Rattle.aas_names.specs.declared.value_type.ValueType.{ValueType}
 use Rattle.aas_names.specs.declared.value_type.ValueType.TheVariants as xs
-use Rattle.aas_forms.specs.Form.{lit, ◌∣◌}
 use Rattle.aas_lexical.specs.Numbers.{integer, integer_value, float, integer_from, integer_up_to, integer_between}
 use Rattle.aas_lexical.specs.Values.{HasForm}
 use Rattle.aas_lexical.specs.Names.{language, version, id_short, IsIdentifier, IsString}

@@ -1,5 +1,5 @@
 -- What the attributes of a document or an element hold: its references, its texts, and its parts. Kept data isn't looked at.
-use Rattle.std.specs.Prelude.{ℕ, List, [], ◌∷◌, ◌++◌, map, flat_map, Option, Some, None}
+use Rattle.std.specs.Prelude.{ℕ, List, [], ◌∷◌, ◌++◌, map, flat_map, Option}
 use Rattle.aas_reference.specs.Rules.{levels_of}
 use Rattle.aas_model.specs.declared.reference.Semantics.{Semantics}
 use Rattle.aas_model.specs.declared.parts.LangText.{LangText}

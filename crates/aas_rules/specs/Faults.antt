@@ -1,7 +1,7 @@
 -- The faults of documents: the pairs of path and number that don't hold, the document first, then its elements in preorder, at each by number.
 -- At which element a broken constraint stands, and which fault is the first, is this profile's own rule.
-use Rattle.std.specs.Prelude.{ℕ, ◌≡◌, Bool, true, false, not, ◌&&◌, ◌||◌, ◌==◌, List, [], ◌∷◌, ◌++◌, map, filter, flat_map, if◌then◌else◌, Option, Some, None, is_some, is_none, bytes_eq, codes}
-use Rattle.std.specs.List.{list_all, list_any, AllByRecursion}
+use Rattle.std.specs.Prelude.{ℕ, ◌≡◌, Bool, true, false, not, ◌&&◌, ◌||◌, List, [], ◌∷◌, ◌++◌, map, filter, flat_map, Option, Some, None, is_some, is_none, bytes_eq, codes}
+use Rattle.std.specs.List.{list_all, AllByRecursion}
 use Rattle.std.specs.Char.{to_ascii_lowercase}
 use Rattle.aas_names.specs.declared.modelling_kind.ModellingKind.{ModellingKind}
 use Rattle.aas_names.specs.declared.modelling_kind.ModellingKind.TheVariants as modelling_kind
@@ -9,7 +9,6 @@ use Rattle.aas_reference.specs.Rules as reference
 use Rattle.aas_reference.specs.Whole.{is_any}
 use Rattle.aas_model.specs.declared.parts.Administration.{Administration}
 use Rattle.aas_model.specs.declared.asset.AssetInformation.{AssetInformation}
-use Rattle.aas_model.specs.declared.parts.SpecificAssetId.{SpecificAssetId}
 use Rattle.aas_model.specs.declared.common.Head.{Head}
 use Rattle.aas_model.specs.declared.documents.Submodel.{Submodel}
 use Rattle.aas_model.specs.declared.documents.Shell.{Shell}
@@ -17,10 +16,10 @@ use Rattle.aas_model.specs.declared.documents.Concept.{Concept}
 use Rattle.aas_model.specs.declared.element.Element.{Element}
 use Rattle.aas_model.specs.declared.path.Fault.{Fault}
 use Rattle.aas_model.specs.declared.path.PathStep.{PathStep}
-use Rattle.aas_rules.specs.Sites.{Own, Site, sites_among, tree_of, trees}
+use Rattle.aas_rules.specs.Sites.{Site, sites_among, tree_of, trees}
 use Rattle.aas_rules.specs.Attributes.{Seen, seen_of_submodel, seen_of_shell, seen_of_concept}
 use Rattle.aas_rules.specs.Lexical.{seen_has_form, head_has_form, asset_has_form}
-use Rattle.aas_rules.specs.Rules.{Rule, holds, holds_locally, rules, id_short_is_name, qualifiers_have_form, qualifiers_differ, extensions_differ, semantics_have_main, references_keep, texts_are_strings, subjects_are_external, has_template_qualifier}
+use Rattle.aas_rules.specs.Rules.{Rule, holds, rules, id_short_is_name, qualifiers_have_form, qualifiers_differ, extensions_differ, semantics_have_main, references_keep, texts_are_strings, subjects_are_external, has_template_qualifier}
 use Rattle.aas_rules.specs.Texts.{if_any}
 
 abbrev pub fault : List PathStep → ℕ → Fault

@@ -1,8 +1,7 @@
 -- The lexical rules, which have number 0: each text of an attribute is of its form. The lengths of identifiers and idShorts are this profile's own rule.
-use Rattle.std.specs.Prelude.{ℕ, Bool, true, not, ◌&&◌, nat_le, ◌==◌, List, [], ◌∷◌, ◌++◌, length, map, flat_map, Option, Some, None, unwrap_or}
+use Rattle.std.specs.Prelude.{ℕ, Bool, true, not, ◌&&◌, nat_le, ◌==◌, List, length, unwrap_or}
 use Rattle.std.specs.List.{list_all}
 use Rattle.aas_rules.specs.Decided.{has_form, is_identifier, is_language, is_version, is_media_type, is_utc_date_time}
-use Rattle.aas_names.specs.declared.value_type.ValueType.{ValueType}
 use Rattle.aas_names.specs.declared.value_type.ValueType.TheVariants as value_type
 use Rattle.aas_reference.specs.Rules.{levels_of}
 use Rattle.aas_model.specs.declared.parts.Extension.{Extension}
@@ -13,7 +12,6 @@ use Rattle.aas_model.specs.declared.asset.Resource.{Resource}
 use Rattle.aas_model.specs.declared.asset.AssetInformation.{AssetInformation}
 use Rattle.aas_model.specs.declared.reference.Reference.{Reference}
 use Rattle.aas_model.specs.declared.common.Head.{Head}
-use Rattle.aas_model.specs.declared.documents.Shell.{Shell}
 use Rattle.aas_model.specs.declared.payload.Payload.{Payload}
 use Rattle.aas_model.specs.declared.payload.Payload.TheVariants as p
 use Rattle.aas_rules.specs.Attributes.{Seen}

@@ -1,6 +1,6 @@
 -- The constraints of IDTA-01001-3-0 on submodel elements, AASd-002 to AASd-134, each a sentence about a place, and number 0, the lexical rules.
 -- The wording is this profile's own where the standard leaves it open (014, 116, 128, 129).
-use Rattle.std.specs.Prelude.{ℕ, Bool, true, false, not, ◌&&◌, ◌||◌, ◌==◌, nat_le, List, [], ◌∷◌, ◌++◌, bytes_eq, map, filter_map, Option, Some, None, is_some, is_none}
+use Rattle.std.specs.Prelude.{ℕ, Bool, true, false, not, ◌&&◌, ◌||◌, List, [], ◌∷◌, ◌++◌, bytes_eq, map, filter_map, Option, Some, None, is_some, is_none}
 use Rattle.std.specs.List.{list_all, list_any}
 use Rattle.std.specs.Char.{is_ascii_alphabetic}
 use Rattle.aas_lexical.specs.Names.{is_name_byte}
