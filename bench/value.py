@@ -2,13 +2,14 @@
 """Time and memory of `aasd value` over growing inputs.
 
 For each family of inputs the built program reads 1,000, 10,000 and 40,000 elements, as the children of one collection or of nested ones, or one
-property with so many qualifiers. Printed are the input's size, the time (the best of
-some runs, less that of a run with no command), the time for a byte, and the peak memory with its ratio to the input. The script ends with status 1 where
-the time for a byte grows past 1.5 times from the first to the last, or peak memory passes 40 times the input (above 1 MB of input, where the program's own
-size no longer counts).
+property with so many qualifiers. Printed are the input's size, the time (the best of some runs, less that of a run with no command), the time for a
+byte, and the peak memory with its ratio to the input. The script ends with status 1 where the time for a byte grows past 1.5 times from the first to
+the last, or peak memory, less that of an input without any of them, passes 40 times the input.
 """
+import fcntl
 import json
 import os
+import select
 import subprocess
 import sys
 import tempfile
@@ -20,6 +21,9 @@ PROGRAM = os.path.join(HERE, '..', 'crates', 'aasd', 'out', 'aasd')
 COUNTS = (1_000, 10_000, 40_000)
 LIMIT = 4_194_304
 RUNS = 5
+SECONDS = 2
+# The answer to this many characters doesn't fit a pipe, so the program waits with it.
+LONG = 8192
 
 
 def text_property(n):
@@ -70,8 +74,8 @@ def of_each_kind(n):
 
 
 def qualified(count):
-    """One property with so many qualifiers."""
-    return {**text_property(0), 'qualifiers': [{'type': f'q{n}', 'value': f'{n}', 'valueType': 'xs:int'} for n in range(count)]}
+    """One property with so many qualifiers, and a long text."""
+    return {**text_property(0), 'value': 'x' * LONG, 'qualifiers': [{'type': f'q{n}', 'value': f'{n}', 'valueType': 'xs:int'} for n in range(count)]}
 
 
 def collection(kids, name='Bench'):
@@ -102,21 +106,41 @@ FAMILIES = [
 ]
 
 
-def measured(words, path):
-    """The best time of some runs in seconds, and the peak memory in bytes."""
-    best, peak = None, 0
-    for _ in range(RUNS):
-        with open(path, 'rb') as given, open(os.devnull, 'wb') as out:
+def write(path, element):
+    """Writes the element as compact JSON, and answers the count of bytes."""
+    with open(path, 'w', encoding='utf-8') as file:
+        return file.write(json.dumps(element, separators=(',', ':')))
+
+
+def best_time(words, path):
+    """The best time in seconds of at least some runs and some seconds."""
+    best, begun, runs = None, time.perf_counter(), 0
+    while runs < RUNS or time.perf_counter() - begun < SECONDS:
+        runs += 1
+        with open(path, 'rb') as given:
             start = time.perf_counter()
-            process = subprocess.Popen([PROGRAM, *words], stdin=given, stdout=out)
-            _, status, usage = os.wait4(process.pid, 0)
+            process = subprocess.run([PROGRAM, *words], stdin=given, stdout=subprocess.DEVNULL, check=False)
             took = time.perf_counter() - start
-        process.returncode = os.waitstatus_to_exitcode(status)
         if words and process.returncode != 0:
             sys.exit(f'{path}: status {process.returncode}')
         best = took if best is None else min(best, took)
-        peak = max(peak, usage.ru_maxrss * 1024)
-    return best, peak
+    return best
+
+
+def peak_memory(words, path):
+    """The peak memory in bytes. The program makes its whole answer before it gives the first byte, and waits where nobody reads on."""
+    read, write = os.pipe()
+    fcntl.fcntl(write, fcntl.F_SETPIPE_SZ, 4096)
+    with open(path, 'rb') as given:
+        process = subprocess.Popen([PROGRAM, *words], stdin=given, stdout=write)
+    os.close(write)
+    select.select([read], [], [])
+    with open(f'/proc/{process.pid}/status') as status:
+        peak = next(int(line.split()[1]) * 1024 for line in status if line.startswith('VmHWM'))
+    with open(read, 'rb') as answer:
+        answer.read()
+    process.wait()
+    return peak
 
 
 def main():
@@ -126,23 +150,23 @@ def main():
     with tempfile.TemporaryDirectory() as folder:
         empty = os.path.join(folder, 'empty')
         open(empty, 'wb').close()
-        idle, _ = measured([], empty)
+        idle = best_time([], empty)
+        path = os.path.join(folder, 'input.json')
+        write(path, qualified(0))
+        own_size = peak_memory(['value'], path)
         for name, made, counts in FAMILIES:
             print(name)
             first = None
             for count in counts:
-                text = json.dumps(made(count), separators=(',', ':')).encode()
-                if len(text) > LIMIT:
-                    sys.exit(f'{name}: {len(text)} bytes are too many')
-                path = os.path.join(folder, 'input.json')
-                with open(path, 'wb') as file:
-                    file.write(text)
-                took, peak = measured(['value'], path)
-                per_byte = max(took - idle, 1e-9) / len(text)
+                size = write(path, made(count))
+                if size > LIMIT:
+                    sys.exit(f'{name}: {size} bytes are too many')
+                took, peak = best_time(['value'], path), peak_memory(['value'], path)
+                per_byte = max(took - idle, 1e-9) / size
                 first = first or per_byte
-                good = good and per_byte <= 1.5 * first and (len(text) < 1_000_000 or peak <= 40 * len(text))
-                print(f'  {count:6} of them {len(text):9} bytes {took * 1000:9.1f} ms {per_byte * 1e9:7.1f} ns a byte'
-                      f' {peak / 1e6:8.1f} MB peak {peak / len(text):6.1f} times the input')
+                good = good and per_byte <= 1.5 * first and peak - own_size <= 40 * size
+                print(f'  {count:6} of them {size:9} bytes {took * 1000:7.1f} ms {per_byte * 1e9:6.1f} ns a byte'
+                      f' {peak / 1e6:6.1f} MB peak {peak / size:6.1f} times the input')
     sys.exit(0 if good else 1)
 
 
