@@ -1,0 +1,45 @@
+//! Worked examples that cross crates. Each line of the input is an example: a call, what it is to give, and what it is called
+//! with, with tabs between them. Printed are the examples that give something else, and how many there are in all.
+
+#![tactic(auto)]
+
+mod answer;
+mod changes;
+mod documents;
+mod faults;
+
+use crate::answer::answer;
+use aas_text::NoMemory;
+use std::alloc::Global;
+use std::io::{self, BufRead, BufReader};
+
+/// What the example in a line gives, where that isn't what is expected.
+fn failure(alloc: Global, line: &str) -> Result<Option<String>, NoMemory> {
+    let (call, rest) = line.split_once('\t').unwrap_or((line, ""));
+    let (expected, input) = rest.split_once('\t').unwrap_or((rest, ""));
+    let given = answer(alloc, call, input)?;
+    if given.as_str() == expected {
+        Ok(None)
+    } else {
+        Ok(Some(given))
+    }
+}
+
+fn main(rt: HostRuntime) -> io::Result<()> {
+    let alloc = rt.alloc();
+    let mut count = 0u64;
+    for (before, line) in BufReader::new(alloc, rt.reader())?.lines(alloc).enumerate() {
+        let line = line?;
+        if line.is_empty() || line.starts_with('#') {
+            continue;
+        }
+        count = count.saturating_add(1);
+        match failure(alloc, &line) {
+            Ok(None) => (),
+            Ok(Some(given)) => println!(rt; "line {}: {given}", before.saturating_add(1))?,
+            Err(NoMemory) => println!(rt; "line {}: no memory", before.saturating_add(1))?,
+        }
+    }
+    println!(rt; "{count} examples")?;
+    Ok(())
+}
