@@ -1,10 +1,10 @@
 -- What a document says, from what was found among its members.
-use Rattle.std.proofs.Common.{◌≡◌, ℕ, List, [], ◌∷◌, ◌++◌, Bool, true, false, Option, Some, None, option_map, option_and_then, if◌then◌else◌, map, codes, bytes_eq, refl, sym, ap, ◌∙◌, subst}
+use Rattle.std.proofs.Common.{◌≡◌, ℕ, List, [], ◌∷◌, Bool, true, false, Option, Some, None, option_map, option_and_then, if◌then◌else◌, codes, bytes_eq, refl, sym, ap, ◌∙◌}
 use Rattle.std.proofs.lemmas.Slice.Eq.{bytes_eq-Decides}
 use Rattle.serde_json.specs.Data.{Data, null, boolean, number, string, array, object, Members}
 use Rattle.serde_json.specs.Find.{get_member, as_str}
 use Rattle.aas_table.specs.Table.{Sort, text, Row, parts, model_types}
-use Rattle.aas_table.specs.Rows.{find, sorted, choose, row_named, rows_of}
+use Rattle.aas_table.specs.Rows.{sorted, choose, row_named, rows_of}
 use Rattle.aas_table.specs.Plain.{plain, plain_member, plain_object}
 use Rattle.aas_table.specs.Spelled.{Attributes, spelled}
 use Rattle.aas_members.proofs.Lookup.{plain_member_is}

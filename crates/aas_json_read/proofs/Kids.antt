@@ -1,5 +1,5 @@
 -- Children that were read, as the attributes that hold them.
-use Rattle.std.proofs.Common.{◌≡◌, ◌⊎◌, inl, inr, ℕ, List, [], ◌∷◌, ◌++◌, ◌&&◌, Bool, true, false, Option, Some, None, option_map, option_to_list, IfSome, is_some, if◌then◌else◌, map, filter, cond, codes, length, get_or, drop, add-one, ◌+◌, zero, suc, ◌<◌, ◌≤◌, arith, refl, sym, ap, ap₂, ◌∙◌, subst, true≢false}
+use Rattle.std.proofs.Common.{◌≡◌, ◌⊎◌, inl, inr, ℕ, List, [], ◌∷◌, ◌++◌, ◌&&◌, Bool, true, false, Option, Some, None, option_map, option_to_list, IfSome, is_some, if◌then◌else◌, map, filter, cond, codes, length, get_or, drop, add-one, ◌+◌, zero, suc, ◌<◌, ◌≤◌, arith, refl, sym, ap, ap₂, ◌∙◌, true≢false}
 use Rattle.std.specs.List.{list_all}
 use Rattle.std.proofs.Math.Seq.{drop-cons}
 use Rattle.std.proofs.lemmas.List.{map-append}
@@ -7,7 +7,7 @@ use Rattle.std.proofs.lemmas.List.Elements.{filter-append}
 use Rattle.serde_json.specs.Data.{Data, object, Items, no_items, item, no_members, depth, items_depth}
 use Rattle.serde_json.specs.View.{view, items_view}
 use Rattle.serde_json.specs.declared.value.Value.{Value}
-use Rattle.aas_table.specs.Table.{Form, one, many, element, operation_variable, parts}
+use Rattle.aas_table.specs.Table.{Form, one, element, operation_variable, parts}
 use Rattle.aas_table.specs.Rows.{sorted}
 use Rattle.aas_table.specs.Plain.{plain_object, add, add_item, listed}
 use Rattle.aas_table.specs.Spelled.{list_of, onto}

@@ -1,5 +1,5 @@
 -- One level of an element: what it says, from what was found among its members.
-use Rattle.std.proofs.Common.{◌≡◌, ℕ, List, [], ◌++◌, Bool, true, false, Option, Some, None, map, codes, unwrap_or, refl, sym, ap, ◌∙◌, subst}
+use Rattle.std.proofs.Common.{◌≡◌, ℕ, List, [], ◌++◌, true, false, Option, Some, None, map, codes, unwrap_or, refl, ap, ◌∙◌, subst}
 use Rattle.serde_json.specs.Data.{Data, string}
 use Rattle.aas_names.specs.KindNames.{name_of}
 use Rattle.aas_names.specs.declared.kind.Kind.{Kind}
@@ -7,7 +7,6 @@ use Rattle.aas_names.specs.declared.kind.Kind.TheVariants as kind
 use Rattle.aas_table.specs.Table.{Form, text, Row, referable, has_semantics, qualifiable, kinds}
 use Rattle.aas_table.specs.Rows.{find, sorted}
 use Rattle.aas_table.specs.Plain.{plain_object, are_there}
-use Rattle.aas_table.specs.Spelled.{spelled}
 use Rattle.aas_spelling.proofs.Rows.{rising}
 use Rattle.aas_mapping.specs.Elements.{Child, spelled_child, spell_element, rows_for, model_type_of, own_attributes, element_attributes}
 use Rattle.aas_mapping.specs.Whole.{is_data_element}

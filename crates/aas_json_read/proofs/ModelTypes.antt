@@ -1,5 +1,5 @@
 -- The rows of an element, by the kind that its modelType names.
-use Rattle.std.proofs.Common.{◌≡◌, ℕ, List, [], ◌∷◌, ◌&&◌, Bool, true, false, Option, Some, None, option_map, option_and_then, if◌then◌else◌, map, bytes_eq, codes, refl, sym, ap, ◌∙◌, true≢false}
+use Rattle.std.proofs.Common.{◌≡◌, ℕ, List, [], ◌∷◌, Bool, true, false, Option, Some, None, option_map, option_and_then, if◌then◌else◌, bytes_eq, codes, refl, sym, ap, ◌∙◌, true≢false}
 use Rattle.std.specs.List.{list_all}
 use Rattle.std.proofs.lemmas.Slice.Eq.{bytes_eq-Decides}
 use Rattle.serde_json.specs.Data.{Data, null, boolean, number, string, array, object, Members}
@@ -8,7 +8,7 @@ use Rattle.aas_names.specs.KindNames.{name_of, names}
 use Rattle.aas_names.specs.declared.kind.Kind.{Kind}
 use Rattle.aas_names.specs.declared.kind.Kind.TheVariants as kind
 use Rattle.aas_table.specs.Names.{has}
-use Rattle.aas_table.specs.Table.{Sort, element, data_element, word, text, Row, model_types}
+use Rattle.aas_table.specs.Table.{element, data_element, word, text, Row, model_types}
 use Rattle.aas_table.specs.Rows.{find, sorted, choose, rows_of}
 use Rattle.aas_table.specs.Plain.{plain, plain_member}
 use Rattle.aas_spelling.proofs.Rows.{and_left, and_right}

@@ -1,9 +1,8 @@
 -- Where children stand: what a parent sees of them, and of itself.
-use Rattle.std.proofs.Common.{◌≡◌, ℕ, List, [], ◌∷◌, ◌++◌, ◌&&◌, nat_le, Bool, true, false, map, filter, cond, refl, sym, ap, ap₂, ◌∙◌, subst, true≢false, arith}
+use Rattle.std.proofs.Common.{◌≡◌, ℕ, List, [], ◌∷◌, ◌++◌, ◌&&◌, nat_le, Bool, true, map, refl, sym, ap, ◌∙◌, subst, true≢false, arith}
 use Rattle.std.specs.List.{list_all}
 use Rattle.std.proofs.lemmas.Bool.{le-leb}
 use Rattle.std.proofs.lemmas.List.{map-append}
-use Rattle.std.proofs.lemmas.List.Elements.{filter-append}
 use Rattle.aas_names.specs.declared.kind.Kind.{Kind}
 use Rattle.aas_names.specs.declared.kind.Kind.TheVariants as kind
 use Rattle.aas_spelling.specs.Lists.{Each}

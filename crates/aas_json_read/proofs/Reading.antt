@@ -1,5 +1,5 @@
 -- From what a value says to the whole tree that it spells.
-use Rattle.std.proofs.Common.{◌≡◌, ℕ, List, Option, Some, None, Result, Ok, Err, refl, sym, subst}
+use Rattle.std.proofs.Common.{◌≡◌, ℕ, List, Option, Some, None, Result, Ok, Err, refl}
 use Rattle.serde_json.specs.Data.{Data}
 use Rattle.aas_table.specs.TooDeep.{Levels}
 use Rattle.aas_model.specs.declared.read_fault.ReadFault.{ReadFault}

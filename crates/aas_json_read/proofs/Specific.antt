@@ -1,10 +1,9 @@
 -- What a value says as a specific asset identifier is whole, whatever the order of names in it: it has no kept data.
-use Rattle.std.proofs.Common.{◌≡◌, ℕ, ◌+◌, List, [], ◌∷◌, ◌&&◌, Bool, true, Option, Some, None, option_map, map, codes, Result, Ok, Err, refl, sym, ap, ◌∙◌}
+use Rattle.std.proofs.Common.{◌≡◌, ℕ, ◌+◌, List, [], ◌∷◌, ◌&&◌, Bool, true, Option, Some, None, option_map, map, codes, Result, Ok, Err, refl, ap, ◌∙◌}
 use Rattle.std.specs.List.{list_all}
 use Rattle.serde_json.specs.Data.{Data, null, boolean, number, string, array, object, Items, no_items, item, Members}
 use Rattle.aas_table.specs.Table.{Row, optional, one, many, reference, specific_asset_id, parts}
 use Rattle.aas_table.specs.Rows.{rows_of, sorted, row_named, in_item}
-use Rattle.aas_table.specs.Misfit.{misfit}
 use Rattle.aas_table.specs.TooDeep.{Levels, too_deep, too_deep_items, too_deep_members}
 use Rattle.aas_table.specs.Plain.{plain, plain_items, plain_member, add_item, listed}
 use Rattle.aas_table.specs.Spelled.{list_of, onto}

@@ -8,7 +8,7 @@ use Rattle.aas_table.specs.Table.{Sort, element, data_element, operation_variabl
 use Rattle.aas_table.specs.Rows.{find, sorted}
 use Rattle.aas_table.specs.Plain.{plain_object}
 use Rattle.aas_table.specs.Spelled.{spelled}
-use Rattle.aas_mapping.specs.Elements.{Child, spelled_child, spell_variable, own_attributes, children_attribute, variables_attribute, is_input, is_output, is_inoutput}
+use Rattle.aas_mapping.specs.Elements.{Child, spell_variable, own_attributes, children_attribute, variables_attribute, is_input, is_output, is_inoutput}
 use Rattle.aas_mapping.specs.Whole.{Placed, placed_over, is_member, is_annotation, is_statement, is_placed}
 use Rattle.aas_model.specs.Payload.{kind_of}
 use Rattle.aas_model.specs.declared.common.Common.{Common}

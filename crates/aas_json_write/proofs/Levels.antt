@@ -15,11 +15,10 @@ use Rattle.aas_names.specs.declared.value_type.ValueType.{ValueType}
 use Rattle.aas_model.specs.declared.reference.Reference.{Reference}
 use Rattle.aas_model.specs.declared.parts.SpecificAssetId.{SpecificAssetId}
 use Rattle.aas_model.specs.declared.common.Common.{Common}
-use Rattle.aas_model.specs.declared.element.Role.{Role}
 use Rattle.aas_model.specs.declared.payload.Payload.{Payload}
 use Rattle.aas_model.specs.declared.payload.Payload.TheVariants as p
-use Rattle.aas_model.specs.declared.element.Element.{Element, out-Element, roll-Element}
-use Rattle.aas_model.specs.declared.element.Element.TheFolds.{fold_out-Element, fold-roll-Element}
+use Rattle.aas_model.specs.declared.element.Element.{Element, out-Element}
+use Rattle.aas_model.specs.declared.element.Element.TheFolds.{fold_out-Element}
 use Rattle.aas_json_write.specs.Order.{kept_in_order, element_in_order, elements_in_order}
 use Rattle.aas_json_write.proofs.InOrder.{at_index}
 use Rattle.aas_json_write.specs.Rows.{model_type_row, common_rows, own_rows, with_own, with_common, childless}

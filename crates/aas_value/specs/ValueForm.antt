@@ -1,6 +1,6 @@
 -- The value form of elements and submodels (IDTA-01001-3-0, the value-only serialisation in JSON). Which members are always there, what is written as null, and which values
 -- are written natively are this profile's own rules: all named members are there, also where the attribute is absent.
-use Rattle.std.specs.Prelude.{ℕ, List, [], ◌∷◌, ◌++◌, codes, map, Option, Some, None, option_map}
+use Rattle.std.specs.Prelude.{ℕ, List, [], ◌∷◌, codes, map, Option, Some, None, option_map}
 use Rattle.std.specs.Str.{encode_utf8_all}
 use Rattle.std.specs.List.{filter_map}
 use Rattle.serde_json.specs.Data.{Data, null, string, array, object, no_items, Members, no_members, member, put}
@@ -13,7 +13,6 @@ use Rattle.aas_names.specs.declared.entity_type.EntityType.{EntityType}
 use Rattle.aas_names.specs.declared.modifiers.Extent.{Extent}
 use Rattle.aas_names.specs.declared.modifiers.Extent.TheVariants as extent
 use Rattle.aas_model.specs.declared.parts.LangText.{LangText}
-use Rattle.aas_model.specs.declared.parts.SpecificAssetId.{SpecificAssetId}
 use Rattle.aas_model.specs.declared.reference.Reference.{Reference}
 use Rattle.aas_model.specs.declared.element.Element.{Element, fold-Element}
 use Rattle.aas_model.specs.declared.element.Element.TheOpen.{Element-F}

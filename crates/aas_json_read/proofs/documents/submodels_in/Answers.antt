@@ -1,4 +1,4 @@
-use Rattle.std.proofs.Common.{◌≡◌, ◌∙◌, ◌++◌, ◌+◌, drop, map, option_to_list, ap, sym, subst, arith}
+use Rattle.std.proofs.Common.{◌≡◌, ◌∙◌, ◌+◌, drop, map, ap, sym, subst, arith}
 use Rattle.serde_json.specs.View.{view, items_view}
 use Rattle.aas_table.specs.Table.{Form, one, submodel}
 use Rattle.aas_table.specs.Plain.{plain, plain_items, add_item}

@@ -1,4 +1,4 @@
-use Rattle.std.proofs.Common.{◌≡◌, subst}
+use Rattle.std.proofs.Common.{subst}
 use Rattle.aas_model.specs.declared.element.Role.TheVariants as role
 use Rattle.aas_spelling.specs.Lists.{Each}
 use Rattle.aas_mapping.specs.Shape.{IsShaped}
