@@ -83,50 +83,46 @@ fn new_element(alloc: Global) -> Result<Element, NoMemory> {
     })
 }
 
-fn inserted(alloc: Global, submodel: Submodel, path: &Path) -> Result<String, NoMemory> {
-    let mut submodel = submodel;
-    match insert(&mut submodel, path, new_element(alloc)?) {
-        Ok(()) => form_of_submodel(alloc, &submodel),
+fn inserted(alloc: Global, submodel: &mut Submodel, path: &Path) -> Result<String, NoMemory> {
+    match insert(submodel, path, new_element(alloc)?) {
+        Ok(()) => form_of_submodel(alloc, submodel),
         Err(InsertFault::Missing(lack)) => missing(alloc, &lack),
         Err(InsertFault::NotAContainer) => text(alloc, "not a container"),
         Err(InsertFault::NoMemory) => Err(NoMemory),
     }
 }
 
-fn replaced(alloc: Global, submodel: Submodel, path: &Path) -> Result<String, NoMemory> {
+fn replaced(alloc: Global, submodel: &mut Submodel, path: &Path) -> Result<String, NoMemory> {
     if path.steps.is_empty() {
         return text(alloc, "empty path");
     }
-    let mut submodel = submodel;
-    match replace(&mut submodel, path, new_element(alloc)?) {
-        Ok(_) => form_of_submodel(alloc, &submodel),
+    match replace(submodel, path, new_element(alloc)?) {
+        Ok(_) => form_of_submodel(alloc, submodel),
         Err(ReplaceFault::Missing(lack)) => missing(alloc, &lack),
         Err(ReplaceFault::NotAContainer) => text(alloc, "not a container"),
     }
 }
 
-fn removed(alloc: Global, submodel: Submodel, path: &Path) -> Result<String, NoMemory> {
+fn removed(alloc: Global, submodel: &mut Submodel, path: &Path) -> Result<String, NoMemory> {
     if path.steps.is_empty() {
         return text(alloc, "empty path");
     }
-    let mut submodel = submodel;
-    match remove(&mut submodel, path) {
-        Ok(_) => form_of_submodel(alloc, &submodel),
+    match remove(submodel, path) {
+        Ok(_) => form_of_submodel(alloc, submodel),
         Err(lack) => missing(alloc, &lack),
     }
 }
 
-fn lent(alloc: Global, submodel: Submodel, path: &Path) -> Result<String, NoMemory> {
+fn lent(alloc: Global, submodel: &mut Submodel, path: &Path) -> Result<String, NoMemory> {
     if path.steps.is_empty() {
         return text(alloc, "empty path");
     }
     let new = payload(alloc)?;
-    let mut submodel = submodel;
-    match at_mut(&mut submodel, path) {
+    match at_mut(submodel, path) {
         Ok(element) => element.payload = new,
         Err(lack) => return missing(alloc, &lack),
     }
-    form_of_submodel(alloc, &submodel)
+    form_of_submodel(alloc, submodel)
 }
 
 /// What is done at a path.
@@ -145,16 +141,16 @@ pub fn worked(alloc: Global, work: Work, path: &str, json: &str) -> Result<Strin
         Ok(path) => path,
         Err(fault) => return bad_path(alloc, fault),
     };
-    let submodel = match read_submodel(alloc, json.as_bytes()) {
+    let mut submodel = match read_submodel(alloc, json.as_bytes()) {
         Ok(submodel) => submodel,
         Err(fault) => return unread(alloc, &fault),
     };
     match work {
         Work::Find => found(alloc, &submodel, &path),
-        Work::Insert => inserted(alloc, submodel, &path),
-        Work::Replace => replaced(alloc, submodel, &path),
-        Work::Remove => removed(alloc, submodel, &path),
-        Work::Lend => lent(alloc, submodel, &path),
+        Work::Insert => inserted(alloc, &mut submodel, &path),
+        Work::Replace => replaced(alloc, &mut submodel, &path),
+        Work::Remove => removed(alloc, &mut submodel, &path),
+        Work::Lend => lent(alloc, &mut submodel, &path),
     }
 }
 
