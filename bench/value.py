@@ -5,6 +5,8 @@ For each family of inputs the built program reads 1,000, 10,000 and 40,000 eleme
 property with so many qualifiers. Printed are the input's size, the time (the best of some runs, less that of a run with no command), the time for a
 byte, and the peak memory with its ratio to the input. The script ends with status 1 where the time for a byte grows past 1.5 times from the first to
 the last, or peak memory, less that of an input without any of them, passes 40 times the input.
+
+The built program is run with the environment that the script `aasd` gives it. The machine should be idle: caches are part of what is measured.
 """
 import fcntl
 import json
@@ -20,8 +22,10 @@ SCRIPT = os.path.join(HERE, '..', 'aasd')
 PROGRAM = os.path.join(HERE, '..', 'crates', 'aasd', 'out', 'aasd')
 COUNTS = (1_000, 10_000, 40_000)
 LIMIT = 4_194_304
-RUNS = 5
-SECONDS = 2
+RUNS = 10
+SECONDS = 3
+# As the script sets it.
+os.environ.setdefault('GLIBC_TUNABLES', 'glibc.malloc.mxfast=0')
 # The answer to this many characters doesn't fit a pipe, so the program waits with it.
 LONG = 8192
 

@@ -8,6 +8,8 @@ mod changes;
 mod documents;
 mod faults;
 
+ghost use Rattle.std.specs.Prelude.{◌≡◌, MatchOption, string_bytes};
+
 use crate::answer::answer;
 use aas_text::NoMemory;
 use std::alloc::Global;
@@ -17,11 +19,17 @@ use std::io::{self, BufRead, BufReader};
 fn failure(alloc: Global, line: &str) -> Result<Option<String>, NoMemory> {
     let (call, rest) = line.split_once('\t').unwrap_or((line, ""));
     let (expected, input) = rest.split_once('\t').unwrap_or((rest, ""));
-    let given = answer(alloc, call, input)?;
+    Ok(unexpected(answer(alloc, call, input)?, expected))
+}
+
+/// What is given, where that isn't what is expected.
+fn unexpected(given: String, expected: &str) -> Option<String>
+    ensures { MatchOption result (string_bytes given ≡ expected.now) (λ told. (told ≡ given) × ¬ (string_bytes given ≡ expected.now)) }
+{
     if given.as_str() == expected {
-        Ok(None)
+        None
     } else {
-        Ok(Some(given))
+        Some(given)
     }
 }
 

@@ -1,13 +1,17 @@
 // The console of the process.
-ghost use Rattle.std.specs.Prelude.{◌≡◌, None};
-ghost use Rattle.aas_outside.specs.Faults.{one_more};
+ghost use Rattle.std.specs.Prelude.{◌≡◌, ◌↔◌, None, IsTrue};
+ghost use Rattle.std.specs.Io.KnownBytes.{ReadConsumes, WriteAppends};
+ghost use Rattle.std.specs.IoError.{error_kind};
+ghost use Rattle.aas_outside.specs.Faults.{one_more, HasCause};
+ghost use Rattle.aas_outside.specs.Link.{Takes, Gives};
 
 use aas_outside::{Failed, Link};
 use std::io;
 use std::io::{ErrorKind, Read, Write};
 
-/// A reader and a writer as a link, which tells none of its bytes. An interrupted call is made
-/// again; every other error fails, and so does a write that takes nothing.
+/// A reader and a writer as a link, which tells none of its bytes: it moves those of the reader and
+/// the writer. An interrupted call is made again; every other error fails, and so does a write that
+/// takes nothing.
 #[derive(Drop)]
 pub struct ConsoleLink<R, W> {
     reader: R,
@@ -17,7 +21,8 @@ pub struct ConsoleLink<R, W> {
 
 impl<R: Read, W: Write> ConsoleLink<R, W> {
     pub fn new(reader: R, writer: W) -> Self
-        ensures { result.faults ≡ 0 }
+        ensures ends { (result.reader ≡ reader) × (result.writer ≡ writer) }
+        ensures faults { result.faults ≡ 0 }
     {
         ConsoleLink {
             reader,
@@ -28,7 +33,8 @@ impl<R: Read, W: Write> ConsoleLink<R, W> {
 
     /// Counts a fault.
     fn failed(&mut self) -> Failed
-        ensures { self.new.faults ≡ one_more self.old.faults }
+        ensures faults { self.new.faults ≡ one_more self.old.faults }
+        ensures ends { (self.new.reader ≡ self.old.reader) × (self.new.writer ≡ self.old.writer) }
     {
         self.faults = self.faults.saturating_add(1);
         Failed
@@ -42,7 +48,12 @@ impl<R: Read, W: Write> Link for ConsoleLink<R, W> {
 
     ghost faults = { λ console. console.faults };
 
-    fn take(&mut self, buf: &mut [u8]) -> Result<usize, Failed> {
+    fn take(&mut self, buf: &mut [u8]) -> Result<usize, Failed>
+        ensures taken { Takes None None result buf.new }
+        ensures cause { HasCause self.old.faults self.new.faults result }
+        ensures reader { ReadConsumes (R.remaining self.old.reader) (R.remaining self.new.reader) result buf.new }
+        ensures writer { self.new.writer ≡ self.old.writer }
+    {
         for _ in 0..u64::MAX {
             match self.reader.read(buf) {
                 Ok(count) => return Ok(count),
@@ -56,7 +67,12 @@ impl<R: Read, W: Write> Link for ConsoleLink<R, W> {
         Err(self.failed())
     }
 
-    fn give(&mut self, bytes: &[u8]) -> Result<usize, Failed> {
+    fn give(&mut self, bytes: &[u8]) -> Result<usize, Failed>
+        ensures given { Gives None None result bytes.now }
+        ensures cause { HasCause self.old.faults self.new.faults result }
+        ensures writer { WriteAppends (W.contents self.old.writer) (W.contents self.new.writer) result bytes.now }
+        ensures reader { self.new.reader ≡ self.old.reader }
+    {
         for _ in 0..u64::MAX {
             match self.writer.write(bytes) {
                 Ok(0) if !bytes.is_empty() => break,
@@ -72,6 +88,8 @@ impl<R: Read, W: Write> Link for ConsoleLink<R, W> {
     }
 }
 
-fn is_interrupted(fault: &io::Error) -> bool {
+fn is_interrupted(fault: &io::Error) -> bool
+    ensures { IsTrue result ↔ (error_kind fault.now ≡ ErrorKind.Interrupted) }
+{
     fault.kind() == ErrorKind::Interrupted
 }
