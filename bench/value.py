@@ -1,12 +1,10 @@
 #!/usr/bin/env python3
 """Time and memory of `aasd value` over growing inputs.
 
-For each family of inputs the built program reads 1,000, 10,000 and 40,000 elements, as the children of one collection or of nested ones, or one
-property with so many qualifiers. Printed are the input's size, the time (the best of some runs, less that of a run with no command), the time for a
-byte, and the peak memory with its ratio to the input. The script ends with status 1 where the time for a byte grows past 1.5 times from the first to
-the last, or peak memory, less that of an input without any of them, passes 40 times the input.
-
-The built program is run with the environment that the script `aasd` gives it. The machine should be idle: caches are part of what is measured.
+For each family of inputs the program, as the script `aasd` runs it, reads 1,000, 10,000 and 40,000 elements, as the children of one collection or of
+nested ones, or one property with so many qualifiers. Printed are the input's size, the time (the best of some runs, less that of a run with no
+command), the time for a byte, and the peak memory with its ratio to the input. The script ends with status 1 where the time for a byte grows past 1.5
+times from the first to the last, or peak memory, less that of an input without any of them, passes 40 times the input. It wants an idle machine.
 """
 import fcntl
 import json
@@ -18,14 +16,11 @@ import tempfile
 import time
 
 HERE = os.path.dirname(os.path.abspath(__file__))
-SCRIPT = os.path.join(HERE, '..', 'aasd')
-PROGRAM = os.path.join(HERE, '..', 'crates', 'aasd', 'out', 'aasd')
+PROGRAM = os.path.join(HERE, '..', 'aasd')
 COUNTS = (1_000, 10_000, 40_000)
 LIMIT = 4_194_304
 RUNS = 10
 SECONDS = 3
-# As the script sets it.
-os.environ.setdefault('GLIBC_TUNABLES', 'glibc.malloc.mxfast=0')
 # The answer to this many characters doesn't fit a pipe, so the program waits with it.
 LONG = 8192
 
@@ -149,7 +144,7 @@ def peak_memory(words, path):
 
 def main():
     # With no words the script builds the program where that hasn't been done, and the program ends at once.
-    subprocess.run([SCRIPT], stdin=subprocess.DEVNULL, stdout=subprocess.DEVNULL, check=False)
+    subprocess.run([PROGRAM], stdin=subprocess.DEVNULL, stdout=subprocess.DEVNULL, check=False)
     good = True
     with tempfile.TemporaryDirectory() as folder:
         empty = os.path.join(folder, 'empty')
