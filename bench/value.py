@@ -20,7 +20,7 @@ PROGRAM = os.path.join(HERE, '..', 'aasd')
 COUNTS = (1_000, 10_000, 40_000)
 LIMIT = 4_194_304
 RUNS = 10
-SECONDS = 3
+SECONDS = 4
 # The answer to this many characters doesn't fit a pipe, so the program waits with it.
 LONG = 8192
 
@@ -111,27 +111,32 @@ def write(path, element):
         return file.write(json.dumps(element, separators=(',', ':')))
 
 
-def best_time(words, path):
-    """The best time in seconds of at least some runs and some seconds."""
-    best, begun, runs = None, time.perf_counter(), 0
-    while runs < RUNS or time.perf_counter() - begun < SECONDS:
-        runs += 1
-        with open(path, 'rb') as given:
-            start = time.perf_counter()
-            process = subprocess.run([PROGRAM, *words], stdin=given, stdout=subprocess.DEVNULL, check=False)
-            took = time.perf_counter() - start
-        if words and process.returncode != 0:
-            sys.exit(f'{path}: status {process.returncode}')
-        best = took if best is None else min(best, took)
-    return best
+def one_time(words, path):
+    """The time in seconds of one run."""
+    with open(path, 'rb') as given:
+        start = time.perf_counter()
+        process = subprocess.run([PROGRAM, *words], stdin=given, stdout=subprocess.DEVNULL, check=False)
+        took = time.perf_counter() - start
+    if words and process.returncode != 0:
+        sys.exit(f'{path}: status {process.returncode}')
+    return took
 
 
-def peak_memory(words, path):
+def best_time(path):
+    """The best time in seconds of at least some runs and some seconds, less that of runs with no command, which are made in between."""
+    took, idle, begun = [], [], time.perf_counter()
+    while len(took) < RUNS or time.perf_counter() - begun < SECONDS:
+        idle.append(one_time([], path))
+        took.append(one_time(['value'], path))
+    return min(took) - min(idle)
+
+
+def peak_memory(path):
     """The peak memory in bytes. The program makes its whole answer before it gives the first byte, and waits where nobody reads on."""
     read, write = os.pipe()
     fcntl.fcntl(write, fcntl.F_SETPIPE_SZ, 4096)
     with open(path, 'rb') as given:
-        process = subprocess.Popen([PROGRAM, *words], stdin=given, stdout=write)
+        process = subprocess.Popen([PROGRAM, 'value'], stdin=given, stdout=write)
     os.close(write)
     select.select([read], [], [])
     with open(f'/proc/{process.pid}/status') as status:
@@ -147,12 +152,9 @@ def main():
     subprocess.run([PROGRAM], stdin=subprocess.DEVNULL, stdout=subprocess.DEVNULL, check=False)
     good = True
     with tempfile.TemporaryDirectory() as folder:
-        empty = os.path.join(folder, 'empty')
-        open(empty, 'wb').close()
-        idle = best_time([], empty)
         path = os.path.join(folder, 'input.json')
         write(path, qualified(0))
-        own_size = peak_memory(['value'], path)
+        own_size = peak_memory(path)
         for name, made, counts in FAMILIES:
             print(name)
             first = None
@@ -160,8 +162,8 @@ def main():
                 size = write(path, made(count))
                 if size > LIMIT:
                     sys.exit(f'{name}: {size} bytes are too many')
-                took, peak = best_time(['value'], path), peak_memory(['value'], path)
-                per_byte = max(took - idle, 1e-9) / size
+                took, peak = best_time(path), peak_memory(path)
+                per_byte = took / size
                 first = first or per_byte
                 good = good and per_byte <= 1.5 * first and peak - own_size <= 40 * size
                 print(f'  {count:6} of them {size:9} bytes {took * 1000:7.1f} ms {per_byte * 1e9:6.1f} ns a byte'
