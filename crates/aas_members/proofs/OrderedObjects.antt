@@ -1,5 +1,5 @@
 -- Objects and lists with the members of each object in byte order.
-use Rattle.std.proofs.Common.{◌≡◌, ℕ, List, [], ◌∷◌, Bool, true, map, Option, Some, None, option_map, refl, sym, ap, ap₂, ◌∙◌}
+use Rattle.std.proofs.Common.{◌≡◌, ℕ, List, [], ◌∷◌, true, map, Option, Some, None, option_map, refl, sym, ap, ap₂, ◌∙◌}
 use Rattle.serde_json.specs.Data.{Data, object, no_items, Members, no_members}
 use Rattle.aas_table.specs.Table.{Form, Row}
 use Rattle.aas_table.specs.TooDeep.{Levels}

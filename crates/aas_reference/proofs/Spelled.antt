@@ -9,12 +9,13 @@ use Rattle.aas_table.specs.TooDeep.{Levels}
 use Rattle.aas_table.specs.Spelled.{attribute, spelled}
 use Rattle.aas_model.specs.declared.reference.Key.{Key}
 use Rattle.aas_model.specs.declared.reference.Reference.{Reference, out-Reference}
+use Rattle.aas_spelling.specs.Lists.{is_any}
 use Rattle.aas_spelling.specs.Good.{Good}
 use Rattle.aas_spelling.proofs.Objects.{object_good, same_attributes}
 use Rattle.aas_spelling.proofs.Lists.{each_of}
 use Rattle.aas_spelling.proofs.Forms.{none_good, text_good, named_good, list_good, same_texts, same_words, same_options, same_lists}
 use Rattle.aas_reference.specs.Spelling.{key_attributes, spell_key, spell_reference}
-use Rattle.aas_reference.specs.Whole.{is_any, has_keys, reference_levels}
+use Rattle.aas_reference.specs.Whole.{has_keys, reference_levels}
 use Rattle.aas_reference.proofs.Levels.{made, made_out, Within, by_levels, Fits, attributes_at, spell_at, keys_at, levels_at}
 
 -- ---- good

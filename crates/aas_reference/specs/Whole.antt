@@ -1,11 +1,8 @@
 -- Whole references: the reference and those within it have keys, and no more stand in one another than levels are left. The limit is this profile's own rule.
-use Rattle.std.specs.Prelude.{ℕ, suc, ◌&&◌, nat_le, Bool, true, false, List, [], ◌∷◌, Option, Some, None, unwrap_or}
+use Rattle.std.specs.Prelude.{ℕ, suc, ◌&&◌, nat_le, Bool, true, false, Option, Some, None, unwrap_or}
 use Rattle.aas_table.specs.TooDeep.{Levels}
+use Rattle.aas_spelling.specs.Lists.{is_any}
 use Rattle.aas_model.specs.declared.reference.Reference.{Reference, fold-Reference}
-
-abbrev pub is_any : {A : Type 0} → List A → Bool
-is_any [] = false
-is_any (x ∷ xs) = true
 
 -- the reference and those within it have keys
 abbrev pub has_keys : Reference → Bool

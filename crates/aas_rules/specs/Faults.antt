@@ -6,7 +6,7 @@ use Rattle.std.specs.Char.{to_ascii_lowercase}
 use Rattle.aas_names.specs.declared.modelling_kind.ModellingKind.{ModellingKind}
 use Rattle.aas_names.specs.declared.modelling_kind.ModellingKind.TheVariants as modelling_kind
 use Rattle.aas_reference.specs.Rules as reference
-use Rattle.aas_reference.specs.Whole.{is_any}
+use Rattle.aas_spelling.specs.Lists.{is_any}
 use Rattle.aas_model.specs.declared.parts.Administration.{Administration}
 use Rattle.aas_model.specs.declared.asset.AssetInformation.{AssetInformation}
 use Rattle.aas_model.specs.declared.common.Head.{Head}

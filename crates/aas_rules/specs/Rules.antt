@@ -21,7 +21,7 @@ use Rattle.aas_table.specs.Table.{data_elements}
 use Rattle.aas_table.specs.Names.{has}
 use Rattle.aas_reference.specs.Rules as reference
 use Rattle.aas_reference.specs.Same.{same}
-use Rattle.aas_reference.specs.Whole.{is_any}
+use Rattle.aas_spelling.specs.Lists.{is_any}
 use Rattle.aas_model.specs.Payload.{kind_of}
 use Rattle.aas_model.specs.declared.reference.Semantics.{Semantics}
 use Rattle.aas_model.specs.declared.parts.Qualifier.{Qualifier}
