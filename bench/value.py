@@ -5,6 +5,8 @@ For each family of inputs the program, as the script `aasd` runs it, reads 1,000
 nested ones, or one property with so many qualifiers. Printed are the input's size, the time (the best of some runs, less that of a run with no
 command), the time for a byte, and the peak memory with its ratio to the input. The script ends with status 1 where the time for a byte grows past 1.5
 times from the first to the last, or peak memory, less that of an input without any of them, passes 40 times the input. It wants an idle machine.
+
+Inputs are files, and the script gives a large file other settings of memory than a small one; through a pipe the time for a byte grows more.
 """
 import fcntl
 import json
