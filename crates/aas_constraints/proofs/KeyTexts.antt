@@ -1,16 +1,16 @@
 -- What is wanted of the keys of a reference and of those within it, level by level.
 use Rattle.std.proofs.Common.{◌≡◌, ℕ, ◌&&◌, not, cond, List, [], ◌∷◌, ◌++◌, map, flat_map, Bool, true, false, Option, Some, None, option_map, unwrap_or, refl, sym, ap, ◌∙◌}
 use Rattle.std.specs.List.{list_all}
-use Rattle.aas_names.specs.declared.reference_type.ReferenceType.{ReferenceType}
+use Rattle.aas_model_names.specs.declared.reference_type.ReferenceType.{ReferenceType}
 use Rattle.aas_model.specs.declared.reference.Key.{Key}
 use Rattle.aas_model.specs.declared.reference.Reference.{Reference, out-Reference}
 use Rattle.aas_model.specs.declared.reference.Reference.TheFolds.{fold-roll-Reference}
 use Rattle.aas_reference.specs.Rules.{Level, levels_of}
 use Rattle.aas_reference.specs.Faults.{level_of}
 use Rattle.aas_reference.proofs.Levels.{made, made_out}
-use Rattle.aas_rules.specs.Decided.{is_identifier, is_string}
-use Rattle.aas_rules.specs.Attributes.{reference_texts}
-use Rattle.aas_rules.specs.Lexical.{reference_has_form}
+use Rattle.aas_constraint_rules.specs.Decided.{is_identifier, is_string}
+use Rattle.aas_constraint_rules.specs.Attributes.{reference_texts}
+use Rattle.aas_constraint_rules.specs.Lexical.{reference_has_form}
 use Rattle.aas_constraints.specs.References.{reference_is_string}
 use Rattle.aas_constraints.proofs.Lists.{all_flat}
 

@@ -3,11 +3,11 @@ use Rattle.std.proofs.Common.{◌≤◌, length-drop, slice_get, ◌≡◌, ℕ,
 use Rattle.std.specs.List.{cons_option, list_all}
 use Rattle.std.proofs.Math.Seq.{drop-cons}
 use Rattle.std.proofs.Math.Numerals.{add-one}
-use Rattle.aas_rules.specs.Faults.{first}
+use Rattle.aas_constraint_rules.specs.Faults.{first}
 use Rattle.std.specs.Char.{is_ascii_alphabetic}
 use Rattle.std.proofs.lemmas.List.{nil_from_length}
 use Rattle.aas_lexical.specs.Names.{is_name_byte}
-use Rattle.aas_rules.specs.Rules.{first_some, is_name}
+use Rattle.aas_constraint_rules.specs.Rules.{first_some, is_name}
 use Rattle.aas_constraints.specs.Walk.{or_next}
 
 pub first-append : {X : Type 0} (xs ys : List X) → first (xs ++ ys) ≡ or_next (first xs) (first ys)

@@ -14,10 +14,10 @@ use Rattle.std.proofs.lemmas.Slice.Eq.{bytes_eq-Decides}
 use Rattle.std.specs.BTreeMap.{is_at}
 use Rattle.std.proofs.lemmas.Map.Text.{is_eq-slice_cmp}
 use denote.Ref.{Bor}
-use Rattle.aas_rules.specs.Texts.{is_among}
+use Rattle.aas_constraint_rules.specs.Texts.{is_among}
 use Rattle.aas_constraints.specs.Repeats.{HasTexts}
-use Rattle.aas_rules.specs.Sites.{Own}
-use Rattle.aas_rules.specs.Rules.{name_of}
+use Rattle.aas_constraint_rules.specs.Sites.{Own}
+use Rattle.aas_constraint_rules.specs.Rules.{name_of}
 use Rattle.aas_constraints.proofs.Lists.{filtered_some, filtered_none}
 
 -- two texts are the same bytes exactly where they are the same characters

@@ -10,12 +10,12 @@ use Rattle.aas_reference.specs.Rules as reference
 use Rattle.aas_reference.specs.Rules.{first_of_list, keeps}
 use Rattle.aas_reference.specs.Faults.{least, least_of}
 use Rattle.aas_reference.proofs.Faults.{Rise, least_of_both, least_of_each}
-use Rattle.aas_rules.specs.Attributes.{Seen, seen_of, seen_of_submodel, seen_of_shell, seen_of_concept, references_of, reference_texts, texts_of_languages, specific_asset_id_texts}
-use Rattle.aas_rules.specs.Decided.{is_string}
-use Rattle.aas_rules.specs.Faults.{DocumentRule, about, first, broken, submodel_rules, shell_rules, concept_rules, head_is_versioned, is_template, global_ids_agree, asset_is_named}
-use Rattle.aas_rules.specs.Lexical.{reference_has_form, seen_has_form, payload_has_form, head_has_form, asset_has_form}
-use Rattle.aas_rules.specs.Rules.{Rule, holds, rules, element_has_form, texts_are_strings}
-use Rattle.aas_rules.specs.Sites.{Own, Site}
+use Rattle.aas_constraint_rules.specs.Attributes.{Seen, seen_of, seen_of_submodel, seen_of_shell, seen_of_concept, references_of, reference_texts, texts_of_languages, specific_asset_id_texts}
+use Rattle.aas_constraint_rules.specs.Decided.{is_string}
+use Rattle.aas_constraint_rules.specs.Faults.{DocumentRule, about, first, broken, submodel_rules, shell_rules, concept_rules, head_is_versioned, is_template, global_ids_agree, asset_is_named}
+use Rattle.aas_constraint_rules.specs.Lexical.{reference_has_form, seen_has_form, payload_has_form, head_has_form, asset_has_form}
+use Rattle.aas_constraint_rules.specs.Rules.{Rule, holds, rules, element_has_form, texts_are_strings}
+use Rattle.aas_constraint_rules.specs.Sites.{Own, Site}
 use Rattle.aas_constraints.specs.References.{least_broken, reference_is_string, reference_rules, reference_fault, references_fault}
 use Rattle.aas_constraints.specs.Own.{parts_have_form, parts_are_strings, own_rules_to_21, own_rules_to_120, own_rules_to_134, own_submodel_rules, own_shell_rules, own_concept_rules}
 use Rattle.aas_constraints.specs.Walk.{or_next}

@@ -3,7 +3,7 @@ use Rattle.std.proofs.Common.{◌≡◌, ◌↔◌, ◌==◌, not, ℕ, suc, ari
 use Rattle.std.proofs.lemmas.Str.{chars-nil}
 use Rattle.std.specs.Str.{chars, encode_utf8_all}
 use Rattle.std.proofs.lemmas.Bool.Decides.{same_from_decides, nat_tests}
-use Rattle.aas_rules.specs.Lexical.{is_there}
+use Rattle.aas_constraint_rules.specs.Lexical.{is_there}
 
 pub told : (form : List ℕ → Type 0) (s bytes : List ℕ) (answer test : Bool) → bytes ≡ encode_utf8_all s → IsTrue answer ↔ form bytes → IsTrue test ↔ form (encode_utf8_all s) → answer ≡ test
 told form s bytes answer test e h k = let at : IsTrue answer ↔ form (encode_utf8_all s) = subst (λ x. IsTrue answer ↔ form x) e h in same_from_decides answer test at k

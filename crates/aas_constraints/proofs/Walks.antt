@@ -5,11 +5,11 @@ use Rattle.aas_model.specs.declared.element.Element.{Element, out-Element, fold_
 use Rattle.aas_model.specs.declared.path.Fault.{Fault}
 use Rattle.aas_model.specs.declared.path.PathStep.{PathStep}
 use Rattle.aas_model.specs.declared.reference.Reference.{Reference}
-use Rattle.aas_rules.specs.Sites.{Own, Site, under, step_to, Tree, node, root, sites, sites_among, trees, tree_over, tree_of}
+use Rattle.aas_constraint_rules.specs.Sites.{Own, Site, under, step_to, Tree, node, root, sites, sites_among, trees, tree_over, tree_of}
 use Rattle.aas_model.specs.declared.documents.Submodel.{Submodel}
-use Rattle.aas_rules.specs.Faults.{DocumentRule, document_faults, submodel_rules, is_template, sites_of, faults, fault, broken, faults_at, element_faults, first}
+use Rattle.aas_constraint_rules.specs.Faults.{DocumentRule, document_faults, submodel_rules, is_template, sites_of, faults, fault, broken, faults_at, element_faults, first}
 use Rattle.aas_constraints.specs.References.{least_broken}
-use Rattle.aas_rules.specs.Rules.{semantics_of, first_some}
+use Rattle.aas_constraint_rules.specs.Rules.{semantics_of, first_some}
 use Rattle.aas_constraints.specs.Walk.{or_next, own_of, first_broken, found_in, found_among}
 use Rattle.aas_constraints.proofs.Lists.{first-append, first_some-last, first-map, map_append, map_twice, flat_append, length_map, left, taken_map}
 

@@ -4,13 +4,13 @@ use Rattle.std.specs.List.{list_all}
 use Rattle.aas_model.specs.declared.documents.Submodel.{Submodel}
 use Rattle.aas_model.specs.declared.documents.Shell.{Shell}
 use Rattle.aas_model.specs.declared.documents.Concept.{Concept}
-use Rattle.aas_rules.specs.Attributes.{Seen, seen_of, seen_of_submodel, seen_of_shell, seen_of_concept, texts_of_languages, specific_asset_id_texts}
-use Rattle.aas_rules.specs.Decided.{is_language, is_string}
-use Rattle.aas_rules.specs.Faults.{DocumentRule, about, head_is_versioned, is_template, global_ids_agree, asset_is_named}
-use Rattle.aas_rules.specs.Lexical.{extension_has_form, qualifier_has_form, specific_asset_id_has_form, payload_has_form, head_has_form, asset_has_form}
-use Rattle.aas_rules.specs.Rules.{id_short_is_name, is_managed, qualifiers_have_form, qualifiers_differ, extensions_differ, semantics_have_main, subjects_are_external, has_template_qualifier, name_is_new, has_list_semantics, has_list_kind, has_list_value_type, has_first_semantics, is_named, is_unnamed_in_list, is_template_or_none, variable_is_new}
-use Rattle.aas_rules.specs.Sites.{Own, Site}
-use Rattle.aas_rules.specs.Texts.{if_any}
+use Rattle.aas_constraint_rules.specs.Attributes.{Seen, seen_of, seen_of_submodel, seen_of_shell, seen_of_concept, texts_of_languages, specific_asset_id_texts}
+use Rattle.aas_constraint_rules.specs.Decided.{is_language, is_string}
+use Rattle.aas_constraint_rules.specs.Faults.{DocumentRule, about, head_is_versioned, is_template, global_ids_agree, asset_is_named}
+use Rattle.aas_constraint_rules.specs.Lexical.{extension_has_form, qualifier_has_form, specific_asset_id_has_form, payload_has_form, head_has_form, asset_has_form}
+use Rattle.aas_constraint_rules.specs.Rules.{id_short_is_name, is_managed, qualifiers_have_form, qualifiers_differ, extensions_differ, semantics_have_main, subjects_are_external, has_template_qualifier, name_is_new, has_list_semantics, has_list_kind, has_list_value_type, has_first_semantics, is_named, is_unnamed_in_list, is_template_or_none, variable_is_new}
+use Rattle.aas_constraint_rules.specs.Sites.{Own, Site}
+use Rattle.aas_constraint_rules.specs.Texts.{if_any}
 
 -- ---- 0 and 130
 

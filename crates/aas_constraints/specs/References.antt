@@ -4,9 +4,9 @@ use Rattle.std.specs.List.{list_all}
 use Rattle.aas_model.specs.declared.reference.Reference.{Reference}
 use Rattle.aas_reference.specs.Rules as reference
 use Rattle.aas_reference.specs.Faults.{least_of}
-use Rattle.aas_rules.specs.Decided.{is_string}
-use Rattle.aas_rules.specs.Faults.{DocumentRule, about, first}
-use Rattle.aas_rules.specs.Lexical.{reference_has_form}
+use Rattle.aas_constraint_rules.specs.Decided.{is_string}
+use Rattle.aas_constraint_rules.specs.Faults.{DocumentRule, about, first}
+use Rattle.aas_constraint_rules.specs.Lexical.{reference_has_form}
 
 -- the least number of a table that something breaks
 abbrev pub least_broken : {D : Type 0} → List (DocumentRule D) → D → Option ℕ

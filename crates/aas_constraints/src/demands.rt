@@ -1,8 +1,8 @@
 ghost use Rattle.std.specs.Prelude.{◌≡◌};
 ghost use Rattle.std.specs.Option.{option_copied};
-ghost use Rattle.aas_rules.specs.Sites.{stands_in_list};
-ghost use Rattle.aas_rules.specs.Rules.{agree, child_is_typed, is_typed, list_is_typed, list_semantics, list_type, list_value_type, of_parent, same_type, stands_in_operation, type_admits, value_type_of};
-ghost use Rattle.aas_rules.specs.Texts.{if_any};
+ghost use Rattle.aas_constraint_rules.specs.Sites.{stands_in_list};
+ghost use Rattle.aas_constraint_rules.specs.Rules.{agree, child_is_typed, is_typed, list_is_typed, list_semantics, list_type, list_value_type, of_parent, same_type, stands_in_operation, type_admits, value_type_of};
+ghost use Rattle.aas_constraint_rules.specs.Texts.{if_any};
 ghost use Rattle.aas_constraints.specs.Walk.{above_of};
 
 use aas_model::{Element, ElementName, Kind, Named, Payload, Reference, ValueType};

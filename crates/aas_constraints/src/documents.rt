@@ -1,9 +1,9 @@
 ghost use Rattle.std.specs.Prelude.{◌≡◌, ◌++◌, IfOk, map};
 ghost use Rattle.std.specs.List.{list_all};
-ghost use Rattle.aas_rules.specs.Attributes.{head_texts, seen_of_concept, seen_of_shell, seen_of_submodel, texts_of_languages};
-ghost use Rattle.aas_rules.specs.Decided.{is_language, is_string};
-ghost use Rattle.aas_rules.specs.Faults.{asset_is_named, concept_rules, equals, global_ids_agree, head_is_versioned, is_global_name, is_template, revision_has_version, shell_rules, submodel_rules};
-ghost use Rattle.aas_rules.specs.Rules.{semantics_have_main};
+ghost use Rattle.aas_constraint_rules.specs.Attributes.{head_texts, seen_of_concept, seen_of_shell, seen_of_submodel, texts_of_languages};
+ghost use Rattle.aas_constraint_rules.specs.Decided.{is_language, is_string};
+ghost use Rattle.aas_constraint_rules.specs.Faults.{asset_is_named, concept_rules, equals, global_ids_agree, head_is_versioned, is_global_name, is_template, revision_has_version, shell_rules, submodel_rules};
+ghost use Rattle.aas_constraint_rules.specs.Rules.{semantics_have_main};
 ghost use Rattle.aas_constraints.specs.Own.{own_concept_rules, own_shell_rules, own_submodel_rules, parts_are_strings, parts_have_form};
 ghost use Rattle.aas_constraints.specs.References.{least_broken, references_fault};
 

@@ -1,6 +1,6 @@
 ghost use Rattle.std.specs.Prelude.{◌≡◌, [], ◌∷◌, flat_map};
-ghost use Rattle.aas_rules.specs.Attributes.{payload_references, common_references, head_references};
-ghost use Rattle.aas_rules.specs.Texts.{as_list};
+ghost use Rattle.aas_constraint_rules.specs.Attributes.{payload_references, common_references, head_references};
+ghost use Rattle.aas_constraint_rules.specs.Texts.{as_list};
 ghost use Rattle.aas_constraints.specs.References.{references_fault};
 
 use crate::references::{HoldsReferences, fault_among, fault_if_any, reference_fault};
@@ -34,7 +34,7 @@ pub(crate) fn fault_of_option(reference: &Option<Reference>) -> Option<u16>
 }
 
 impl HoldsReferences for Semantics {
-    ghost use Rattle.aas_rules.specs.Attributes.{semantics_references};
+    ghost use Rattle.aas_constraint_rules.specs.Attributes.{semantics_references};
 
     ghost references = { semantics_references };
 
@@ -46,7 +46,7 @@ impl HoldsReferences for Semantics {
 }
 
 impl HoldsReferences for Extension {
-    ghost use Rattle.aas_rules.specs.Attributes.{extension_references};
+    ghost use Rattle.aas_constraint_rules.specs.Attributes.{extension_references};
 
     ghost references = { extension_references };
 
@@ -58,7 +58,7 @@ impl HoldsReferences for Extension {
 }
 
 impl HoldsReferences for Qualifier {
-    ghost use Rattle.aas_rules.specs.Attributes.{qualifier_references};
+    ghost use Rattle.aas_constraint_rules.specs.Attributes.{qualifier_references};
 
     ghost references = { qualifier_references };
 
@@ -70,7 +70,7 @@ impl HoldsReferences for Qualifier {
 }
 
 impl HoldsReferences for SpecificAssetId {
-    ghost use Rattle.aas_rules.specs.Attributes.{specific_asset_id_references};
+    ghost use Rattle.aas_constraint_rules.specs.Attributes.{specific_asset_id_references};
 
     ghost references = { specific_asset_id_references };
 
@@ -82,7 +82,7 @@ impl HoldsReferences for SpecificAssetId {
 }
 
 impl HoldsReferences for Administration {
-    ghost use Rattle.aas_rules.specs.Attributes.{administration_references};
+    ghost use Rattle.aas_constraint_rules.specs.Attributes.{administration_references};
 
     ghost references = { administration_references };
 
@@ -92,7 +92,7 @@ impl HoldsReferences for Administration {
 }
 
 impl HoldsReferences for Payload {
-    ghost use Rattle.aas_rules.specs.Attributes.{payload_references};
+    ghost use Rattle.aas_constraint_rules.specs.Attributes.{payload_references};
 
     ghost references = { payload_references };
 
@@ -125,7 +125,7 @@ impl HoldsReferences for Payload {
 }
 
 impl HoldsReferences for Common {
-    ghost use Rattle.aas_rules.specs.Attributes.{common_references};
+    ghost use Rattle.aas_constraint_rules.specs.Attributes.{common_references};
 
     ghost references = { common_references };
 
@@ -139,7 +139,7 @@ impl HoldsReferences for Common {
 }
 
 impl HoldsReferences for Head {
-    ghost use Rattle.aas_rules.specs.Attributes.{head_references};
+    ghost use Rattle.aas_constraint_rules.specs.Attributes.{head_references};
 
     ghost references = { head_references };
 

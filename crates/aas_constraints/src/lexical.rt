@@ -1,8 +1,8 @@
 ghost use Rattle.std.specs.Prelude.{◌≡◌, nat_le, length};
 ghost use Rattle.std.specs.List.{list_all};
-ghost use Rattle.aas_rules.specs.Decided.{has_form, is_identifier, is_language, is_media_type, is_utc_date_time, is_version};
-ghost use Rattle.aas_rules.specs.Lexical.{administration_has_form, asset_has_form, extension_has_form, head_has_form, payload_has_form, qualifier_has_form, resource_has_form, specific_asset_id_has_form};
-ghost use Rattle.aas_rules.specs.Texts.{if_any};
+ghost use Rattle.aas_constraint_rules.specs.Decided.{has_form, is_identifier, is_language, is_media_type, is_utc_date_time, is_version};
+ghost use Rattle.aas_constraint_rules.specs.Lexical.{administration_has_form, asset_has_form, extension_has_form, head_has_form, payload_has_form, qualifier_has_form, resource_has_form, specific_asset_id_has_form};
+ghost use Rattle.aas_constraint_rules.specs.Texts.{if_any};
 
 use crate::texts::{
     has_form, is_identifier, is_language, is_media_type, is_short, is_there, is_utc_date_time,

@@ -1,8 +1,8 @@
 ghost use Rattle.std.specs.Prelude.{◌≡◌, ◌∷◌, [], ◌++◌, List, ℕ, filter_map, map, IfOk};
 ghost use Rattle.std.specs.Prelude.{chars};
-ghost use Rattle.aas_rules.specs.Texts.{all_differ, is_among};
-ghost use Rattle.aas_rules.specs.Sites.{Own};
-ghost use Rattle.aas_rules.specs.Rules.{name_of, is_repeat};
+ghost use Rattle.aas_constraint_rules.specs.Texts.{all_differ, is_among};
+ghost use Rattle.aas_constraint_rules.specs.Sites.{Own};
+ghost use Rattle.aas_constraint_rules.specs.Rules.{name_of, is_repeat};
 ghost use Rattle.aas_constraints.specs.Repeats.{HasTexts};
 
 use aas_model::{Extension, NoMemory, Qualifier, Text};

@@ -2,9 +2,9 @@ ghost use Rattle.std.specs.Prelude.{◌≡◌};
 ghost use Rattle.std.specs.List.{list_all};
 ghost use Rattle.aas_model.specs.declared.reference.Reference.{out-Reference};
 ghost use Rattle.aas_reference.specs.Rules.{is_external};
-ghost use Rattle.aas_rules.specs.Decided.{has_form};
-ghost use Rattle.aas_rules.specs.Rules.{has_main_semantics, has_template_qualifier, is_template_qualifier};
-ghost use Rattle.aas_rules.specs.Texts.{if_any};
+ghost use Rattle.aas_constraint_rules.specs.Decided.{has_form};
+ghost use Rattle.aas_constraint_rules.specs.Rules.{has_main_semantics, has_template_qualifier, is_template_qualifier};
+ghost use Rattle.aas_constraint_rules.specs.Texts.{if_any};
 
 use crate::lexical::value_has_form;
 use aas_model::{

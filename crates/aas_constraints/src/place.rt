@@ -1,7 +1,7 @@
 ghost use Rattle.std.specs.Prelude.{◌≡◌, IfOk, List};
 ghost use Rattle.std.specs.Option.{option_copied};
-ghost use Rattle.aas_rules.specs.Sites.{Own, stands_in_list, step_to};
-ghost use Rattle.aas_rules.specs.Rules.{semantics_of};
+ghost use Rattle.aas_constraint_rules.specs.Sites.{Own, stands_in_list, step_to};
+ghost use Rattle.aas_constraint_rules.specs.Rules.{semantics_of};
 ghost use Rattle.aas_constraints.specs.Walk.{own_of, above_of, Knows, first_broken, or_next};
 
 use crate::demands::stands_in_list;

@@ -1,10 +1,10 @@
 ghost use Rattle.std.specs.Prelude.{◌≡◌, ◌++◌, [], ◌∷◌, List, flat_map};
 ghost use Rattle.aas_model.specs.declared.reference.Reference.{Reference};
 ghost use Rattle.std.specs.List.{list_all};
-ghost use Rattle.aas_rules.specs.Decided.{is_identifier, is_string};
-ghost use Rattle.aas_rules.specs.Lexical.{reference_has_form};
-ghost use Rattle.aas_rules.specs.Attributes.{payload_references};
-ghost use Rattle.aas_rules.specs.Texts.{as_list};
+ghost use Rattle.aas_constraint_rules.specs.Decided.{is_identifier, is_string};
+ghost use Rattle.aas_constraint_rules.specs.Lexical.{reference_has_form};
+ghost use Rattle.aas_constraint_rules.specs.Attributes.{payload_references};
+ghost use Rattle.aas_constraint_rules.specs.Texts.{as_list};
 ghost use Rattle.aas_constraints.specs.References.{reference_fault, reference_is_string, references_fault};
 
 use crate::texts::{is_identifier, is_string};

@@ -1,7 +1,7 @@
 ghost use Rattle.std.specs.Prelude.{◌≡◌, List, ℕ, flat_map};
 ghost use Rattle.std.specs.List.{list_all};
-ghost use Rattle.aas_rules.specs.Decided.{is_string};
-ghost use Rattle.aas_rules.specs.Texts.{as_list};
+ghost use Rattle.aas_constraint_rules.specs.Decided.{is_string};
+ghost use Rattle.aas_constraint_rules.specs.Texts.{as_list};
 
 use crate::texts::is_string;
 use aas_model::{
@@ -61,7 +61,7 @@ impl HoldsTexts for LangText {
 }
 
 impl HoldsTexts for Extension {
-    ghost use Rattle.aas_rules.specs.Attributes.{extension_texts};
+    ghost use Rattle.aas_constraint_rules.specs.Attributes.{extension_texts};
 
     ghost texts = { extension_texts };
 
@@ -71,7 +71,7 @@ impl HoldsTexts for Extension {
 }
 
 impl HoldsTexts for Qualifier {
-    ghost use Rattle.aas_rules.specs.Attributes.{qualifier_texts};
+    ghost use Rattle.aas_constraint_rules.specs.Attributes.{qualifier_texts};
 
     ghost texts = { qualifier_texts };
 
@@ -81,7 +81,7 @@ impl HoldsTexts for Qualifier {
 }
 
 impl HoldsTexts for SpecificAssetId {
-    ghost use Rattle.aas_rules.specs.Attributes.{specific_asset_id_texts};
+    ghost use Rattle.aas_constraint_rules.specs.Attributes.{specific_asset_id_texts};
 
     ghost texts = { specific_asset_id_texts };
 
@@ -91,7 +91,7 @@ impl HoldsTexts for SpecificAssetId {
 }
 
 impl HoldsTexts for Administration {
-    ghost use Rattle.aas_rules.specs.Attributes.{administration_texts};
+    ghost use Rattle.aas_constraint_rules.specs.Attributes.{administration_texts};
 
     ghost texts = { administration_texts };
 
@@ -104,7 +104,7 @@ impl HoldsTexts for Administration {
 }
 
 impl HoldsTexts for Resource {
-    ghost use Rattle.aas_rules.specs.Attributes.{resource_texts};
+    ghost use Rattle.aas_constraint_rules.specs.Attributes.{resource_texts};
 
     ghost texts = { resource_texts };
 
@@ -114,7 +114,7 @@ impl HoldsTexts for Resource {
 }
 
 impl HoldsTexts for Payload {
-    ghost use Rattle.aas_rules.specs.Attributes.{payload_texts};
+    ghost use Rattle.aas_constraint_rules.specs.Attributes.{payload_texts};
 
     ghost texts = { payload_texts };
 
@@ -153,7 +153,7 @@ impl HoldsTexts for Payload {
 }
 
 impl HoldsTexts for Common {
-    ghost use Rattle.aas_rules.specs.Attributes.{common_texts};
+    ghost use Rattle.aas_constraint_rules.specs.Attributes.{common_texts};
 
     ghost texts = { common_texts };
 
@@ -167,7 +167,7 @@ impl HoldsTexts for Common {
 }
 
 impl HoldsTexts for Head {
-    ghost use Rattle.aas_rules.specs.Attributes.{head_texts};
+    ghost use Rattle.aas_constraint_rules.specs.Attributes.{head_texts};
 
     ghost texts = { head_texts };
 
@@ -182,7 +182,7 @@ impl HoldsTexts for Head {
 }
 
 impl HoldsTexts for AssetInformation {
-    ghost use Rattle.aas_rules.specs.Attributes.{asset_texts};
+    ghost use Rattle.aas_constraint_rules.specs.Attributes.{asset_texts};
 
     ghost texts = { asset_texts };
 

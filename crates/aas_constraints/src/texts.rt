@@ -1,6 +1,6 @@
 ghost use Rattle.std.specs.Prelude.{◌≡◌, chars, length, nat_le};
-ghost use Rattle.aas_rules.specs.Decided.{has_form, is_identifier, is_language, is_media_type, is_path_name, is_string, is_utc_date_time, is_version};
-ghost use Rattle.aas_rules.specs.Lexical.{is_there};
+ghost use Rattle.aas_constraint_rules.specs.Decided.{has_form, is_identifier, is_language, is_media_type, is_path_name, is_string, is_utc_date_time, is_version};
+ghost use Rattle.aas_constraint_rules.specs.Lexical.{is_there};
 
 use aas_model::{Text, ValueType};
 

@@ -1,11 +1,11 @@
 -- What is read can be written: it is whole, and the kept data of each whole tree is in order.
 use Rattle.std.proofs.Common.{◌≡◌, true, List, ℕ, Option, Some, None, Ok, inl, inr}
 use Rattle.serde_json.specs.Data.{Data}
-use Rattle.aas_table.specs.TooDeep.{Levels}
-use Rattle.aas_spelling.specs.Reading.{reading}
-use Rattle.aas_spelling.specs.Reads.{ReadsIf, ReadsBytes}
-use Rattle.aas_spelling.specs.Spells.{Trees}
-use Rattle.aas_mapping.specs.Trees.{elements, shells, submodels, concepts, environments}
+use Rattle.aas_json_table.specs.TooDeep.{Levels}
+use Rattle.aas_json_spelling.specs.Reading.{reading}
+use Rattle.aas_json_spelling.specs.Reads.{ReadsIf, ReadsBytes}
+use Rattle.aas_json_spelling.specs.Spells.{Trees}
+use Rattle.aas_json_mapping.specs.Trees.{elements, shells, submodels, concepts, environments}
 use Rattle.aas_json_write.specs.Order.{element_in_order, shell_in_order, submodel_in_order, concept_in_order, environment_in_order}
 use Rattle.aas_json_write.proofs.InWhole.{element_is_in_order, shell_is_in_order, submodel_is_in_order, concept_is_in_order, environment_is_in_order}
 use Rattle.aas_model.specs.declared.documents.Concept.{Concept}

@@ -6,7 +6,7 @@ use crate::documents::{
 };
 use crate::faults::{concept_fault, element_fault, shell_fault, submodel_fault};
 use aas_model::{Extent, ReadFault};
-use aas_text::NoMemory;
+use aas_model_text::NoMemory;
 use std::alloc::Global;
 
 /// The text, in memory of its own.

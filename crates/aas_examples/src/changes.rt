@@ -10,7 +10,7 @@ use aas_path::{
     InsertFault, PathFault, ReplaceFault, apply, apply_all, at, at_mut, insert, parse_path,
     patch_fits, patch_fits_all, print_path, remove, replace,
 };
-use aas_text::NoMemory;
+use aas_model_text::NoMemory;
 use std::alloc::Global;
 
 fn bad_path(alloc: Global, fault: PathFault) -> Result<String, NoMemory> {

@@ -15,7 +15,7 @@ use aas_json_write::{
 use aas_model::{
     AssetInformation, Concept, Duplicate, Element, Environment, Extent, Shell, Submodel,
 };
-use aas_text::NoMemory;
+use aas_model_text::NoMemory;
 use aas_value::{value_of, value_of_submodel};
 use serde_json::Value;
 use std::alloc::Global;

@@ -1,16 +1,16 @@
-// The first fault of a document or element: `NUMBER at PATH`, or `sound`. Number 0 stands for the lexical rules.
+// The first fault of a document or element: `NUMBER at PATH`, or `valid`. Number 0 stands for the lexical rules.
 use crate::answer::{text, text_of, unread};
 use aas_constraints::{check_concept, check_element, check_shell, check_submodel};
 use aas_json_read::{read_concept, read_element, read_shell, read_submodel};
 use aas_model::Fault;
 use aas_path::print_fault_path;
-use aas_text::NoMemory;
+use aas_model_text::NoMemory;
 use itoa::Buffer;
 use std::alloc::Global;
 
 fn line(alloc: Global, fault: &Option<Fault>) -> Result<String, NoMemory> {
     let Some(fault) = fault else {
-        return text(alloc, "sound");
+        return text(alloc, "valid");
     };
     let mut line = Vec::from_slice(alloc, Buffer::new().format(fault.number).as_bytes())?;
     line.extend_from_slice(b" at ")?;

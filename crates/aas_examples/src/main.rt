@@ -11,7 +11,7 @@ mod faults;
 ghost use Rattle.std.specs.Prelude.{◌≡◌, MatchOption, string_bytes};
 
 use crate::answer::answer;
-use aas_text::NoMemory;
+use aas_model_text::NoMemory;
 use std::alloc::Global;
 use std::io::{self, BufRead, BufReader};
 

@@ -7,15 +7,15 @@ use Rattle.std.proofs.lemmas.List.Elements.{filter-append}
 use Rattle.serde_json.specs.Data.{Data, object, Items, no_items, item, no_members, depth, items_depth}
 use Rattle.serde_json.specs.View.{view, items_view}
 use Rattle.serde_json.specs.declared.value.Value.{Value}
-use Rattle.aas_table.specs.Table.{Form, one, element, operation_variable, parts}
-use Rattle.aas_table.specs.Rows.{sorted}
-use Rattle.aas_table.specs.Plain.{plain_object, add, add_item, listed}
-use Rattle.aas_table.specs.Spelled.{list_of, onto}
-use Rattle.aas_spelling.specs.Lists.{Each}
-use Rattle.aas_spelling.proofs.Rows.{and_left, and_right}
-use Rattle.aas_mapping.specs.Elements.{Child, is_input, is_output, is_inoutput, spelled_child, spell_element, spell_variable, children_attribute, variables_attribute}
-use Rattle.aas_mapping.specs.Whole.{Placed}
-use Rattle.aas_mapping.proofs.Elements.{child_role, seen_role}
+use Rattle.aas_json_table.specs.Table.{MemberType, one, element, operation_variable, parts}
+use Rattle.aas_json_table.specs.Rows.{sorted}
+use Rattle.aas_json_table.specs.Canonical.{canonical_object, add, add_item, listed}
+use Rattle.aas_json_table.specs.Spelled.{list_of, onto}
+use Rattle.aas_json_spelling.specs.Lists.{Each}
+use Rattle.aas_json_spelling.proofs.Rows.{and_left, and_right}
+use Rattle.aas_json_mapping.specs.Elements.{Child, is_input, is_output, is_inoutput, spelled_child, spell_element, spell_variable, children_attribute, variables_attribute}
+use Rattle.aas_json_mapping.specs.Whole.{Placed}
+use Rattle.aas_json_mapping.proofs.Elements.{child_role, seen_role}
 use Rattle.aas_model.specs.declared.element.Element.{Element}
 use Rattle.aas_model.specs.declared.element.Role.{Role}
 use Rattle.aas_model.specs.declared.element.Role.TheVariants as role
@@ -99,8 +99,8 @@ children_are kids o e = spelled_list (λ c. c.spelling) kids ∙ e
 -- ---- variables
 
 -- the variable that an element spells
-pub variable_is : (found : Option Element) (find : List ℕ → Form → Option Data) → option_map spell_element found ≡ find (codes "value") (one element)
-    → option_map (λ e. spell_variable (spelled_child e)) found ≡ plain_object (Some (sorted (parts operation_variable))) find
+pub variable_is : (found : Option Element) (find : List ℕ → MemberType → Option Data) → option_map spell_element found ≡ find (codes "value") (one element)
+    → option_map (λ e. spell_variable (spelled_child e)) found ≡ canonical_object (Some (sorted (parts operation_variable))) find
 variable_is None find e = ap (λ o. if is_some o && true then Some (object (add (codes "value") o no_members)) else None) e
 variable_is (Some x) find e = ap (λ o. if is_some o && true then Some (object (add (codes "value") o no_members)) else None) e
 

@@ -1,10 +1,10 @@
 -- The children of each kind of element, as they were read.
 use Rattle.std.proofs.Common.{◌≡◌, ◌⊎◌, ℕ, List, [], ◌++◌, Option, map, codes, inl, inr, sym, ap, ◌∙◌, subst}
 use Rattle.serde_json.specs.Data.{Data}
-use Rattle.aas_names.specs.declared.kind.Kind.{Kind}
-use Rattle.aas_names.specs.declared.kind.Kind.TheVariants as kind
-use Rattle.aas_table.specs.Table.{Form, many, element, data_element, operation_variable}
-use Rattle.aas_mapping.specs.Elements.{spelled_child}
+use Rattle.aas_model_names.specs.declared.kind.Kind.{Kind}
+use Rattle.aas_model_names.specs.declared.kind.Kind.TheVariants as kind
+use Rattle.aas_json_table.specs.Table.{MemberType, many, element, data_element, operation_variable}
+use Rattle.aas_json_mapping.specs.Elements.{spelled_child}
 use Rattle.aas_model.specs.declared.element.Element.{Element}
 use Rattle.aas_model.specs.declared.element.Role.{Role}
 use Rattle.aas_model.specs.declared.element.Role.TheVariants as role
@@ -14,7 +14,7 @@ use Rattle.aas_json_read.proofs.Kids.{append_again, children_are, inputs_are, ou
 use Rattle.aas_json_read.proofs.Places.{annotations_fit, statements_fit, collected_fit, listed_fit, variables_fit}
 
 -- the children of a kind are found, and each is in its place
-pub record AreRead (find : List ℕ → Form → Option Data) (k : Kind) (kids : List Element) : Type 0 where
+pub record AreRead (find : List ℕ → MemberType → Option Data) (k : Kind) (kids : List Element) : Type 0 where
   pub says : FindsKids find k (map spelled_child kids)
   pub places : FitUnder k kids
 
@@ -22,19 +22,19 @@ pub record AreRead (find : List ℕ → Form → Option Data) (k : Kind) (kids :
 pub added : (r : Role) (before all : List Element) (o : Option Data) (a : AddsChildren r before all o) → before ≡ [] → a.more ≡ all
 added r before all o a none = sym (a.after ∙ ap (λ l. l ++ a.more) none)
 
-pub annotations_read : (find : List ℕ → Form → Option Data) (k : Kind) (before all : List Element) → k ≡ kind.AnnotatedRelationshipElement → before ≡ []
+pub annotations_read : (find : List ℕ → MemberType → Option Data) (k : Kind) (before all : List Element) → k ≡ kind.AnnotatedRelationshipElement → before ≡ []
     → AddsChildren role.Annotation before all (find (codes "annotations") (many data_element)) → AreRead find k all
 annotations_read find k before all is none a =
     subst (λ j. AreRead find j all) (sym is)
     (subst (AreRead find kind.AnnotatedRelationshipElement) (added role.Annotation before all _ a none) (record { says = children_are a.more _ a.says; places = annotations_fit a.more a.places }))
 
-pub statements_read : (find : List ℕ → Form → Option Data) (k : Kind) (before all : List Element) → k ≡ kind.Entity → before ≡ []
+pub statements_read : (find : List ℕ → MemberType → Option Data) (k : Kind) (before all : List Element) → k ≡ kind.Entity → before ≡ []
     → AddsChildren role.Statement before all (find (codes "statements") (many element)) → AreRead find k all
 statements_read find k before all is none a =
     subst (λ j. AreRead find j all) (sym is)
     (subst (AreRead find kind.Entity) (added role.Statement before all _ a none) (record { says = children_are a.more _ a.says; places = statements_fit a.more a.places }))
 
-pub members_read : (find : List ℕ → Form → Option Data) (k : Kind) (before all : List Element) → (k ≡ kind.SubmodelElementCollection) ⊎ (k ≡ kind.SubmodelElementList) → before ≡ []
+pub members_read : (find : List ℕ → MemberType → Option Data) (k : Kind) (before all : List Element) → (k ≡ kind.SubmodelElementCollection) ⊎ (k ≡ kind.SubmodelElementList) → before ≡ []
     → AddsChildren role.Member before all (find (codes "value") (many element)) → AreRead find k all
 members_read find k before all (inl is) none a =
     subst (λ j. AreRead find j all) (sym is)
@@ -43,7 +43,7 @@ members_read find k before all (inr is) none a =
     subst (λ j. AreRead find j all) (sym is)
     (subst (AreRead find kind.SubmodelElementList) (added role.Member before all _ a none) (record { says = children_are a.more _ a.says; places = listed_fit a.more a.places }))
 
-pub variables_read : (find : List ℕ → Form → Option Data) (before input output all : List Element) → before ≡ []
+pub variables_read : (find : List ℕ → MemberType → Option Data) (before input output all : List Element) → before ≡ []
     → AddsChildren role.Input before input (find (codes "inputVariables") (many operation_variable))
     → AddsChildren role.Output input output (find (codes "outputVariables") (many operation_variable))
     → AddsChildren role.Inoutput output all (find (codes "inoutputVariables") (many operation_variable))

@@ -1,16 +1,16 @@
 -- One level of an element: what it says, from what was found among its members.
 use Rattle.std.proofs.Common.{◌≡◌, ℕ, List, [], ◌++◌, true, false, Option, Some, None, map, codes, unwrap_or, refl, ap, ◌∙◌, subst}
 use Rattle.serde_json.specs.Data.{Data, string}
-use Rattle.aas_names.specs.KindNames.{name_of}
-use Rattle.aas_names.specs.declared.kind.Kind.{Kind}
-use Rattle.aas_names.specs.declared.kind.Kind.TheVariants as kind
-use Rattle.aas_table.specs.Table.{Form, text, Row, referable, has_semantics, qualifiable, kinds}
-use Rattle.aas_table.specs.Rows.{find, sorted}
-use Rattle.aas_table.specs.Plain.{plain_object, are_there}
-use Rattle.aas_spelling.proofs.Rows.{rising}
-use Rattle.aas_mapping.specs.Elements.{Child, spelled_child, spell_element, rows_for, model_type_of, own_attributes, element_attributes}
-use Rattle.aas_mapping.specs.Whole.{is_data_element}
-use Rattle.aas_mapping.proofs.Elements.{made, spell_at}
+use Rattle.aas_model_names.specs.KindNames.{name_of}
+use Rattle.aas_model_names.specs.declared.kind.Kind.{Kind}
+use Rattle.aas_model_names.specs.declared.kind.Kind.TheVariants as kind
+use Rattle.aas_json_table.specs.Table.{MemberType, text, Row, referable, has_semantics, qualifiable, kinds}
+use Rattle.aas_json_table.specs.Rows.{find, sorted}
+use Rattle.aas_json_table.specs.Canonical.{canonical_object, are_there}
+use Rattle.aas_json_spelling.proofs.Rows.{rising}
+use Rattle.aas_json_mapping.specs.Elements.{Child, spelled_child, spell_element, rows_for, model_type_of, own_attributes, element_attributes}
+use Rattle.aas_json_mapping.specs.Whole.{is_data_element}
+use Rattle.aas_json_mapping.proofs.Elements.{made, spell_at}
 use Rattle.aas_model.specs.Payload.{kind_of}
 use Rattle.aas_model.specs.declared.common.Common.{Common}
 use Rattle.aas_model.specs.declared.payload.Payload.{Payload}
@@ -18,13 +18,13 @@ use Rattle.aas_model.specs.declared.payload.Payload.TheVariants as p
 use Rattle.aas_model.specs.declared.element.Element.{Element}
 use Rattle.aas_model.specs.declared.element.Role.{Role}
 use Rattle.aas_json_read.specs.Found.{FindsCommon}
-use Rattle.aas_json_read.specs.Own.{own_rows, spell_own, plain_own, is_data_kind, FindsKids}
+use Rattle.aas_json_read.specs.Own.{own_rows, spell_own, canonical_own, is_data_kind, FindsKids}
 use Rattle.aas_json_read.proofs.Rows.{Found, found_says, says_found, says_lacks, lacks_says, lacks_later}
 
 -- ---- an element with all that its kind demands
 
 -- the members of every element, before those of a kind's own
-with_common : (find : List ℕ → Form → Option Data) (c : Common) (x : Payload) (kids : List Child) (rows : List Row) → FindsCommon find c → Some (string (model_type_of x)) ≡ find (codes "modelType") text
+with_common : (find : List ℕ → MemberType → Option Data) (c : Common) (x : Payload) (kids : List Child) (rows : List Row) → FindsCommon find c → Some (string (model_type_of x)) ≡ find (codes "modelType") text
     → Found rows (element_attributes c x kids) find → Found (referable ++ (has_semantics ++ (qualifiable ++ rows))) (element_attributes c x kids) find
 with_common find c x kids rows f name own = record {
   agree = (f.category, (f.description, (f.display_name, (f.extensions, (f.id_short, (name, (f.specifications, (f.semantics.semantic_id, (f.semantics.supplemental, (f.qualifiers, own.agree))))))))));
@@ -34,7 +34,7 @@ with_common find c x kids rows f name own = record {
 abbrev all_own : Payload → List Row
 all_own x = unwrap_or (find (model_type_of x) kinds) []
 
-found_level : (find : List ℕ → Form → Option Data) (c : Common) (x : Payload) (kids : List Child) → FindsCommon find c → Some (string (model_type_of x)) ≡ find (codes "modelType") text
+found_level : (find : List ℕ → MemberType → Option Data) (c : Common) (x : Payload) (kids : List Child) → FindsCommon find c → Some (string (model_type_of x)) ≡ find (codes "modelType") text
     → Found (own_rows (kind_of x)) (own_attributes x []) find → FindsKids find (kind_of x) kids → Found (rows_for (model_type_of x)) (element_attributes c x kids) find
 found_level find c (p.Property t v i) kids f name own below = with_common find c (p.Property t v i) kids (all_own (p.Property t v i)) f name (record { agree = own.agree; there = own.there })
 found_level find c (p.MultiLanguageProperty v i) kids f name own below = with_common find c (p.MultiLanguageProperty v i) kids (all_own (p.MultiLanguageProperty v i)) f name (record { agree = own.agree; there = own.there })
@@ -68,13 +68,13 @@ own_rise kind.SubmodelElementCollection = refl
 own_rise kind.SubmodelElementList = refl
 
 -- What is found spells the element.
-pub element_is : (find : List ℕ → Form → Option Data) (r : Role) (c : Common) (x : Payload) (kids : List Element) (k : Kind) → kind_of x ≡ k → FindsCommon find c
-    → Some (string (name_of k)) ≡ find (codes "modelType") text → Some (spell_own x) ≡ plain_own k find → FindsKids find k (map spelled_child kids)
-    → Some (spell_element (made r c x kids)) ≡ plain_object (Some (sorted (rows_for (name_of k)))) find
+pub element_is : (find : List ℕ → MemberType → Option Data) (r : Role) (c : Common) (x : Payload) (kids : List Element) (k : Kind) → kind_of x ≡ k → FindsCommon find c
+    → Some (string (name_of k)) ≡ find (codes "modelType") text → Some (spell_own x) ≡ canonical_own k find → FindsKids find k (map spelled_child kids)
+    → Some (spell_element (made r c x kids)) ≡ canonical_object (Some (sorted (rows_for (name_of k)))) find
 element_is find r c x kids k is f name own below =
     let children = map spelled_child kids in
-    let Says : Kind → Type 0 = λ j. Some (string (name_of j)) ≡ find (codes "modelType") text → Some (spell_own x) ≡ plain_own j find → FindsKids find j children
-    → Some (spell_element (made r c x kids)) ≡ plain_object (Some (sorted (rows_for (name_of j)))) find in
+    let Says : Kind → Type 0 = λ j. Some (string (name_of j)) ≡ find (codes "modelType") text → Some (spell_own x) ≡ canonical_own j find → FindsKids find j children
+    → Some (spell_element (made r c x kids)) ≡ canonical_object (Some (sorted (rows_for (name_of j)))) find in
     subst Says is (λ n o b.
     ap Some (spell_at r c x kids)
     ∙ found_says (rows_for (model_type_of x)) (element_attributes c x children) find
@@ -85,7 +85,7 @@ element_is find r c x kids k is f name own below =
 abbrev find_rows : Kind → Option (List Row)
 find_rows k = find (name_of k) kinds
 
-all_lack : (find : List ℕ → Form → Option Data) (k : Kind) → are_there (own_rows k) find ≡ false → are_there (rows_for (name_of k)) find ≡ false
+all_lack : (find : List ℕ → MemberType → Option Data) (k : Kind) → are_there (own_rows k) find ≡ false → are_there (rows_for (name_of k)) find ≡ false
 all_lack find kind.Property e = lacks_later (referable ++ (has_semantics ++ qualifiable)) (unwrap_or (find_rows kind.Property) []) find e
 all_lack find kind.MultiLanguageProperty e = lacks_later (referable ++ (has_semantics ++ qualifiable)) (unwrap_or (find_rows kind.MultiLanguageProperty) []) find e
 all_lack find kind.Range e = lacks_later (referable ++ (has_semantics ++ qualifiable)) (unwrap_or (find_rows kind.Range) []) find e
@@ -101,7 +101,7 @@ all_lack find kind.Operation e = lacks_later (referable ++ (has_semantics ++ qua
 all_lack find kind.SubmodelElementCollection e = lacks_later (referable ++ (has_semantics ++ qualifiable)) (unwrap_or (find_rows kind.SubmodelElementCollection) []) find e
 all_lack find kind.SubmodelElementList e = lacks_later (referable ++ (has_semantics ++ qualifiable)) (unwrap_or (find_rows kind.SubmodelElementList) []) find e
 
-pub element_lacks : (find : List ℕ → Form → Option Data) (k : Kind) → None ≡ plain_own k find → None ≡ plain_object (Some (sorted (rows_for (name_of k)))) find
+pub element_lacks : (find : List ℕ → MemberType → Option Data) (k : Kind) → None ≡ canonical_own k find → None ≡ canonical_object (Some (sorted (rows_for (name_of k)))) find
 element_lacks find k e = lacks_says (rows_for (name_of k)) find (all_lack find k (says_lacks (own_rows k) find e))
 
 -- ---- data elements

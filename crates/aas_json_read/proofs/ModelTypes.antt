@@ -4,16 +4,16 @@ use Rattle.std.specs.List.{list_all}
 use Rattle.std.proofs.lemmas.Slice.Eq.{bytes_eq-Decides}
 use Rattle.serde_json.specs.Data.{Data, null, boolean, number, string, array, object, Members}
 use Rattle.serde_json.specs.Find.{get_member, as_str}
-use Rattle.aas_names.specs.KindNames.{name_of, names}
-use Rattle.aas_names.specs.declared.kind.Kind.{Kind}
-use Rattle.aas_names.specs.declared.kind.Kind.TheVariants as kind
-use Rattle.aas_table.specs.Names.{has}
-use Rattle.aas_table.specs.Table.{element, data_element, word, text, Row, model_types}
-use Rattle.aas_table.specs.Rows.{find, sorted, choose, rows_of}
-use Rattle.aas_table.specs.Plain.{plain, plain_member}
-use Rattle.aas_spelling.proofs.Rows.{and_left, and_right}
-use Rattle.aas_members.proofs.Lookup.{plain_member_is}
-use Rattle.aas_mapping.specs.Elements.{rows_for}
+use Rattle.aas_model_names.specs.KindNames.{name_of, names}
+use Rattle.aas_model_names.specs.declared.kind.Kind.{Kind}
+use Rattle.aas_model_names.specs.declared.kind.Kind.TheVariants as kind
+use Rattle.aas_json_table.specs.Names.{has}
+use Rattle.aas_json_table.specs.Table.{element, data_element, word, text, Row, model_types}
+use Rattle.aas_json_table.specs.Rows.{find, sorted, choose, rows_of}
+use Rattle.aas_json_table.specs.Canonical.{canonical, canonical_member}
+use Rattle.aas_json_spelling.proofs.Rows.{and_left, and_right}
+use Rattle.aas_json_members.proofs.Lookup.{canonical_member_is}
+use Rattle.aas_json_mapping.specs.Elements.{rows_for}
 use Rattle.aas_model.specs.declared.element.Role.{Role}
 use Rattle.aas_model.specs.declared.element.Role.TheVariants as role
 use Rattle.aas_json_read.specs.Own.{elements_under, is_data_kind, may_have}
@@ -24,7 +24,7 @@ word_of : (b : Bool) (s n : List ℕ) → Some (string n) ≡ (if b then Some (s
 word_of true s n e = cc
 word_of false s n e = cc
 
-named : (d : Option Data) (n : List ℕ) → Some (string n) ≡ option_and_then (plain (word names)) d → d ≡ Some (string n)
+named : (d : Option Data) (n : List ℕ) → Some (string n) ≡ option_and_then (canonical (word names)) d → d ≡ Some (string n)
 named None n e = cc
 named (Some null) n e = cc
 named (Some (boolean b)) n e = cc
@@ -34,11 +34,11 @@ named (Some (array ds)) n e = cc
 named (Some (object ms)) n e = cc
 
 -- what modelType is, where it is the name of a kind
-pub model_type_is : (ms : Members) (k : Kind) → Some (string (name_of k)) ≡ plain_member ms (codes "modelType") (word names) → get_member (codes "modelType") ms ≡ Some (string (name_of k))
-model_type_is ms k e = named (get_member (codes "modelType") ms) (name_of k) (e ∙ plain_member_is (codes "modelType") (word names) ms)
+pub model_type_is : (ms : Members) (k : Kind) → Some (string (name_of k)) ≡ canonical_member ms (codes "modelType") (word names) → get_member (codes "modelType") ms ≡ Some (string (name_of k))
+model_type_is ms k e = named (get_member (codes "modelType") ms) (name_of k) (e ∙ canonical_member_is (codes "modelType") (word names) ms)
 
-pub found_name : (ms : Members) (k : Kind) → Some (string (name_of k)) ≡ plain_member ms (codes "modelType") (word names) → Some (string (name_of k)) ≡ plain_member ms (codes "modelType") text
-found_name ms k e = sym (plain_member_is (codes "modelType") text ms ∙ ap (option_and_then (plain text)) (model_type_is ms k e))
+pub found_name : (ms : Members) (k : Kind) → Some (string (name_of k)) ≡ canonical_member ms (codes "modelType") (word names) → Some (string (name_of k)) ≡ canonical_member ms (codes "modelType") text
+found_name ms k e = sym (canonical_member_is (codes "modelType") text ms ∙ ap (option_and_then (canonical text)) (model_type_is ms k e))
 
 -- ---- the name of no kind
 
@@ -57,7 +57,7 @@ no_word : (b : Bool) (s : List ℕ) → None ≡ (if b then Some (string s) else
 no_word true s e = cc
 no_word false s e = refl
 
-unnamed : (d : Option Data) (xs : List (List ℕ × List Row)) → list_all (λ (x : List ℕ × List Row). has names x.0) xs ≡ true → None ≡ option_and_then (plain (word names)) d
+unnamed : (d : Option Data) (xs : List (List ℕ × List Row)) → list_all (λ (x : List ℕ × List Row). has names x.0) xs ≡ true → None ≡ option_and_then (canonical (word names)) d
     → option_and_then (λ n. find n xs) (option_and_then as_str d) ≡ None
 unnamed None xs there e = refl
 unnamed (Some null) xs there e = refl
@@ -67,11 +67,11 @@ unnamed (Some (string s)) xs there e = none_found s names xs there (no_word (has
 unnamed (Some (array ds)) xs there e = refl
 unnamed (Some (object ms)) xs there e = refl
 
-none_under : (ms : Members) → None ≡ plain_member ms (codes "modelType") (word names) → None ≡ option_and_then (plain (word names)) (get_member (codes "modelType") ms)
-none_under ms e = e ∙ plain_member_is (codes "modelType") (word names) ms
+none_under : (ms : Members) → None ≡ canonical_member ms (codes "modelType") (word names) → None ≡ option_and_then (canonical (word names)) (get_member (codes "modelType") ms)
+none_under ms e = e ∙ canonical_member_is (codes "modelType") (word names) ms
 
 -- where modelType names no kind, there are no rows
-pub no_rows : (r : Role) (ms : Members) → None ≡ plain_member ms (codes "modelType") (word names) → None ≡ rows_of (elements_under r) ms
+pub no_rows : (r : Role) (ms : Members) → None ≡ canonical_member ms (codes "modelType") (word names) → None ≡ rows_of (elements_under r) ms
 unfolding rows_of
 no_rows role.Annotation ms e = sym (ap (option_map sorted) (unnamed (get_member (codes "modelType") ms) (model_types data_element) refl (none_under ms e)))
 no_rows r ms e = sym (ap (option_map sorted) (unnamed (get_member (codes "modelType") ms) (model_types element) refl (none_under ms e)))
@@ -120,7 +120,7 @@ no_data_rows kind.SubmodelElementCollection e = refl
 no_data_rows kind.SubmodelElementList e = refl
 
 -- where modelType names a kind that may have the role, its rows are those of the kind
-pub rows_are : (r : Role) (ms : Members) (k : Kind) → may_have k r ≡ true → Some (string (name_of k)) ≡ plain_member ms (codes "modelType") (word names)
+pub rows_are : (r : Role) (ms : Members) (k : Kind) → may_have k r ≡ true → Some (string (name_of k)) ≡ canonical_member ms (codes "modelType") (word names)
     → Some (sorted (rows_for (name_of k))) ≡ rows_of (elements_under r) ms
 unfolding rows_of
 rows_are role.Annotation ms k may e =
@@ -129,7 +129,7 @@ rows_are r ms k may e =
     sym (ap (λ d. option_map sorted (choose (model_types element) [] d)) (model_type_is ms k e) ∙ ap (option_map sorted) (kind_rows k))
 
 -- where it names another kind, there are none
-pub rows_are_none : (r : Role) (ms : Members) (k : Kind) → may_have k r ≡ false → Some (string (name_of k)) ≡ plain_member ms (codes "modelType") (word names) → None ≡ rows_of (elements_under r) ms
+pub rows_are_none : (r : Role) (ms : Members) (k : Kind) → may_have k r ≡ false → Some (string (name_of k)) ≡ canonical_member ms (codes "modelType") (word names) → None ≡ rows_of (elements_under r) ms
 unfolding rows_of
 rows_are_none role.Annotation ms k may e =
     sym (ap (λ d. option_map sorted (choose (model_types data_element) [] d)) (model_type_is ms k e) ∙ ap (option_map sorted) (no_data_rows k may))

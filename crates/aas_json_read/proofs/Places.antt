@@ -3,14 +3,14 @@ use Rattle.std.proofs.Common.{◌≡◌, ℕ, List, [], ◌∷◌, ◌++◌, ◌
 use Rattle.std.specs.List.{list_all}
 use Rattle.std.proofs.lemmas.Bool.{le-leb}
 use Rattle.std.proofs.lemmas.List.{map-append}
-use Rattle.aas_names.specs.declared.kind.Kind.{Kind}
-use Rattle.aas_names.specs.declared.kind.Kind.TheVariants as kind
-use Rattle.aas_spelling.specs.Lists.{Each}
-use Rattle.aas_spelling.proofs.Rows.{and_left, and_right}
-use Rattle.aas_mapping.specs.Elements.{is_input, is_output, is_inoutput}
-use Rattle.aas_mapping.specs.Whole.{is_member, is_annotation, is_statement, is_variable, Placed, placed_over, admits, rank, in_order, is_data_element, is_placed}
-use Rattle.aas_mapping.specs.Shape.{IsShaped}
-use Rattle.aas_mapping.proofs.Elements.{made, seen_at, seen_role}
+use Rattle.aas_model_names.specs.declared.kind.Kind.{Kind}
+use Rattle.aas_model_names.specs.declared.kind.Kind.TheVariants as kind
+use Rattle.aas_json_spelling.specs.Lists.{Each}
+use Rattle.aas_json_spelling.proofs.Rows.{and_left, and_right}
+use Rattle.aas_json_mapping.specs.Elements.{is_input, is_output, is_inoutput}
+use Rattle.aas_json_mapping.specs.Whole.{is_member, is_annotation, is_statement, is_variable, Placed, placed_over, admits, rank, in_order, is_data_element, is_placed}
+use Rattle.aas_json_mapping.specs.Shape.{IsShaped}
+use Rattle.aas_json_mapping.proofs.Elements.{made, seen_at, seen_role}
 use Rattle.aas_model.specs.Payload.{kind_of}
 use Rattle.aas_model.specs.declared.common.Common.{Common}
 use Rattle.aas_model.specs.declared.payload.Payload.{Payload}

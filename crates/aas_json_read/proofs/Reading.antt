@@ -1,15 +1,15 @@
 -- From what a value says to the whole tree that it spells.
 use Rattle.std.proofs.Common.{◌≡◌, ℕ, List, Option, Some, None, Result, Ok, Err, refl}
 use Rattle.serde_json.specs.Data.{Data}
-use Rattle.aas_table.specs.TooDeep.{Levels}
+use Rattle.aas_json_table.specs.TooDeep.{Levels}
 use Rattle.aas_model.specs.declared.read_fault.ReadFault.{ReadFault}
 use Rattle.aas_model.specs.declared.read_fault.ReadFault.TheVariants.{NotJson, NotMapping, TooDeep, NoMemory}
-use Rattle.aas_spelling.specs.Values.{IsOrdered}
-use Rattle.aas_spelling.specs.Spells.{Trees}
-use Rattle.aas_spelling.specs.Reading.{reading}
-use Rattle.aas_spelling.specs.Reads.{Reads, ReadsIf, ReadsBytes}
-use Rattle.aas_spelling.proofs.Laws.{Laws, spells_said}
-use Rattle.aas_spelling.proofs.Reading.{reading_ordered}
+use Rattle.aas_json_spelling.specs.Values.{IsOrdered}
+use Rattle.aas_json_spelling.specs.Spells.{Trees}
+use Rattle.aas_json_spelling.specs.Reading.{reading}
+use Rattle.aas_json_spelling.specs.Reads.{Reads, ReadsIf, ReadsBytes}
+use Rattle.aas_json_spelling.proofs.Laws.{Laws, spells_said}
+use Rattle.aas_json_spelling.proofs.Reading.{reading_ordered}
 use Rattle.aas_json_read.specs.Shaped.{shaped}
 
 module _ {A : Type 0} (trees : Trees A) (Shape : A → Type 0) (laws : Laws trees Shape) (Known : A → Type 0) (shape : (t : A) → Known t → Shape t) where

@@ -3,13 +3,13 @@ use Rattle.std.proofs.Common.{◌≡◌, ℕ, List, [], ◌∷◌, ◌++◌, ◌
 use Rattle.std.specs.Cmp.Lexicographic.{slice_cmp}
 use Rattle.std.specs.Ordering.{match_ordering}
 use Rattle.serde_json.specs.Data.{Data, object}
-use Rattle.aas_table.specs.Table.{Form, Row}
-use Rattle.aas_table.specs.Rows.{insert_row, sorted}
-use Rattle.aas_table.specs.Plain.{plain_object, members_by, are_there}
-use Rattle.aas_table.specs.Spelled.{Attributes, attribute, spelled}
-use Rattle.aas_spelling.proofs.Rows.{rising}
-use Rattle.aas_spelling.proofs.Objects.{same_object, same_under, same_there}
-use Rattle.aas_members.proofs.Objects.{Agree, spelled_as}
+use Rattle.aas_json_table.specs.Table.{MemberType, Row}
+use Rattle.aas_json_table.specs.Rows.{insert_row, sorted}
+use Rattle.aas_json_table.specs.Canonical.{canonical_object, members_by, are_there}
+use Rattle.aas_json_table.specs.Spelled.{Attributes, attribute, spelled}
+use Rattle.aas_json_spelling.proofs.Rows.{rising}
+use Rattle.aas_json_spelling.proofs.Objects.{same_object, same_under, same_there}
+use Rattle.aas_json_members.proofs.Objects.{Agree, spelled_as}
 
 -- ---- each required member is there, in both orders
 
@@ -23,7 +23,7 @@ there_swapped true false false y rest = refl
 there_swapped false x true y rest = refl
 there_swapped false x false y rest = refl
 
-there_inserted : (r : Row) (rows : List Row) (g : List ℕ → Form → Option Data) → are_there (insert_row r rows) g ≡ are_there (r ∷ rows) g
+there_inserted : (r : Row) (rows : List Row) (g : List ℕ → MemberType → Option Data) → are_there (insert_row r rows) g ≡ are_there (r ∷ rows) g
 there_inserted r [] g = refl
 there_inserted r (s ∷ ss) g = by_order (slice_cmp nat_cmp r.name s.name) (there_inserted r ss g)
   where
@@ -31,12 +31,12 @@ there_inserted r (s ∷ ss) g = by_order (slice_cmp nat_cmp r.name s.name) (ther
     by_order Less e = refl
     by_order Equal e = refl
     by_order Greater e =
-        ap (λ b. if s.required then is_some (g s.name s.form) && b else b) e
-        ∙ there_swapped r.required (is_some (g r.name r.form)) s.required (is_some (g s.name s.form)) (are_there ss g)
+        ap (λ b. if s.required then is_some (g s.name s.member_type) && b else b) e
+        ∙ there_swapped r.required (is_some (g r.name r.member_type)) s.required (is_some (g s.name s.member_type)) (are_there ss g)
 
-pub there_sorted : (rows : List Row) (g : List ℕ → Form → Option Data) → are_there (sorted rows) g ≡ are_there rows g
+pub there_sorted : (rows : List Row) (g : List ℕ → MemberType → Option Data) → are_there (sorted rows) g ≡ are_there rows g
 there_sorted [] g = refl
-there_sorted (r ∷ rs) g = there_inserted r (sorted rs) g ∙ ap (λ b. if r.required then is_some (g r.name r.form) && b else b) (there_sorted rs g)
+there_sorted (r ∷ rs) g = there_inserted r (sorted rs) g ∙ ap (λ b. if r.required then is_some (g r.name r.member_type) && b else b) (there_sorted rs g)
 
 lacking : (b x : Bool) → (if b then x && false else false) ≡ false
 lacking true true = refl
@@ -44,13 +44,13 @@ lacking true false = refl
 lacking false x = refl
 
 -- what lacks a later row lacks a row
-pub lacks_later : (xs ys : List Row) (g : List ℕ → Form → Option Data) → are_there ys g ≡ false → are_there (xs ++ ys) g ≡ false
+pub lacks_later : (xs ys : List Row) (g : List ℕ → MemberType → Option Data) → are_there ys g ≡ false → are_there (xs ++ ys) g ≡ false
 lacks_later [] ys g e = e
-lacks_later (x ∷ xs) ys g e = ap (λ b. if x.required then is_some (g x.name x.form) && b else b) (lacks_later xs ys g e) ∙ lacking x.required (is_some (g x.name x.form))
+lacks_later (x ∷ xs) ys g e = ap (λ b. if x.required then is_some (g x.name x.member_type) && b else b) (lacks_later xs ys g e) ∙ lacking x.required (is_some (g x.name x.member_type))
 
 -- ---- attributes that agree, in both orders
 
-agree_inserted : (r : Row) (rows : List Row) (g h : List ℕ → Form → Option Data) → g r.name r.form ≡ h r.name r.form → Agree rows g h → Agree (insert_row r rows) g h
+agree_inserted : (r : Row) (rows : List Row) (g h : List ℕ → MemberType → Option Data) → g r.name r.member_type ≡ h r.name r.member_type → Agree rows g h → Agree (insert_row r rows) g h
 agree_inserted r [] g h a agree = (a, tt)
 agree_inserted r (s ∷ ss) g h a agree = by_order (slice_cmp nat_cmp r.name s.name) (agree_inserted r ss g h a agree.1)
   where
@@ -59,38 +59,38 @@ agree_inserted r (s ∷ ss) g h a agree = by_order (slice_cmp nat_cmp r.name s.n
     by_order Equal later = (a, agree)
     by_order Greater later = (agree.0, later)
 
-agree_sorted : (rows : List Row) (g h : List ℕ → Form → Option Data) → Agree rows g h → Agree (sorted rows) g h
+agree_sorted : (rows : List Row) (g h : List ℕ → MemberType → Option Data) → Agree rows g h → Agree (sorted rows) g h
 agree_sorted [] g h agree = tt
 agree_sorted (r ∷ rs) g h agree = agree_inserted r (sorted rs) g h agree.0 (agree_sorted rs g h agree.1)
 
-inserted_agree : (r : Row) (rows : List Row) (g h : List ℕ → Form → Option Data) → Agree (insert_row r rows) g h → (g r.name r.form ≡ h r.name r.form) × Agree rows g h
+inserted_agree : (r : Row) (rows : List Row) (g h : List ℕ → MemberType → Option Data) → Agree (insert_row r rows) g h → (g r.name r.member_type ≡ h r.name r.member_type) × Agree rows g h
 inserted_agree r [] g h agree = (agree.0, tt)
 inserted_agree r (s ∷ ss) g h agree = by_order (slice_cmp nat_cmp r.name s.name) (inserted_agree r ss g h) agree
   where
-    by_order : (o : Ordering) → (Agree (insert_row r ss) g h → (g r.name r.form ≡ h r.name r.form) × Agree ss g h) → Agree (match_ordering o (r ∷ s ∷ ss) (r ∷ s ∷ ss) (s ∷ insert_row r ss)) g h
-        → (g r.name r.form ≡ h r.name r.form) × Agree (s ∷ ss) g h
+    by_order : (o : Ordering) → (Agree (insert_row r ss) g h → (g r.name r.member_type ≡ h r.name r.member_type) × Agree ss g h) → Agree (match_ordering o (r ∷ s ∷ ss) (r ∷ s ∷ ss) (s ∷ insert_row r ss)) g h
+        → (g r.name r.member_type ≡ h r.name r.member_type) × Agree (s ∷ ss) g h
     by_order Less later agree = (agree.0, agree.1)
     by_order Equal later agree = (agree.0, agree.1)
     by_order Greater later agree = let rest = later agree.1 in (rest.0, (agree.0, rest.1))
 
-sorted_agree : (rows : List Row) (g h : List ℕ → Form → Option Data) → Agree (sorted rows) g h → Agree rows g h
+sorted_agree : (rows : List Row) (g h : List ℕ → MemberType → Option Data) → Agree (sorted rows) g h → Agree rows g h
 sorted_agree [] g h agree = tt
 sorted_agree (r ∷ rs) g h agree = let rest = inserted_agree r (sorted rs) g h agree in (rest.0, sorted_agree rs g h rest.1)
 
 -- ---- objects
 
 -- an object spells attributes: each is found under its row, and what is required is there
-pub record Found (rows : List Row) (attributes : Attributes) (g : List ℕ → Form → Option Data) : Type 0 where
+pub record Found (rows : List Row) (attributes : Attributes) (g : List ℕ → MemberType → Option Data) : Type 0 where
   pub agree : Agree rows (attribute attributes) g
   pub there : are_there rows (attribute attributes) ≡ true
 
 -- what is found is what the object says
-pub found_says : (rows : List Row) (attributes : Attributes) (g : List ℕ → Form → Option Data) → Found rows attributes g → Some (spelled rows attributes) ≡ plain_object (Some (sorted rows)) g
+pub found_says : (rows : List Row) (attributes : Attributes) (g : List ℕ → MemberType → Option Data) → Found rows attributes g → Some (spelled rows attributes) ≡ canonical_object (Some (sorted rows)) g
 found_says rows attributes g f =
     spelled_as rows attributes g (there_sorted rows (attribute attributes) ∙ f.there) (agree_sorted rows (attribute attributes) g f.agree)
 
 -- what an object says is found in it
-pub says_found : (rows : List Row) (attributes : Attributes) (g : List ℕ → Form → Option Data) → rising (sorted rows) ≡ true → Some (spelled rows attributes) ≡ plain_object (Some (sorted rows)) g → Found rows attributes g
+pub says_found : (rows : List Row) (attributes : Attributes) (g : List ℕ → MemberType → Option Data) → rising (sorted rows) ≡ true → Some (spelled rows attributes) ≡ canonical_object (Some (sorted rows)) g → Found rows attributes g
 says_found rows attributes g rise e = by_there (are_there (sorted rows) g) refl e
   where
     by_there : (b : Bool) → are_there (sorted rows) g ≡ b → Some (spelled rows attributes) ≡ (if b then Some (object (members_by (sorted rows) g)) else None) → Found rows attributes g
@@ -103,12 +103,12 @@ says_found rows attributes g rise e = by_there (are_there (sorted rows) g) refl 
         }
 
 -- an object that says nothing lacks what a row demands
-pub says_lacks : (rows : List Row) (g : List ℕ → Form → Option Data) → None ≡ plain_object (Some (sorted rows)) g → are_there rows g ≡ false
+pub says_lacks : (rows : List Row) (g : List ℕ → MemberType → Option Data) → None ≡ canonical_object (Some (sorted rows)) g → are_there rows g ≡ false
 says_lacks rows g e = by_there (are_there (sorted rows) g) refl e
   where
     by_there : (b : Bool) → are_there (sorted rows) g ≡ b → None ≡ (if b then Some (object (members_by (sorted rows) g)) else None) → are_there rows g ≡ false
     by_there false there e = sym (there_sorted rows g) ∙ there
     by_there true there e = cc
 
-pub lacks_says : (rows : List Row) (g : List ℕ → Form → Option Data) → are_there rows g ≡ false → None ≡ plain_object (Some (sorted rows)) g
+pub lacks_says : (rows : List Row) (g : List ℕ → MemberType → Option Data) → are_there rows g ≡ false → None ≡ canonical_object (Some (sorted rows)) g
 lacks_says rows g e = ap (λ b. if b then Some (object (members_by (sorted rows) g)) else None) (sym e ∙ sym (there_sorted rows g))

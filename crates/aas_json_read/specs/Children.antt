@@ -2,8 +2,8 @@
 use Rattle.std.specs.Prelude.{◌≡◌, ◌++◌, List, true, map, Option}
 use Rattle.std.specs.List.{list_all}
 use Rattle.serde_json.specs.Data.{Data, Items}
-use Rattle.aas_table.specs.Spelled.{list_of, onto}
-use Rattle.aas_mapping.specs.Elements.{spelled_child}
+use Rattle.aas_json_table.specs.Spelled.{list_of, onto}
+use Rattle.aas_json_mapping.specs.Elements.{spelled_child}
 use Rattle.aas_model.specs.declared.element.Element.{Element}
 use Rattle.aas_model.specs.declared.element.Role.{Role}
 use Rattle.aas_json_read.specs.Own.{spell_under, seen, suits}

@@ -1,22 +1,22 @@
 -- What is found among the members of an object, by a function from a name and a form to what the member says.
 use Rattle.std.specs.Prelude.{◌≡◌, ℕ, List, codes, Option, Some, option_map}
 use Rattle.serde_json.specs.Data.{Data}
-use Rattle.aas_table.specs.Table.{Form, text, kept, one, many, reference, lang_text, extension, qualifier, administration}
-use Rattle.aas_table.specs.Spelled.{text_of, list_of}
-use Rattle.aas_spelling.specs.Kept.{spell_plain}
+use Rattle.aas_json_table.specs.Table.{MemberType, text, kept, one, many, reference, lang_text, extension, qualifier, administration}
+use Rattle.aas_json_table.specs.Spelled.{text_of, list_of}
+use Rattle.aas_json_spelling.specs.Kept.{spell_plain}
 use Rattle.aas_reference.specs.Spelling.{spell_reference}
-use Rattle.aas_mapping.specs.Parts.{spell_lang_text, spell_extension, spell_qualifier, spell_administration}
+use Rattle.aas_json_mapping.specs.Parts.{spell_lang_text, spell_extension, spell_qualifier, spell_administration}
 use Rattle.aas_model.specs.declared.reference.Semantics.{Semantics}
 use Rattle.aas_model.specs.declared.common.Common.{Common}
 use Rattle.aas_model.specs.declared.common.Head.{Head}
 
 -- the attributes of HasSemantics
-pub record FindsSemantics (find : List ℕ → Form → Option Data) (s : Semantics) : Type 0 where
+pub record FindsSemantics (find : List ℕ → MemberType → Option Data) (s : Semantics) : Type 0 where
   pub semantic_id : option_map spell_reference s.semantic_id ≡ find (codes "semanticId") (one reference)
   pub supplemental : list_of spell_reference s.supplemental_semantic_ids ≡ find (codes "supplementalSemanticIds") (many reference)
 
 -- the attributes of every SubmodelElement
-pub record FindsCommon (find : List ℕ → Form → Option Data) (c : Common) : Type 0 where
+pub record FindsCommon (find : List ℕ → MemberType → Option Data) (c : Common) : Type 0 where
   pub category : option_map text_of c.category ≡ find (codes "category") text
   pub description : list_of spell_lang_text c.description ≡ find (codes "description") (many lang_text)
   pub display_name : list_of spell_lang_text c.display_name ≡ find (codes "displayName") (many lang_text)
@@ -27,7 +27,7 @@ pub record FindsCommon (find : List ℕ → Form → Option Data) (c : Common) :
   pub semantics : FindsSemantics find c.semantics
 
 -- the attributes of every document
-pub record FindsHead (find : List ℕ → Form → Option Data) (h : Head) : Type 0 where
+pub record FindsHead (find : List ℕ → MemberType → Option Data) (h : Head) : Type 0 where
   pub id : Some (text_of h.id) ≡ find (codes "id") text
   pub administration : option_map spell_administration h.administration ≡ find (codes "administration") (one administration)
   pub category : option_map text_of h.category ≡ find (codes "category") text

@@ -1,15 +1,15 @@
 -- What an element has of its own: the attributes of its kind, and its children (IDTA-01001-3-0, the subclasses of SubmodelElement).
 use Rattle.std.specs.Prelude.{◌≡◌, ◌&&◌, not, ℕ, List, [], Bool, true, false, codes, filter, Option, Some, unwrap_or}
 use Rattle.serde_json.specs.Data.{Data}
-use Rattle.aas_names.specs.KindNames.{name_of}
-use Rattle.aas_names.specs.declared.kind.Kind.{Kind}
-use Rattle.aas_names.specs.declared.kind.Kind.TheVariants as kind
-use Rattle.aas_table.specs.Table.{Sort, element, data_element, operation_variable, Form, many, Row, kinds}
-use Rattle.aas_table.specs.Rows.{find, sorted}
-use Rattle.aas_table.specs.Plain.{plain_object}
-use Rattle.aas_table.specs.Spelled.{spelled}
-use Rattle.aas_mapping.specs.Elements.{Child, spell_variable, own_attributes, children_attribute, variables_attribute, is_input, is_output, is_inoutput}
-use Rattle.aas_mapping.specs.Whole.{Placed, placed_over, is_member, is_annotation, is_statement, is_placed}
+use Rattle.aas_model_names.specs.KindNames.{name_of}
+use Rattle.aas_model_names.specs.declared.kind.Kind.{Kind}
+use Rattle.aas_model_names.specs.declared.kind.Kind.TheVariants as kind
+use Rattle.aas_json_table.specs.Table.{Sort, element, data_element, operation_variable, MemberType, many, Row, kinds}
+use Rattle.aas_json_table.specs.Rows.{find, sorted}
+use Rattle.aas_json_table.specs.Canonical.{canonical_object}
+use Rattle.aas_json_table.specs.Spelled.{spelled}
+use Rattle.aas_json_mapping.specs.Elements.{Child, spell_variable, own_attributes, children_attribute, variables_attribute, is_input, is_output, is_inoutput}
+use Rattle.aas_json_mapping.specs.Whole.{Placed, placed_over, is_member, is_annotation, is_statement, is_placed}
 use Rattle.aas_model.specs.Payload.{kind_of}
 use Rattle.aas_model.specs.declared.common.Common.{Common}
 use Rattle.aas_model.specs.declared.payload.Payload.{Payload}
@@ -19,7 +19,7 @@ use Rattle.aas_model.specs.declared.element.Role.TheVariants as role
 
 -- ---- attributes
 
-abbrev pub holds_elements : Form → Bool
+abbrev pub holds_elements : MemberType → Bool
 holds_elements (many element) = true
 holds_elements (many data_element) = true
 holds_elements (many operation_variable) = true
@@ -27,14 +27,14 @@ holds_elements f = false
 
 -- the rows of a kind's own attributes, without its children
 abbrev pub own_rows : Kind → List Row
-own_rows k = filter (λ r. not (holds_elements r.form)) (unwrap_or (find (name_of k) kinds) [])
+own_rows k = filter (λ r. not (holds_elements r.member_type)) (unwrap_or (find (name_of k) kinds) [])
 
 abbrev pub spell_own : Payload → Data
 spell_own p = spelled (own_rows (kind_of p)) (own_attributes p [])
 
 -- what an object says by the own rows of a kind
-abbrev pub plain_own : Kind → (List ℕ → Form → Option Data) → Option Data
-plain_own k find = plain_object (Some (sorted (own_rows k))) find
+abbrev pub canonical_own : Kind → (List ℕ → MemberType → Option Data) → Option Data
+canonical_own k find = canonical_object (Some (sorted (own_rows k))) find
 
 -- ---- children
 
@@ -67,7 +67,7 @@ spell_under role.Inoutput c = spell_variable c
 spell_under r c = c.spelling
 
 -- the children of an element of a kind are found
-abbrev pub FindsKids : (List ℕ → Form → Option Data) → Kind → List Child → Type 0
+abbrev pub FindsKids : (List ℕ → MemberType → Option Data) → Kind → List Child → Type 0
 FindsKids find kind.AnnotatedRelationshipElement kids = children_attribute kids ≡ find (codes "annotations") (many data_element)
 FindsKids find kind.Entity kids = children_attribute kids ≡ find (codes "statements") (many element)
 FindsKids find kind.Operation kids =

@@ -1,19 +1,19 @@
 ghost use Rattle.std.specs.Prelude.{◌≡◌, None, codes, IfOk, MatchOption};
 ghost use Rattle.serde_json.specs.View.{members_view};
-ghost use Rattle.aas_table.specs.Plain.{plain_member};
-ghost use Rattle.aas_table.specs.Table.{text};
+ghost use Rattle.aas_json_table.specs.Canonical.{canonical_member};
+ghost use Rattle.aas_json_table.specs.Table.{text};
 ghost use Rattle.aas_json_read.specs.Found.{FindsCommon, FindsHead};
 
 use crate::semantics::semantics_in;
 use crate::sorts::{Administrations, Extensions, LangTexts, Qualifiers};
-use aas_members::{kept_member, list_member, one_member, string_member};
+use aas_json_members::{kept_member, list_member, one_member, string_member};
 use aas_model::{Common, Head, NoMemory};
 use serde_json::{Map, Value};
 use std::alloc::Global;
 
 /// The attributes that all elements have, among the members of an object.
 pub(crate) fn common_in(alloc: Global, members: &Map<String, Value>) -> Result<Common, NoMemory>
-    ensures { IfOk result (λ found. FindsCommon (plain_member (members_view members.now.entries)) found) }
+    ensures { IfOk result (λ found. FindsCommon (canonical_member (members_view members.now.entries)) found) }
 {
     Ok(Common {
         id_short: string_member(alloc, members, "idShort")?,
@@ -29,7 +29,7 @@ pub(crate) fn common_in(alloc: Global, members: &Map<String, Value>) -> Result<C
 
 /// The attributes that all documents have, among the members of an object, or `None` where it has no identifier.
 pub(crate) fn head_in(alloc: Global, members: &Map<String, Value>) -> Result<Option<Head>, NoMemory>
-    ensures { IfOk result (λ found. MatchOption found (plain_member (members_view members.now.entries) (codes "id") text ≡ None) (FindsHead (plain_member (members_view members.now.entries)))) }
+    ensures { IfOk result (λ found. MatchOption found (canonical_member (members_view members.now.entries) (codes "id") text ≡ None) (FindsHead (canonical_member (members_view members.now.entries)))) }
 {
     let Some(id) = string_member(alloc, members, "id")? else {
         return Ok(None);

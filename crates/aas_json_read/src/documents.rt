@@ -1,20 +1,20 @@
 ghost use Rattle.std.specs.Prelude.{◌≡◌, ◌↔◌, codes, map, IfOk, IfSome, IsTrue, Some, option_map};
 ghost use Rattle.serde_json.specs.Data.{no_items, string};
 ghost use Rattle.serde_json.specs.View.{view, items_view, members_view};
-ghost use Rattle.aas_table.specs.Plain.{plain, plain_items, plain_member, plain_object};
-ghost use Rattle.aas_table.specs.Rows.{rows_of, sorted};
-ghost use Rattle.aas_table.specs.Spelled.{list_of, onto};
-ghost use Rattle.aas_table.specs.Table.{one, many, parts, text, environment, shell, submodel, concept};
-ghost use Rattle.aas_spelling.specs.Lists.{Each};
-ghost use Rattle.aas_mapping.specs.Documents.{spell_environment, spell_shell, spell_submodel, spell_concept};
-ghost use Rattle.aas_mapping.specs.Shape.{IsShapedSubmodel, IsShapedEnvironment};
+ghost use Rattle.aas_json_table.specs.Canonical.{canonical, canonical_items, canonical_member, canonical_object};
+ghost use Rattle.aas_json_table.specs.Rows.{rows_of, sorted};
+ghost use Rattle.aas_json_table.specs.Spelled.{list_of, onto};
+ghost use Rattle.aas_json_table.specs.Table.{one, many, parts, text, environment, shell, submodel, concept};
+ghost use Rattle.aas_json_spelling.specs.Lists.{Each};
+ghost use Rattle.aas_json_mapping.specs.Documents.{spell_environment, spell_shell, spell_submodel, spell_concept};
+ghost use Rattle.aas_json_mapping.specs.Shape.{IsShapedSubmodel, IsShapedEnvironment};
 
 use crate::common::head_in;
 use crate::elements::members_in;
 use crate::found::add_found;
 use crate::semantics::semantics_in;
 use crate::sorts::{AssetInformations, Concepts, Qualifiers, Shells};
-use aas_members::{Part, list_member, member, one_member, text_member, word_member};
+use aas_json_members::{Part, list_member, member, one_member, text_member, word_member};
 use aas_model::{Concept, Environment, Many, NoMemory, Shell, Submodel};
 use aas_reference::References;
 use serde_json::{Map, Value};
@@ -36,7 +36,7 @@ impl Part for Shells {
 }
 
 fn shell_in(alloc: Global, members: &Map<String, Value>) -> Result<Option<Shell>, NoMemory>
-    ensures { IfOk result (λ found. option_map spell_shell found ≡ plain_object (rows_of shell (members_view members.now.entries)) (plain_member (members_view members.now.entries))) }
+    ensures { IfOk result (λ found. option_map spell_shell found ≡ canonical_object (rows_of shell (members_view members.now.entries)) (canonical_member (members_view members.now.entries))) }
 {
     if !has_model_type(members, "AssetAdministrationShell") {
         return Ok(None);
@@ -71,7 +71,7 @@ impl Part for Concepts {
 }
 
 fn concept_in(alloc: Global, members: &Map<String, Value>) -> Result<Option<Concept>, NoMemory>
-    ensures { IfOk result (λ found. option_map spell_concept found ≡ plain_object (rows_of concept (members_view members.now.entries)) (plain_member (members_view members.now.entries))) }
+    ensures { IfOk result (λ found. option_map spell_concept found ≡ canonical_object (rows_of concept (members_view members.now.entries)) (canonical_member (members_view members.now.entries))) }
 {
     if !has_model_type(members, "ConceptDescription") {
         return Ok(None);
@@ -85,7 +85,7 @@ fn concept_in(alloc: Global, members: &Map<String, Value>) -> Result<Option<Conc
 
 /// The submodel that a value spells, or `None` where the value lacks what the table demands.
 pub(crate) fn submodel_of(alloc: Global, value: &Value) -> Result<Option<Submodel>, NoMemory>
-    ensures says { IfOk result (λ found. option_map spell_submodel found ≡ plain (one submodel) (view value.now)) }
+    ensures says { IfOk result (λ found. option_map spell_submodel found ≡ canonical (one submodel) (view value.now)) }
     ensures shape { IfOk result (λ found. IfSome found IsShapedSubmodel) }
 {
     match value {
@@ -95,7 +95,7 @@ pub(crate) fn submodel_of(alloc: Global, value: &Value) -> Result<Option<Submode
 }
 
 fn submodel_in(alloc: Global, members: &Map<String, Value>) -> Result<Option<Submodel>, NoMemory>
-    ensures says { IfOk result (λ found. option_map spell_submodel found ≡ plain_object (rows_of submodel (members_view members.now.entries)) (plain_member (members_view members.now.entries))) }
+    ensures says { IfOk result (λ found. option_map spell_submodel found ≡ canonical_object (rows_of submodel (members_view members.now.entries)) (canonical_member (members_view members.now.entries))) }
     ensures shape { IfOk result (λ found. IfSome found IsShapedSubmodel) }
 {
     if !has_model_type(members, "Submodel") {
@@ -114,9 +114,9 @@ fn submodel_in(alloc: Global, members: &Map<String, Value>) -> Result<Option<Sub
 }
 
 /// The environment that a value spells, or `None` where it is no object.
-#[tactic(auto, unfolding(aas_table::specs::Rows::rows_of))]
+#[tactic(auto, unfolding(aas_json_table::specs::Rows::rows_of))]
 pub(crate) fn environment_of(alloc: Global, value: &Value) -> Result<Option<Environment>, NoMemory>
-    ensures says { IfOk result (λ found. option_map spell_environment found ≡ plain (one environment) (view value.now)) }
+    ensures says { IfOk result (λ found. option_map spell_environment found ≡ canonical (one environment) (view value.now)) }
     ensures shape { IfOk result (λ found. IfSome found IsShapedEnvironment) }
 {
     match value {
@@ -126,7 +126,7 @@ pub(crate) fn environment_of(alloc: Global, value: &Value) -> Result<Option<Envi
 }
 
 fn environment_in(alloc: Global, members: &Map<String, Value>) -> Result<Environment, NoMemory>
-    ensures says { IfOk result (λ found. Some (spell_environment found) ≡ plain_object (Some (sorted (parts environment))) (plain_member (members_view members.now.entries))) }
+    ensures says { IfOk result (λ found. Some (spell_environment found) ≡ canonical_object (Some (sorted (parts environment))) (canonical_member (members_view members.now.entries))) }
     ensures shape { IfOk result (λ found. IsShapedEnvironment found) }
 {
     Ok(Environment {
@@ -141,7 +141,7 @@ fn submodels_member(
     members: &Map<String, Value>,
     name: &str,
 ) -> Result<Many<Submodel>, NoMemory>
-    ensures says { IfOk result (λ found. list_of spell_submodel found ≡ plain_member (members_view members.now.entries) name.now (many submodel)) }
+    ensures says { IfOk result (λ found. list_of spell_submodel found ≡ canonical_member (members_view members.now.entries) name.now (many submodel)) }
     ensures shape { IfOk result (λ found. Each IsShapedSubmodel found) }
 {
     match member(members, name) {
@@ -151,7 +151,7 @@ fn submodels_member(
 }
 
 fn submodels_in(alloc: Global, items: &Vec<Value>) -> Result<Many<Submodel>, NoMemory>
-    ensures says { IfOk result (λ found. onto (map spell_submodel found) no_items ≡ plain_items (items_view items.now.items) (one submodel)) }
+    ensures says { IfOk result (λ found. onto (map spell_submodel found) no_items ≡ canonical_items (items_view items.now.items) (one submodel)) }
     ensures shape { IfOk result (λ found. Each IsShapedSubmodel found) }
 {
     let mut found = Many::new(alloc);
@@ -162,7 +162,7 @@ fn submodels_in(alloc: Global, items: &Vec<Value>) -> Result<Many<Submodel>, NoM
 }
 
 fn has_model_type(members: &Map<String, Value>, name: &str) -> bool
-    ensures { IsTrue result ↔ (plain_member (members_view members.now.entries) (codes "modelType") text ≡ Some (string name.now)) }
+    ensures { IsTrue result ↔ (canonical_member (members_view members.now.entries) (codes "modelType") text ≡ Some (string name.now)) }
 {
     match text_member(members, "modelType") {
         Some(text) => text == name,

@@ -1,21 +1,21 @@
 ghost use Rattle.std.specs.Prelude.{◌≡◌, true, codes, map, IfOk, IfSome, Some, option_map};
 ghost use Rattle.serde_json.specs.Data.{no_items, string};
 ghost use Rattle.serde_json.specs.View.{view, items_view, members_view};
-ghost use Rattle.aas_names.specs.KindNames.{name_of};
-ghost use Rattle.aas_table.specs.Plain.{plain, plain_items, plain_member, plain_object};
-ghost use Rattle.aas_table.specs.Rows.{rows_of, sorted};
-ghost use Rattle.aas_table.specs.Table.{one, many, element, operation_variable, parts, text};
-ghost use Rattle.aas_table.specs.Spelled.{list_of};
-ghost use Rattle.aas_spelling.specs.Lists.{Each};
-ghost use Rattle.aas_mapping.specs.Elements.{rows_for, spelled_child, spell_element, spell_variable};
-ghost use Rattle.aas_mapping.specs.Shape.{IsShaped};
+ghost use Rattle.aas_model_names.specs.KindNames.{name_of};
+ghost use Rattle.aas_json_table.specs.Canonical.{canonical, canonical_items, canonical_member, canonical_object};
+ghost use Rattle.aas_json_table.specs.Rows.{rows_of, sorted};
+ghost use Rattle.aas_json_table.specs.Table.{one, many, element, operation_variable, parts, text};
+ghost use Rattle.aas_json_table.specs.Spelled.{list_of};
+ghost use Rattle.aas_json_spelling.specs.Lists.{Each};
+ghost use Rattle.aas_json_mapping.specs.Elements.{rows_for, spelled_child, spell_element, spell_variable};
+ghost use Rattle.aas_json_mapping.specs.Shape.{IsShaped};
 ghost use Rattle.aas_json_read.specs.Own.{elements_under, sort_under, spell_under, FindsKids, FitUnder, seen, suits, is_data_kind, may_have};
 ghost use Rattle.aas_json_read.specs.Children.{AddsItems, AddsChildren};
 
 use crate::common::common_in;
 use crate::found::add_found;
 use crate::payload::payload_in;
-use aas_members::{member, word_member};
+use aas_json_members::{member, word_member};
 use aas_model::{Element, Kind, Many, NoMemory, Role};
 use serde_json::{Map, Value};
 use std::alloc::Global;
@@ -28,7 +28,7 @@ pub(crate) fn element_of(
     value: &Value,
     role: Role,
 ) -> Result<Option<Element>, NoMemory>
-    ensures says { IfOk result (λ found. option_map spell_element found ≡ plain (one (elements_under role)) (view value.now)) }
+    ensures says { IfOk result (λ found. option_map spell_element found ≡ canonical (one (elements_under role)) (view value.now)) }
     ensures place { IfOk result (λ found. IfSome found (λ e. suits role (seen e) ≡ true)) }
 {
     let Value::Object(members) = value else {
@@ -47,9 +47,9 @@ fn element_in(
     kind: Kind,
     role: Role,
 ) -> Result<Option<Element>, NoMemory>
-    requires name { Some (string (name_of kind)) ≡ plain_member (members_view members.now.entries) (codes "modelType") text }
+    requires name { Some (string (name_of kind)) ≡ canonical_member (members_view members.now.entries) (codes "modelType") text }
     requires may_have { may_have kind role ≡ true }
-    ensures says { IfOk result (λ found. option_map spell_element found ≡ plain_object (Some (sorted (rows_for (name_of kind)))) (plain_member (members_view members.now.entries))) }
+    ensures says { IfOk result (λ found. option_map spell_element found ≡ canonical_object (Some (sorted (rows_for (name_of kind)))) (canonical_member (members_view members.now.entries))) }
     ensures place { IfOk result (λ found. IfSome found (λ e. suits role (seen e) ≡ true)) }
 {
     let Some(payload) = payload_in(alloc, members, kind)? else {
@@ -72,7 +72,7 @@ fn kids_in(
     members: &Map<String, Value>,
     kind: Kind,
 ) -> Result<Many<Element>, NoMemory>
-    ensures says { IfOk result (λ kids. FindsKids (plain_member (members_view members.now.entries)) kind (map spelled_child kids)) }
+    ensures says { IfOk result (λ kids. FindsKids (canonical_member (members_view members.now.entries)) kind (map spelled_child kids)) }
     ensures places { IfOk result (λ kids. FitUnder kind kids) }
 {
     let none = Many::new(alloc);
@@ -100,7 +100,7 @@ fn kids_in(
 /// The input, output and inoutput variables of an Operation, in this order.
 #[cycle(element)]
 fn variables_in(alloc: Global, members: &Map<String, Value>) -> Result<Many<Element>, NoMemory>
-    ensures says { IfOk result (λ kids. FindsKids (plain_member (members_view members.now.entries)) Kind.Operation (map spelled_child kids)) }
+    ensures says { IfOk result (λ kids. FindsKids (canonical_member (members_view members.now.entries)) Kind.Operation (map spelled_child kids)) }
     ensures places { IfOk result (λ kids. FitUnder Kind.Operation kids) }
 {
     let input = children_after(
@@ -124,7 +124,7 @@ fn children_after(
     name: &str,
     role: Role,
 ) -> Result<Many<Element>, NoMemory>
-    ensures { IfOk result (λ all. AddsChildren role before all (plain_member (members_view members.now.entries) name.now (many (sort_under role)))) }
+    ensures { IfOk result (λ all. AddsChildren role before all (canonical_member (members_view members.now.entries) name.now (many (sort_under role)))) }
 {
     match member(members, name) {
         Some(Value::Array(items)) => Ok(items_after(alloc, before, items, role)?),
@@ -139,7 +139,7 @@ fn items_after(
     items: &Vec<Value>,
     role: Role,
 ) -> Result<Many<Element>, NoMemory>
-    ensures { IfOk result (λ all. AddsItems role before all no_items (plain_items (items_view items.now.items) (one (sort_under role)))) }
+    ensures { IfOk result (λ all. AddsItems role before all no_items (canonical_items (items_view items.now.items) (one (sort_under role)))) }
 {
     let mut all = before;
     for item in items {
@@ -151,7 +151,7 @@ fn items_after(
 /// The child that a value spells, among those that have its role: the value of a variable, or the value itself.
 #[cycle(element)]
 fn child_of(alloc: Global, value: &Value, role: Role) -> Result<Option<Element>, NoMemory>
-    ensures says { IfOk result (λ found. option_map (λ e. spell_under role (spelled_child e)) found ≡ plain (one (sort_under role)) (view value.now)) }
+    ensures says { IfOk result (λ found. option_map (λ e. spell_under role (spelled_child e)) found ≡ canonical (one (sort_under role)) (view value.now)) }
     ensures place { IfOk result (λ found. IfSome found (λ e. suits role (seen e) ≡ true)) }
 {
     match role {
@@ -171,7 +171,7 @@ fn variable_in(
     role: Role,
 ) -> Result<Option<Element>, NoMemory>
     requires { elements_under role ≡ element }
-    ensures says { IfOk result (λ found. option_map (λ e. spell_variable (spelled_child e)) found ≡ plain_object (Some (sorted (parts operation_variable))) (plain_member (members_view members.now.entries))) }
+    ensures says { IfOk result (λ found. option_map (λ e. spell_variable (spelled_child e)) found ≡ canonical_object (Some (sorted (parts operation_variable))) (canonical_member (members_view members.now.entries))) }
     ensures place { IfOk result (λ found. IfSome found (λ e. suits role (seen e) ≡ true)) }
 {
     match member(members, "value") {
@@ -186,7 +186,7 @@ pub(crate) fn members_in(
     members: &Map<String, Value>,
     name: &str,
 ) -> Result<Many<Element>, NoMemory>
-    ensures says { IfOk result (λ found. list_of spell_element found ≡ plain_member (members_view members.now.entries) name.now (many element)) }
+    ensures says { IfOk result (λ found. list_of spell_element found ≡ canonical_member (members_view members.now.entries) name.now (many element)) }
     ensures shape { IfOk result (λ found. Each IsShaped found) }
 {
     let none = Many::new(alloc);
@@ -196,7 +196,7 @@ pub(crate) fn members_in(
 /// The kind that `modelType` names, where an element of the kind may have the role.
 fn kind_in(members: &Map<String, Value>, role: Role) -> Option<Kind>
     ensures rows { option_map (λ k. sorted (rows_for (name_of k))) result ≡ rows_of (elements_under role) (members_view members.now.entries) }
-    ensures name { IfSome result (λ k. Some (string (name_of k)) ≡ plain_member (members_view members.now.entries) (codes "modelType") text) }
+    ensures name { IfSome result (λ k. Some (string (name_of k)) ≡ canonical_member (members_view members.now.entries) (codes "modelType") text) }
     ensures may_have { IfSome result (λ k. may_have k role ≡ true) }
 {
     match word_member(members, "modelType") {

@@ -17,20 +17,20 @@ mod sorts;
 
 ghost use Rattle.std.specs.Prelude.{◌-◌};
 ghost use Rattle.serde_json.specs.View.{view};
-ghost use Rattle.aas_table.specs.TooDeep.{limits};
-ghost use Rattle.aas_spelling.specs.Reads.{Reads, ReadsEach, ReadsBytes, ReadsEachOfBytes};
-ghost use Rattle.aas_mapping.specs.Trees.{asset_informations, concepts, elements, environments, shells, specific_asset_ids, submodels};
+ghost use Rattle.aas_json_table.specs.TooDeep.{limits};
+ghost use Rattle.aas_json_spelling.specs.Reads.{Reads, ReadsEach, ReadsBytes, ReadsEachOfBytes};
+ghost use Rattle.aas_json_mapping.specs.Trees.{asset_informations, concepts, elements, environments, shells, specific_asset_ids, submodels};
 
 use crate::read::read_shaped;
 use crate::sorts::{
     AssetInformations, Concepts, Elements, Environments, Shells, SpecificAssetIds, Submodels,
 };
-use aas_members::{read_bytes, read_part};
+use aas_json_members::{read_bytes, read_part};
 use aas_model::{
     AssetInformation, Concept, Element, Environment, ReadFault, Shell, SpecificAssetId, Submodel,
 };
-use aas_table::table::Sort;
-use aas_table::too_deep::Levels;
+use aas_json_table::table::Sort;
+use aas_json_table::too_deep::Levels;
 use serde_json::Value;
 use std::alloc::Global;
 

@@ -1,16 +1,16 @@
 ghost use Rattle.std.specs.Prelude.{◌≡◌, IfOk, Some, option_map};
 ghost use Rattle.serde_json.specs.View.{view, members_view};
-ghost use Rattle.aas_table.specs.Plain.{plain, plain_member, plain_object};
-ghost use Rattle.aas_table.specs.Rows.{sorted};
-ghost use Rattle.aas_table.specs.Table.{one, parts, lang_text, extension, qualifier, specific_asset_id, administration, asset_information, resource};
-ghost use Rattle.aas_mapping.specs.Parts.{spell_lang_text, spell_extension, spell_qualifier, spell_specific_asset_id, spell_administration, spell_asset_information, spell_resource};
+ghost use Rattle.aas_json_table.specs.Canonical.{canonical, canonical_member, canonical_object};
+ghost use Rattle.aas_json_table.specs.Rows.{sorted};
+ghost use Rattle.aas_json_table.specs.Table.{one, parts, lang_text, extension, qualifier, specific_asset_id, administration, asset_information, resource};
+ghost use Rattle.aas_json_mapping.specs.Parts.{spell_lang_text, spell_extension, spell_qualifier, spell_specific_asset_id, spell_administration, spell_asset_information, spell_resource};
 
 use crate::semantics::semantics_in;
 use crate::sorts::{
     Administrations, AssetInformations, Extensions, LangTexts, Qualifiers, Resources,
     SpecificAssetIds,
 };
-use aas_members::{Part, kept_member, list_member, one_member, string_member, word_member};
+use aas_json_members::{Part, kept_member, list_member, one_member, string_member, word_member};
 use aas_model::{
     Administration, AssetInformation, Extension, LangText, NoMemory, Qualifier, Resource,
     SpecificAssetId,
@@ -26,7 +26,7 @@ impl Part for LangTexts {
 
     ghost spell = { spell_lang_text };
 
-    #[tactic(auto, unfolding(aas_table::specs::Rows::rows_of))]
+    #[tactic(auto, unfolding(aas_json_table::specs::Rows::rows_of))]
     fn tree(alloc: Global, value: &Value) -> Result<Option<LangText>, NoMemory> {
         match value {
             Value::Object(members) => Ok(lang_text_in(alloc, members)?),
@@ -36,7 +36,7 @@ impl Part for LangTexts {
 }
 
 fn lang_text_in(alloc: Global, members: &Map<String, Value>) -> Result<Option<LangText>, NoMemory>
-    ensures { IfOk result (λ found. option_map spell_lang_text found ≡ plain_object (Some (sorted (parts lang_text))) (plain_member (members_view members.now.entries))) }
+    ensures { IfOk result (λ found. option_map spell_lang_text found ≡ canonical_object (Some (sorted (parts lang_text))) (canonical_member (members_view members.now.entries))) }
 {
     let Some(language) = string_member(alloc, members, "language")? else {
         return Ok(None);
@@ -54,7 +54,7 @@ impl Part for Extensions {
 
     ghost spell = { spell_extension };
 
-    #[tactic(auto, unfolding(aas_table::specs::Rows::rows_of))]
+    #[tactic(auto, unfolding(aas_json_table::specs::Rows::rows_of))]
     fn tree(alloc: Global, value: &Value) -> Result<Option<Extension>, NoMemory> {
         match value {
             Value::Object(members) => Ok(extension_in(alloc, members)?),
@@ -64,7 +64,7 @@ impl Part for Extensions {
 }
 
 fn extension_in(alloc: Global, members: &Map<String, Value>) -> Result<Option<Extension>, NoMemory>
-    ensures { IfOk result (λ found. option_map spell_extension found ≡ plain_object (Some (sorted (parts extension))) (plain_member (members_view members.now.entries))) }
+    ensures { IfOk result (λ found. option_map spell_extension found ≡ canonical_object (Some (sorted (parts extension))) (canonical_member (members_view members.now.entries))) }
 {
     let value_type = word_member(members, "valueType");
     let Some(name) = string_member(alloc, members, "name")? else {
@@ -86,7 +86,7 @@ impl Part for Qualifiers {
 
     ghost spell = { spell_qualifier };
 
-    #[tactic(auto, unfolding(aas_table::specs::Rows::rows_of))]
+    #[tactic(auto, unfolding(aas_json_table::specs::Rows::rows_of))]
     fn tree(alloc: Global, value: &Value) -> Result<Option<Qualifier>, NoMemory> {
         match value {
             Value::Object(members) => Ok(qualifier_in(alloc, members)?),
@@ -96,7 +96,7 @@ impl Part for Qualifiers {
 }
 
 fn qualifier_in(alloc: Global, members: &Map<String, Value>) -> Result<Option<Qualifier>, NoMemory>
-    ensures { IfOk result (λ found. option_map spell_qualifier found ≡ plain_object (Some (sorted (parts qualifier))) (plain_member (members_view members.now.entries))) }
+    ensures { IfOk result (λ found. option_map spell_qualifier found ≡ canonical_object (Some (sorted (parts qualifier))) (canonical_member (members_view members.now.entries))) }
 {
     let kind = word_member(members, "kind");
     let Some(value_type) = word_member(members, "valueType") else {
@@ -122,7 +122,7 @@ impl Part for SpecificAssetIds {
 
     ghost spell = { spell_specific_asset_id };
 
-    #[tactic(auto, unfolding(aas_table::specs::Rows::rows_of))]
+    #[tactic(auto, unfolding(aas_json_table::specs::Rows::rows_of))]
     fn tree(alloc: Global, value: &Value) -> Result<Option<SpecificAssetId>, NoMemory> {
         match value {
             Value::Object(members) => Ok(specific_asset_id_in(alloc, members)?),
@@ -135,7 +135,7 @@ fn specific_asset_id_in(
     alloc: Global,
     members: &Map<String, Value>,
 ) -> Result<Option<SpecificAssetId>, NoMemory>
-    ensures { IfOk result (λ found. option_map spell_specific_asset_id found ≡ plain_object (Some (sorted (parts specific_asset_id))) (plain_member (members_view members.now.entries))) }
+    ensures { IfOk result (λ found. option_map spell_specific_asset_id found ≡ canonical_object (Some (sorted (parts specific_asset_id))) (canonical_member (members_view members.now.entries))) }
 {
     let Some(name) = string_member(alloc, members, "name")? else {
         return Ok(None);
@@ -160,7 +160,7 @@ impl Part for Administrations {
 
     ghost spell = { spell_administration };
 
-    #[tactic(auto, unfolding(aas_table::specs::Rows::rows_of))]
+    #[tactic(auto, unfolding(aas_json_table::specs::Rows::rows_of))]
     fn tree(alloc: Global, value: &Value) -> Result<Option<Administration>, NoMemory> {
         match value {
             Value::Object(members) => Ok(Some(administration_in(alloc, members)?)),
@@ -173,7 +173,7 @@ fn administration_in(
     alloc: Global,
     members: &Map<String, Value>,
 ) -> Result<Administration, NoMemory>
-    ensures { IfOk result (λ found. Some (spell_administration found) ≡ plain_object (Some (sorted (parts administration))) (plain_member (members_view members.now.entries))) }
+    ensures { IfOk result (λ found. Some (spell_administration found) ≡ canonical_object (Some (sorted (parts administration))) (canonical_member (members_view members.now.entries))) }
 {
     Ok(Administration {
         version: string_member(alloc, members, "version")?,
@@ -191,7 +191,7 @@ impl Part for AssetInformations {
 
     ghost spell = { spell_asset_information };
 
-    #[tactic(auto, unfolding(aas_table::specs::Rows::rows_of))]
+    #[tactic(auto, unfolding(aas_json_table::specs::Rows::rows_of))]
     fn tree(alloc: Global, value: &Value) -> Result<Option<AssetInformation>, NoMemory> {
         match value {
             Value::Object(members) => Ok(asset_information_in(alloc, members)?),
@@ -204,7 +204,7 @@ fn asset_information_in(
     alloc: Global,
     members: &Map<String, Value>,
 ) -> Result<Option<AssetInformation>, NoMemory>
-    ensures { IfOk result (λ found. option_map spell_asset_information found ≡ plain_object (Some (sorted (parts asset_information))) (plain_member (members_view members.now.entries))) }
+    ensures { IfOk result (λ found. option_map spell_asset_information found ≡ canonical_object (Some (sorted (parts asset_information))) (canonical_member (members_view members.now.entries))) }
 {
     let Some(asset_kind) = word_member(members, "assetKind") else {
         return Ok(None);
@@ -229,7 +229,7 @@ impl Part for Resources {
 
     ghost spell = { spell_resource };
 
-    #[tactic(auto, unfolding(aas_table::specs::Rows::rows_of))]
+    #[tactic(auto, unfolding(aas_json_table::specs::Rows::rows_of))]
     fn tree(alloc: Global, value: &Value) -> Result<Option<Resource>, NoMemory> {
         match value {
             Value::Object(members) => Ok(resource_in(alloc, members)?),
@@ -239,7 +239,7 @@ impl Part for Resources {
 }
 
 fn resource_in(alloc: Global, members: &Map<String, Value>) -> Result<Option<Resource>, NoMemory>
-    ensures { IfOk result (λ found. option_map spell_resource found ≡ plain_object (Some (sorted (parts resource))) (plain_member (members_view members.now.entries))) }
+    ensures { IfOk result (λ found. option_map spell_resource found ≡ canonical_object (Some (sorted (parts resource))) (canonical_member (members_view members.now.entries))) }
 {
     let content_type = string_member(alloc, members, "contentType")?;
     let Some(path) = string_member(alloc, members, "path")? else {

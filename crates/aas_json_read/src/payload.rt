@@ -1,11 +1,11 @@
 ghost use Rattle.std.specs.Prelude.{◌≡◌, IfOk, IfSome, Some, option_map};
 ghost use Rattle.serde_json.specs.View.{members_view};
-ghost use Rattle.aas_table.specs.Plain.{plain_member};
+ghost use Rattle.aas_json_table.specs.Canonical.{canonical_member};
 ghost use Rattle.aas_model.specs.Payload.{kind_of};
-ghost use Rattle.aas_json_read.specs.Own.{spell_own, plain_own};
+ghost use Rattle.aas_json_read.specs.Own.{spell_own, canonical_own};
 
 use crate::sorts::{LangTexts, SpecificAssetIds};
-use aas_members::{flag_member, list_member, one_member, string_member, word_member};
+use aas_json_members::{flag_member, list_member, one_member, string_member, word_member};
 use aas_model::{Kind, NoMemory, Payload};
 use aas_reference::References;
 use serde_json::{Map, Value};
@@ -18,7 +18,7 @@ pub(crate) fn payload_in(
     members: &Map<String, Value>,
     kind: Kind,
 ) -> Result<Option<Payload>, NoMemory>
-    ensures says { IfOk result (λ found. option_map spell_own found ≡ plain_own kind (plain_member (members_view members.now.entries))) }
+    ensures says { IfOk result (λ found. option_map spell_own found ≡ canonical_own kind (canonical_member (members_view members.now.entries))) }
     ensures kind { IfOk result (λ found. IfSome found (λ p. kind_of p ≡ kind)) }
 {
     match kind {
@@ -40,7 +40,7 @@ pub(crate) fn payload_in(
 }
 
 fn property_in(alloc: Global, members: &Map<String, Value>) -> Result<Option<Payload>, NoMemory>
-    ensures says { IfOk result (λ found. option_map spell_own found ≡ plain_own Kind.Property (plain_member (members_view members.now.entries))) }
+    ensures says { IfOk result (λ found. option_map spell_own found ≡ canonical_own Kind.Property (canonical_member (members_view members.now.entries))) }
     ensures kind { IfOk result (λ found. IfSome found (λ p. kind_of p ≡ Kind.Property)) }
 {
     let Some(value_type) = word_member(members, "valueType") else {
@@ -57,7 +57,7 @@ fn multi_language_property_in(
     alloc: Global,
     members: &Map<String, Value>,
 ) -> Result<Payload, NoMemory>
-    ensures says { IfOk result (λ found. Some (spell_own found) ≡ plain_own Kind.MultiLanguageProperty (plain_member (members_view members.now.entries))) }
+    ensures says { IfOk result (λ found. Some (spell_own found) ≡ canonical_own Kind.MultiLanguageProperty (canonical_member (members_view members.now.entries))) }
     ensures kind { IfOk result (λ found. kind_of found ≡ Kind.MultiLanguageProperty) }
 {
     Ok(Payload::MultiLanguageProperty {
@@ -67,7 +67,7 @@ fn multi_language_property_in(
 }
 
 fn range_in(alloc: Global, members: &Map<String, Value>) -> Result<Option<Payload>, NoMemory>
-    ensures says { IfOk result (λ found. option_map spell_own found ≡ plain_own Kind.Range (plain_member (members_view members.now.entries))) }
+    ensures says { IfOk result (λ found. option_map spell_own found ≡ canonical_own Kind.Range (canonical_member (members_view members.now.entries))) }
     ensures kind { IfOk result (λ found. IfSome found (λ p. kind_of p ≡ Kind.Range)) }
 {
     let Some(value_type) = word_member(members, "valueType") else {
@@ -81,7 +81,7 @@ fn range_in(alloc: Global, members: &Map<String, Value>) -> Result<Option<Payloa
 }
 
 fn file_in(alloc: Global, members: &Map<String, Value>) -> Result<Option<Payload>, NoMemory>
-    ensures says { IfOk result (λ found. option_map spell_own found ≡ plain_own Kind.File (plain_member (members_view members.now.entries))) }
+    ensures says { IfOk result (λ found. option_map spell_own found ≡ canonical_own Kind.File (canonical_member (members_view members.now.entries))) }
     ensures kind { IfOk result (λ found. IfSome found (λ p. kind_of p ≡ Kind.File)) }
 {
     let Some(content_type) = string_member(alloc, members, "contentType")? else {
@@ -94,7 +94,7 @@ fn file_in(alloc: Global, members: &Map<String, Value>) -> Result<Option<Payload
 }
 
 fn blob_in(alloc: Global, members: &Map<String, Value>) -> Result<Option<Payload>, NoMemory>
-    ensures says { IfOk result (λ found. option_map spell_own found ≡ plain_own Kind.Blob (plain_member (members_view members.now.entries))) }
+    ensures says { IfOk result (λ found. option_map spell_own found ≡ canonical_own Kind.Blob (canonical_member (members_view members.now.entries))) }
     ensures kind { IfOk result (λ found. IfSome found (λ p. kind_of p ≡ Kind.Blob)) }
 {
     let Some(content_type) = string_member(alloc, members, "contentType")? else {
@@ -107,7 +107,7 @@ fn blob_in(alloc: Global, members: &Map<String, Value>) -> Result<Option<Payload
 }
 
 fn reference_element_in(alloc: Global, members: &Map<String, Value>) -> Result<Payload, NoMemory>
-    ensures says { IfOk result (λ found. Some (spell_own found) ≡ plain_own Kind.ReferenceElement (plain_member (members_view members.now.entries))) }
+    ensures says { IfOk result (λ found. Some (spell_own found) ≡ canonical_own Kind.ReferenceElement (canonical_member (members_view members.now.entries))) }
     ensures kind { IfOk result (λ found. kind_of found ≡ Kind.ReferenceElement) }
 {
     Ok(Payload::ReferenceElement {
@@ -116,7 +116,7 @@ fn reference_element_in(alloc: Global, members: &Map<String, Value>) -> Result<P
 }
 
 fn relationship_in(alloc: Global, members: &Map<String, Value>) -> Result<Option<Payload>, NoMemory>
-    ensures says { IfOk result (λ found. option_map spell_own found ≡ plain_own Kind.RelationshipElement (plain_member (members_view members.now.entries))) }
+    ensures says { IfOk result (λ found. option_map spell_own found ≡ canonical_own Kind.RelationshipElement (canonical_member (members_view members.now.entries))) }
     ensures kind { IfOk result (λ found. IfSome found (λ p. kind_of p ≡ Kind.RelationshipElement)) }
 {
     let Some(first) = one_member::<References>(alloc, members, "first")? else {
@@ -135,7 +135,7 @@ fn annotated_relationship_in(
     alloc: Global,
     members: &Map<String, Value>,
 ) -> Result<Option<Payload>, NoMemory>
-    ensures says { IfOk result (λ found. option_map spell_own found ≡ plain_own Kind.AnnotatedRelationshipElement (plain_member (members_view members.now.entries))) }
+    ensures says { IfOk result (λ found. option_map spell_own found ≡ canonical_own Kind.AnnotatedRelationshipElement (canonical_member (members_view members.now.entries))) }
     ensures kind { IfOk result (λ found. IfSome found (λ p. kind_of p ≡ Kind.AnnotatedRelationshipElement)) }
 {
     let Some(first) = one_member::<References>(alloc, members, "first")? else {
@@ -151,7 +151,7 @@ fn annotated_relationship_in(
 }
 
 fn entity_in(alloc: Global, members: &Map<String, Value>) -> Result<Option<Payload>, NoMemory>
-    ensures says { IfOk result (λ found. option_map spell_own found ≡ plain_own Kind.Entity (plain_member (members_view members.now.entries))) }
+    ensures says { IfOk result (λ found. option_map spell_own found ≡ canonical_own Kind.Entity (canonical_member (members_view members.now.entries))) }
     ensures kind { IfOk result (λ found. IfSome found (λ p. kind_of p ≡ Kind.Entity)) }
 {
     let Some(entity_type) = word_member(members, "entityType") else {
@@ -165,7 +165,7 @@ fn entity_in(alloc: Global, members: &Map<String, Value>) -> Result<Option<Paylo
 }
 
 fn event_in(alloc: Global, members: &Map<String, Value>) -> Result<Option<Payload>, NoMemory>
-    ensures says { IfOk result (λ found. option_map spell_own found ≡ plain_own Kind.BasicEventElement (plain_member (members_view members.now.entries))) }
+    ensures says { IfOk result (λ found. option_map spell_own found ≡ canonical_own Kind.BasicEventElement (canonical_member (members_view members.now.entries))) }
     ensures kind { IfOk result (λ found. IfSome found (λ p. kind_of p ≡ Kind.BasicEventElement)) }
 {
     let Some(direction) = word_member(members, "direction") else {
@@ -190,7 +190,7 @@ fn event_in(alloc: Global, members: &Map<String, Value>) -> Result<Option<Payloa
 }
 
 fn element_list_in(alloc: Global, members: &Map<String, Value>) -> Result<Option<Payload>, NoMemory>
-    ensures says { IfOk result (λ found. option_map spell_own found ≡ plain_own Kind.SubmodelElementList (plain_member (members_view members.now.entries))) }
+    ensures says { IfOk result (λ found. option_map spell_own found ≡ canonical_own Kind.SubmodelElementList (canonical_member (members_view members.now.entries))) }
     ensures kind { IfOk result (λ found. IfSome found (λ p. kind_of p ≡ Kind.SubmodelElementList)) }
 {
     let Some(type_value_list_element) = word_member(members, "typeValueListElement") else {

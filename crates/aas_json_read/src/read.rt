@@ -1,22 +1,22 @@
 ghost use Rattle.std.specs.Prelude.{◌≡◌, IfOk, IfSome, option_map};
 ghost use Rattle.serde_json.specs.Data.{Data};
 ghost use Rattle.serde_json.specs.View.{view};
-ghost use Rattle.aas_table.specs.Plain.{plain};
-ghost use Rattle.aas_table.specs.Seen.{sort_of, levels_of};
-ghost use Rattle.aas_table.specs.Table.{Sort, one, element, environment, submodel};
-ghost use Rattle.aas_spelling.specs.Reads.{Reads, ReadsBytes};
-ghost use Rattle.aas_mapping.specs.Documents.{spell_environment, spell_submodel};
-ghost use Rattle.aas_mapping.specs.Elements.{spell_element};
-ghost use Rattle.aas_mapping.specs.Shape.{IsShaped, IsShapedEnvironment, IsShapedSubmodel};
+ghost use Rattle.aas_json_table.specs.Canonical.{canonical};
+ghost use Rattle.aas_json_table.specs.Seen.{sort_of, levels_of};
+ghost use Rattle.aas_json_table.specs.Table.{Sort, one, element, environment, submodel};
+ghost use Rattle.aas_json_spelling.specs.Reads.{Reads, ReadsBytes};
+ghost use Rattle.aas_json_mapping.specs.Documents.{spell_environment, spell_submodel};
+ghost use Rattle.aas_json_mapping.specs.Elements.{spell_element};
+ghost use Rattle.aas_json_mapping.specs.Shape.{IsShaped, IsShapedEnvironment, IsShapedSubmodel};
 ghost use Rattle.aas_json_read.specs.Shaped.{shaped};
 
 use crate::documents::{environment_of, submodel_of};
 use crate::elements::element_of;
 use crate::sorts::{Elements, Environments, Submodels};
-use aas_members::{check_form, read_value};
+use aas_json_members::{check_form, read_value};
 use aas_model::{Element, Environment, NoMemory, ReadFault, Role, Submodel};
-use aas_table::table::Sort;
-use aas_table::too_deep::Levels;
+use aas_json_table::table::Sort;
+use aas_json_table::too_deep::Levels;
 use serde_json::Value;
 use std::alloc::Global;
 
@@ -33,7 +33,7 @@ pub(crate) trait Shaped {
 
     /// The tree that the value spells, or `None` where the value lacks what the sort demands.
     fn tree(alloc: Global, value: &Value) -> Result<Option<Self::Tree>, NoMemory>
-        ensures says { IfOk result (λ found. option_map spell found ≡ plain (one sort) (view value.now)) }
+        ensures says { IfOk result (λ found. option_map spell found ≡ canonical (one sort) (view value.now)) }
         ensures shape { IfOk result (λ found. IfSome found is_shaped) };
 }
 

@@ -1,10 +1,10 @@
 -- Whole trees are in order.
 use Rattle.std.proofs.Common.{◌≡◌, ◌&&◌, List, [], ◌∷◌, Bool, true, map, Option, Some, None, refl, ap₂, ◌∙◌, sym, subst}
 use Rattle.std.specs.List.{list_all}
-use Rattle.aas_table.specs.TooDeep.{Levels}
-use Rattle.aas_spelling.specs.Lists.{Each, each_true}
-use Rattle.aas_spelling.proofs.Rows.{and_left, and_right}
-use Rattle.aas_mapping.specs.Whole.{whole_kept, whole_common, whole_payload, has_whole_parts, is_whole_child, is_member, is_whole_element, whole_administration_if_there, whole_head, is_whole_shell, is_whole_submodel, is_whole_concept, is_whole_environment}
+use Rattle.aas_json_table.specs.TooDeep.{Levels}
+use Rattle.aas_json_spelling.specs.Lists.{Each, each_true}
+use Rattle.aas_json_spelling.proofs.Rows.{and_left, and_right}
+use Rattle.aas_json_mapping.specs.Whole.{whole_kept, whole_common, whole_payload, has_whole_parts, is_whole_child, is_member, is_whole_element, whole_administration_if_there, whole_head, is_whole_shell, is_whole_submodel, is_whole_concept, is_whole_environment}
 use Rattle.aas_model.specs.declared.common.Common.{Common}
 use Rattle.aas_model.specs.declared.common.Head.{Head}
 use Rattle.aas_model.specs.declared.documents.Concept.{Concept}

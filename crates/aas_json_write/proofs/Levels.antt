@@ -1,17 +1,17 @@
 -- The spelling of an element, by that of its children.
 use Rattle.std.proofs.Common.{◌≡◌, ℕ, ◌<◌, ◌&&◌, List, [], ◌∷◌, ◌++◌, length, get_or, Bool, true, map, codes, Option, refl, sym, ap, ap₂, ◌∙◌, subst}
 use Rattle.serde_json.specs.Data.{Data, Members, object, no_items}
-use Rattle.aas_table.specs.Plain.{listed}
-use Rattle.aas_table.specs.Spelled.{attribute, spelled, list_of, onto}
-use Rattle.aas_table.specs.Table.{Row}
-use Rattle.aas_spelling.specs.Lists.{each_true}
-use Rattle.aas_spelling.proofs.Rows.{and_left, and_right}
-use Rattle.aas_members.specs.Building.{put_some}
-use Rattle.aas_members.proofs.Built.{built_is}
-use Rattle.aas_mapping.specs.Elements.{Child, spell_over, spelled_child, spell_element, rows_for, model_type_of, element_attributes, children_attribute, variables_attribute, is_input, is_output, is_inoutput}
-use Rattle.aas_names.specs.declared.element_name.ElementName.{ElementName}
-use Rattle.aas_names.specs.declared.entity_type.EntityType.{EntityType}
-use Rattle.aas_names.specs.declared.value_type.ValueType.{ValueType}
+use Rattle.aas_json_table.specs.Canonical.{listed}
+use Rattle.aas_json_table.specs.Spelled.{attribute, spelled, list_of, onto}
+use Rattle.aas_json_table.specs.Table.{Row}
+use Rattle.aas_json_spelling.specs.Lists.{each_true}
+use Rattle.aas_json_spelling.proofs.Rows.{and_left, and_right}
+use Rattle.aas_json_members.specs.Building.{put_some}
+use Rattle.aas_json_members.proofs.Built.{built_is}
+use Rattle.aas_json_mapping.specs.Elements.{Child, spell_over, spelled_child, spell_element, rows_for, model_type_of, element_attributes, children_attribute, variables_attribute, is_input, is_output, is_inoutput}
+use Rattle.aas_model_names.specs.declared.element_name.ElementName.{ElementName}
+use Rattle.aas_model_names.specs.declared.entity_type.EntityType.{EntityType}
+use Rattle.aas_model_names.specs.declared.value_type.ValueType.{ValueType}
 use Rattle.aas_model.specs.declared.reference.Reference.{Reference}
 use Rattle.aas_model.specs.declared.parts.SpecificAssetId.{SpecificAssetId}
 use Rattle.aas_model.specs.declared.common.Common.{Common}

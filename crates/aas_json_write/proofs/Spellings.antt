@@ -1,16 +1,16 @@
 -- Documents as their members are put, and as they are spelled.
 use Rattle.std.proofs.Common.{◌≡◌, ◌∷◌, [], ◌++◌, List, Some, codes, option_map, refl, ap}
 use Rattle.serde_json.specs.Data.{object, string}
-use Rattle.aas_names.specs.ModellingKindNames as modelling_kind
-use Rattle.aas_table.specs.Spelled.{Attributes, attribute, list_of}
-use Rattle.aas_table.specs.Table.{Row, required, optional, one, many, word, reference, element, asset_information, qualifiable, has_semantics}
-use Rattle.aas_table.specs.Names.{modelling_kinds}
-use Rattle.aas_members.specs.Building.{put_some, built}
-use Rattle.aas_members.proofs.Built.{built_is}
+use Rattle.aas_model_names.specs.ModellingKindNames as modelling_kind
+use Rattle.aas_json_table.specs.Spelled.{Attributes, attribute, list_of}
+use Rattle.aas_json_table.specs.Table.{Row, required, optional, one, many, word, reference, element, asset_information, qualifiable, has_semantics}
+use Rattle.aas_json_table.specs.Names.{modelling_kinds}
+use Rattle.aas_json_members.specs.Building.{put_some, built}
+use Rattle.aas_json_members.proofs.Built.{built_is}
 use Rattle.aas_reference.specs.Spelling.{spell_reference}
-use Rattle.aas_mapping.specs.Parts.{semantics_attributes, spell_qualifier, spell_asset_information}
-use Rattle.aas_mapping.specs.Elements.{spell_element}
-use Rattle.aas_mapping.specs.Documents.{head_attributes, spell_shell, spell_submodel}
+use Rattle.aas_json_mapping.specs.Parts.{semantics_attributes, spell_qualifier, spell_asset_information}
+use Rattle.aas_json_mapping.specs.Elements.{spell_element}
+use Rattle.aas_json_mapping.specs.Documents.{head_attributes, spell_shell, spell_submodel}
 use Rattle.aas_model.specs.declared.documents.Submodel.{Submodel}
 use Rattle.aas_model.specs.declared.documents.Shell.{Shell}
 use Rattle.aas_json_write.specs.Rows.{model_type_row, head_rows, with_model_type}

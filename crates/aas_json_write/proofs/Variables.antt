@@ -1,7 +1,7 @@
 -- Variables of an Operation, one after another.
 use Rattle.std.proofs.Common.{◌≡◌, List, [], ◌∷◌, ◌++◌, Bool, true, false, map, filter, cond, Some, None, refl, append_assoc}
 use Rattle.std.specs.List.{cons_option}
-use Rattle.aas_mapping.specs.Elements.{Child, spell_variable}
+use Rattle.aas_json_mapping.specs.Elements.{Child, spell_variable}
 use Rattle.aas_model.specs.declared.element.Role.{Role}
 use Rattle.aas_json_write.specs.Variables.{is_variable, variable_of}
 

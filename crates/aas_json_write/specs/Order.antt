@@ -1,7 +1,7 @@
 -- Trees whose kept data is in order: the names of each map are distinct and rise in byte order, as they do in each whole tree. This profile's own rule.
 use Rattle.std.specs.Prelude.{◌&&◌, Bool, true, List, map, Option, Some, None}
-use Rattle.aas_spelling.specs.Lists.{each_true}
-use Rattle.aas_spelling.specs.Kept.{is_ordered}
+use Rattle.aas_json_spelling.specs.Lists.{each_true}
+use Rattle.aas_json_spelling.specs.Kept.{is_ordered}
 use Rattle.aas_model.specs.declared.plain.Plain.{Plain}
 use Rattle.aas_model.specs.declared.parts.Administration.{Administration}
 use Rattle.aas_model.specs.declared.common.Head.{Head}

@@ -1,11 +1,11 @@
 -- The members of elements and documents in the order in which they are written, each with its row of the attribute table.
 use Rattle.std.specs.Prelude.{ℕ, List, [], ◌∷◌, ◌++◌, codes, Some, unwrap_or}
 use Rattle.serde_json.specs.Data.{Members, no_members, string}
-use Rattle.aas_table.specs.Rows.{find}
-use Rattle.aas_table.specs.Spelled.{attribute}
-use Rattle.aas_table.specs.Table.{Row, kinds, optional, required, kept, text, many, lang_text, extension, qualifiable, has_semantics, identifiable}
-use Rattle.aas_members.specs.Building.{put_some, built}
-use Rattle.aas_mapping.specs.Elements.{Child, common_attributes, own_attributes, model_type_of}
+use Rattle.aas_json_table.specs.Rows.{find}
+use Rattle.aas_json_table.specs.Spelled.{attribute}
+use Rattle.aas_json_table.specs.Table.{Row, kinds, optional, required, kept, text, many, lang_text, extension, qualifiable, has_semantics, identifiable}
+use Rattle.aas_json_members.specs.Building.{put_some, built}
+use Rattle.aas_json_mapping.specs.Elements.{Child, common_attributes, own_attributes, model_type_of}
 use Rattle.aas_model.specs.declared.common.Common.{Common}
 use Rattle.aas_model.specs.declared.payload.Payload.{Payload}
 

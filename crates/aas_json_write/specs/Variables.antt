@@ -1,7 +1,7 @@
 -- The variables of an Operation by their role (IDTA-01001-3-0, class Operation).
 use Rattle.std.specs.Prelude.{Bool, false, cond, Option, Some, None}
 use Rattle.serde_json.specs.Data.{Data}
-use Rattle.aas_mapping.specs.Elements.{Child, is_input, is_output, is_inoutput, spell_variable}
+use Rattle.aas_json_mapping.specs.Elements.{Child, is_input, is_output, is_inoutput, spell_variable}
 use Rattle.aas_model.specs.declared.element.Role.{Role}
 use Rattle.aas_model.specs.declared.element.Role.TheVariants as role
 

@@ -1,17 +1,17 @@
 ghost use Rattle.std.specs.Prelude.{◌≡◌, ◌++◌, true, codes, List, IfOk, OnOk, option_map};
 ghost use Rattle.std.specs.List.{cons_option};
 ghost use Rattle.serde_json.specs.Data as json;
-ghost use Rattle.aas_members.specs.Array.{items_of};
-ghost use Rattle.aas_members.specs.Building.{put_some};
-ghost use Rattle.aas_members.specs.Exact.{data_of};
-ghost use Rattle.aas_members.specs.Object.{members_of};
+ghost use Rattle.aas_json_members.specs.Array.{items_of};
+ghost use Rattle.aas_json_members.specs.Building.{put_some};
+ghost use Rattle.aas_json_members.specs.Exact.{data_of};
+ghost use Rattle.aas_json_members.specs.Object.{members_of};
 ghost use Rattle.aas_json_write.specs.Order.{kept_in_order};
 ghost use Rattle.aas_json_write.specs.Rows.{childless};
 ghost use Rattle.aas_json_write.specs.Variables.{is_variable};
 
 use crate::common::put_common;
 use crate::kinds::put_own;
-use aas_members::{Array, Exact, Object, word_value};
+use aas_json_members::{Array, Exact, Object, word_value};
 use aas_model::{Common, NoMemory, Payload, Role};
 use std::alloc::Global;
 

@@ -1,17 +1,17 @@
 ghost use Rattle.std.specs.Prelude.{◌≡◌, true, IfOk, OnOk, option_map};
-ghost use Rattle.aas_table.specs.Spelled.{attribute};
-ghost use Rattle.aas_table.specs.Table.{has_semantics};
-ghost use Rattle.aas_spelling.specs.Kept.{spell_kept};
-ghost use Rattle.aas_members.specs.Building.{built};
-ghost use Rattle.aas_members.specs.Exact.{data_of};
-ghost use Rattle.aas_members.specs.Object.{members_of};
-ghost use Rattle.aas_mapping.specs.Elements.{common_attributes};
-ghost use Rattle.aas_mapping.specs.Parts.{semantics_attributes};
+ghost use Rattle.aas_json_table.specs.Spelled.{attribute};
+ghost use Rattle.aas_json_table.specs.Table.{has_semantics};
+ghost use Rattle.aas_json_spelling.specs.Kept.{spell_kept};
+ghost use Rattle.aas_json_members.specs.Building.{built};
+ghost use Rattle.aas_json_members.specs.Exact.{data_of};
+ghost use Rattle.aas_json_members.specs.Object.{members_of};
+ghost use Rattle.aas_json_mapping.specs.Elements.{common_attributes};
+ghost use Rattle.aas_json_mapping.specs.Parts.{semantics_attributes};
 ghost use Rattle.aas_json_write.specs.Order.{kept_in_order};
 ghost use Rattle.aas_json_write.specs.Rows.{common_rows, shared_rows};
 
 use crate::sorts::{Extensions, LangTexts, Qualifiers};
-use aas_members::{Exact, Object, Texts, kept_value, list_value, optional_value};
+use aas_json_members::{Exact, Object, Texts, kept_value, list_value, optional_value};
 use aas_model::{Common, Many, NoMemory, Plain, Semantics};
 use aas_reference::References;
 use std::alloc::Global;

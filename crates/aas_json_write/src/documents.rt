@@ -1,18 +1,18 @@
 ghost use Rattle.std.specs.Prelude.{◌≡◌, true, IfOk, OnOk, option_map};
-ghost use Rattle.aas_table.specs.Spelled.{attribute};
-ghost use Rattle.aas_table.specs.Table.{identifiable};
-ghost use Rattle.aas_members.specs.Building.{built};
-ghost use Rattle.aas_members.specs.Exact.{data_of};
-ghost use Rattle.aas_members.specs.Object.{members_of};
-ghost use Rattle.aas_mapping.specs.Documents.{head_attributes, spell_shell, spell_submodel, spell_concept};
-ghost use Rattle.aas_mapping.specs.Parts.{spell_administration};
+ghost use Rattle.aas_json_table.specs.Spelled.{attribute};
+ghost use Rattle.aas_json_table.specs.Table.{identifiable};
+ghost use Rattle.aas_json_members.specs.Building.{built};
+ghost use Rattle.aas_json_members.specs.Exact.{data_of};
+ghost use Rattle.aas_json_members.specs.Object.{members_of};
+ghost use Rattle.aas_json_mapping.specs.Documents.{head_attributes, spell_shell, spell_submodel, spell_concept};
+ghost use Rattle.aas_json_mapping.specs.Parts.{spell_administration};
 ghost use Rattle.aas_json_write.specs.Order.{kept_in_order, administration_in_order, head_in_order, shell_in_order, submodel_in_order, concept_in_order};
 ghost use Rattle.aas_json_write.specs.Rows.{head_rows, shared_rows, with_model_type};
 
 use crate::common::{kept_as_it_is, put_semantics};
 use crate::elements::children_value;
 use crate::sorts::{AssetInformations, Extensions, LangTexts, Qualifiers};
-use aas_members::{
+use aas_json_members::{
     Exact, Object, Texts, Written, list_value, optional_value, optional_word, string_value,
     text_value,
 };

@@ -1,13 +1,13 @@
 ghost use Rattle.std.specs.Prelude.{◌≡◌, true, map, IfOk, option_map};
-ghost use Rattle.aas_members.specs.Exact.{data_of};
-ghost use Rattle.aas_mapping.specs.Elements.{children_attribute, spell_element, spelled_child, variables_attribute};
+ghost use Rattle.aas_json_members.specs.Exact.{data_of};
+ghost use Rattle.aas_json_mapping.specs.Elements.{children_attribute, spell_element, spelled_child, variables_attribute};
 ghost use Rattle.aas_json_write.specs.Order.{element_in_order, elements_in_order};
 ghost use Rattle.aas_json_write.specs.Variables.{is_variable, variable_of};
 
 use crate::children::{
     childless_object, closed_with, closed_with_variables, is_variable, push_some,
 };
-use aas_members::{Array, Exact, Object};
+use aas_json_members::{Array, Exact, Object};
 use aas_model::{Element, Many, NoMemory, Payload, Role};
 use std::alloc::Global;
 

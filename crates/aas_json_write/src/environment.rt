@@ -1,12 +1,12 @@
 ghost use Rattle.std.specs.Prelude.{◌≡◌, true, map, IfOk, option_map};
-ghost use Rattle.aas_table.specs.Spelled.{list_of};
-ghost use Rattle.aas_members.specs.Exact.{data_of};
-ghost use Rattle.aas_mapping.specs.Documents.{spell_shell, spell_submodel, spell_concept, spell_environment};
-ghost use Rattle.aas_spelling.specs.Lists.{each_true};
+ghost use Rattle.aas_json_table.specs.Spelled.{list_of};
+ghost use Rattle.aas_json_members.specs.Exact.{data_of};
+ghost use Rattle.aas_json_mapping.specs.Documents.{spell_shell, spell_submodel, spell_concept, spell_environment};
+ghost use Rattle.aas_json_spelling.specs.Lists.{each_true};
 ghost use Rattle.aas_json_write.specs.Order.{shell_in_order, submodel_in_order, concept_in_order, environment_in_order};
 
 use crate::documents::{concept_value, shell_value, submodel_value};
-use aas_members::{Array, Exact, Object};
+use aas_json_members::{Array, Exact, Object};
 use aas_model::{Concept, Environment, Many, NoMemory, Shell, Submodel};
 use std::alloc::Global;
 

@@ -1,16 +1,16 @@
 ghost use Rattle.std.specs.Prelude.{◌≡◌, [], codes, Some, OnOk, option_map};
 ghost use Rattle.serde_json.specs.Data.{string};
-ghost use Rattle.aas_names.specs.DirectionNames as direction_names;
-ghost use Rattle.aas_names.specs.StateOfEventNames as state_names;
-ghost use Rattle.aas_table.specs.Spelled.{text_of};
-ghost use Rattle.aas_members.specs.Building.{put_some};
-ghost use Rattle.aas_members.specs.Object.{members_of};
+ghost use Rattle.aas_model_names.specs.DirectionNames as direction_names;
+ghost use Rattle.aas_model_names.specs.StateOfEventNames as state_names;
+ghost use Rattle.aas_json_table.specs.Spelled.{text_of};
+ghost use Rattle.aas_json_members.specs.Building.{put_some};
+ghost use Rattle.aas_json_members.specs.Object.{members_of};
 ghost use Rattle.aas_reference.specs.Spelling.{spell_reference};
 ghost use Rattle.aas_json_write.specs.Rows.{with_own};
 ghost use Rattle.aas_model.specs.declared.payload.Payload.TheVariants as p;
 
 use crate::sorts::{LangTexts, SpecificAssetIds};
-use aas_members::{Flags, Object, Texts, list_value, optional_value, optional_word, word_value};
+use aas_json_members::{Flags, Object, Texts, list_value, optional_value, optional_word, word_value};
 use aas_model::{
     Direction, ElementName, EntityType, LangText, Many, NoMemory, Payload, Reference,
     SpecificAssetId, StateOfEvent, Text, ValueType,

@@ -1,8 +1,8 @@
 // The function here does nothing: its contract is a law of what is written.
 
 ghost use Rattle.std.specs.Prelude.{◌≡◌, true};
-ghost use Rattle.aas_table.specs.TooDeep.{Levels};
-ghost use Rattle.aas_mapping.specs.Whole.{is_whole_child, is_whole_element, is_whole_shell, is_whole_submodel, is_whole_concept, is_whole_environment};
+ghost use Rattle.aas_json_table.specs.TooDeep.{Levels};
+ghost use Rattle.aas_json_mapping.specs.Whole.{is_whole_child, is_whole_element, is_whole_shell, is_whole_submodel, is_whole_concept, is_whole_environment};
 ghost use Rattle.aas_model.specs.declared.documents.Concept.{Concept};
 ghost use Rattle.aas_model.specs.declared.documents.Environment.{Environment};
 ghost use Rattle.aas_model.specs.declared.documents.Shell.{Shell};

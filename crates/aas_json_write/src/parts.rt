@@ -1,11 +1,11 @@
 ghost use Rattle.std.specs.Prelude.{◌≡◌, IfOk};
-ghost use Rattle.aas_members.specs.Exact.{data_of};
-ghost use Rattle.aas_mapping.specs.Parts.{spell_lang_text, spell_extension, spell_qualifier, spell_specific_asset_id, spell_resource, spell_asset_information};
+ghost use Rattle.aas_json_members.specs.Exact.{data_of};
+ghost use Rattle.aas_json_mapping.specs.Parts.{spell_lang_text, spell_extension, spell_qualifier, spell_specific_asset_id, spell_resource, spell_asset_information};
 
 use crate::sorts::{
     AssetInformations, Extensions, LangTexts, Qualifiers, Resources, SpecificAssetIds,
 };
-use aas_members::{
+use aas_json_members::{
     Exact, Object, Texts, Written, list_value, optional_value, optional_word, text_value,
     word_value,
 };

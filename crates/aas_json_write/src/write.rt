@@ -1,15 +1,15 @@
 ghost use Rattle.std.specs.Prelude.{◌≡◌, ◌++◌, true, OnOk, OnErr};
 ghost use Rattle.serde_json.specs.Written.{compact_text};
-ghost use Rattle.aas_mapping.specs.Documents.{spell_shell, spell_submodel, spell_concept, spell_environment};
-ghost use Rattle.aas_mapping.specs.Elements.{spell_element};
-ghost use Rattle.aas_mapping.specs.Parts.{spell_asset_information};
+ghost use Rattle.aas_json_mapping.specs.Documents.{spell_shell, spell_submodel, spell_concept, spell_environment};
+ghost use Rattle.aas_json_mapping.specs.Elements.{spell_element};
+ghost use Rattle.aas_json_mapping.specs.Parts.{spell_asset_information};
 ghost use Rattle.aas_json_write.specs.Order.{element_in_order, shell_in_order, submodel_in_order, concept_in_order, environment_in_order};
 
 use crate::documents::{concept_value, shell_value, submodel_value};
 use crate::elements::element_value;
 use crate::environment::environment_value;
 use crate::sorts::AssetInformations;
-use aas_members::Written;
+use aas_json_members::Written;
 use aas_model::{AssetInformation, Concept, Element, Environment, NoMemory, Shell, Submodel};
 use std::alloc::Global;
 

@@ -1,12 +1,12 @@
 -- What is cut for a binary text is its form.
 use Rattle.std.proofs.Common.{◌≡◌, ℕ, ◌↔◌, ◌<◌, List, [], ◌∷◌, ◌++◌, length, Some, None, refl, inl, inr, codes}
 use Rattle.std.specs.Char.{is_ascii_hexdigit}
-use Rattle.aas_forms.specs.Form.{lit, one, any, maybe, Many, ◌∣◌, ◌▸◌}
-use Rattle.aas_forms.specs.Cut.{after_lit, after_one, after_any, cut_all, cut_then}
-use Rattle.aas_forms.proofs.Begin.{Avoids-lit, Needs-one, Needs-then, of_among}
-use Rattle.aas_forms.proofs.Cuts.{Cuts, Anything, End, Cuts-lit, Cuts-one, Cuts-any, Cuts-then, Cuts-next, Cuts-either_by, Cuts-maybe_by, whole}
-use Rattle.aas_forms.proofs.Repeat.{Nonempty, Nonempty-one, Nonempty-then, Cuts-many, Shrinks, Shrinks-cut, cut_many_turn, cut_many_end}
-use Rattle.aas_forms.proofs.Dodges.{Dodges, Dodges-first, Dodges-then}
+use Rattle.aas_lexical_forms.specs.Form.{lit, one, any, maybe, Many, ◌∣◌, ◌▸◌}
+use Rattle.aas_lexical_forms.specs.Cut.{after_lit, after_one, after_any, cut_all, cut_then}
+use Rattle.aas_lexical_forms.proofs.Begin.{Avoids-lit, Needs-one, Needs-then, of_among}
+use Rattle.aas_lexical_forms.proofs.Cuts.{Cuts, Anything, End, Cuts-lit, Cuts-one, Cuts-any, Cuts-then, Cuts-next, Cuts-either_by, Cuts-maybe_by, whole}
+use Rattle.aas_lexical_forms.proofs.Repeat.{Nonempty, Nonempty-one, Nonempty-then, Cuts-many, Shrinks, Shrinks-cut, cut_many_turn, cut_many_end}
+use Rattle.aas_lexical_forms.proofs.Dodges.{Dodges, Dodges-first, Dodges-then}
 use Rattle.aas_lexical.specs.Binary.{is_symbol, is_symbol_of_four_bits, is_symbol_of_two_bits, group, padded_group, base64_binary}
 use Rattle.aas_lexical.specs.Cut.Binary.{after_group, after_groups, after_two_padded, after_one_padded, after_padded_group, after_base64}
 

@@ -2,11 +2,11 @@
 use Rattle.std.proofs.Common.{◌≡◌, ℕ, ◌↔◌, ◌≤◌, Bool, true, false, ◌&&◌, nat_le, List, [], ◌++◌, Option, Some, refl, arith, Decides, pos}
 use Rattle.std.proofs.lemmas.Bool.Decides.{nat_tests, Decides-and, Decides-or, Decides-eqb}
 use Rattle.jiff_core.specs.Calendar.{IsDate}
-use Rattle.aas_forms.specs.Form.{lit, among, one, digits, such, ◌▸◌, ◌▸=◌}
-use Rattle.aas_forms.specs.Cut.{after_lit, after_two_digits, cut_then, cut_with, cut_such}
-use Rattle.aas_forms.proofs.Begin.{Stops, Apart, Apart-among, Avoids, Avoids-one, Avoids-lit, Avoids-then, Avoids-either, Needs-word, past_maybe}
-use Rattle.aas_forms.proofs.Cuts.{Cuts, Anything, End, Cuts-lit, Cuts-one, Cuts-next, Cuts-either, Cuts-maybe_by, whole}
-use Rattle.aas_forms.proofs.Values.{Reads-two_digits, Reads-four_digits, Cuts-with, Cuts-such}
+use Rattle.aas_lexical_forms.specs.Form.{lit, among, one, digits, such, ◌▸◌, ◌▸=◌}
+use Rattle.aas_lexical_forms.specs.Cut.{after_lit, after_two_digits, cut_then, cut_with, cut_such}
+use Rattle.aas_lexical_forms.proofs.Begin.{Stops, Apart, Apart-among, Avoids, Avoids-one, Avoids-lit, Avoids-then, Avoids-either, Needs-word, past_maybe}
+use Rattle.aas_lexical_forms.proofs.Cuts.{Cuts, Anything, End, Cuts-lit, Cuts-one, Cuts-next, Cuts-either, Cuts-maybe_by, whole}
+use Rattle.aas_lexical_forms.proofs.Values.{Reads-two_digits, Reads-four_digits, Cuts-with, Cuts-such}
 use Rattle.aas_lexical.specs.Numbers.{is_sign}
 use Rattle.aas_lexical.specs.Dates.{IsOffset, zone, day, date, g_year_month, g_year, g_month_day, g_day, g_month}
 use Rattle.aas_lexical.specs.Cut.Dates.{is_offset, after_offset, after_zone, is_day, after_day, after_date, after_g_year_month, after_g_year, after_g_month_day, after_g_day, after_g_month}

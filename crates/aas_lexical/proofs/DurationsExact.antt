@@ -1,12 +1,12 @@
 -- What is cut for a duration is its form.
 use Rattle.std.proofs.Common.{◌≡◌, ℕ, ◌↔◌, Bool, false, List, [], ◌++◌, Option, Some, None, refl, append_assoc, codes}
 use Rattle.std.specs.Char.{is_ascii_digit}
-use Rattle.aas_forms.specs.Form.{lit, among, run, maybe, nonempty, ◌▸◌}
-use Rattle.aas_forms.specs.Cut.{after_lit, after_run, cut_then, cut_maybe}
-use Rattle.aas_forms.proofs.Begin.{Stops, Avoids-lit, Avoids-then, Needs, Needs-run, Needs-word, Needs-then, past_maybe}
-use Rattle.aas_forms.proofs.Cuts.{Cuts, Anything, End, Cuts-lit, Cuts-run, Cuts-then, Cuts-next, Cuts-apart, Cuts-maybe, Cuts-maybe_by, whole}
-use Rattle.aas_forms.proofs.Repeat.{Cuts-nonempty}
-use Rattle.aas_forms.proofs.Dodges.{Dodges, Dodges-maybe, Dodges-last, Dodges-run}
+use Rattle.aas_lexical_forms.specs.Form.{lit, among, run, maybe, nonempty, ◌▸◌}
+use Rattle.aas_lexical_forms.specs.Cut.{after_lit, after_run, cut_then, cut_maybe}
+use Rattle.aas_lexical_forms.proofs.Begin.{Stops, Avoids-lit, Avoids-then, Needs, Needs-run, Needs-word, Needs-then, past_maybe}
+use Rattle.aas_lexical_forms.proofs.Cuts.{Cuts, Anything, End, Cuts-lit, Cuts-run, Cuts-then, Cuts-next, Cuts-apart, Cuts-maybe, Cuts-maybe_by, whole}
+use Rattle.aas_lexical_forms.proofs.Repeat.{Cuts-nonempty}
+use Rattle.aas_lexical_forms.proofs.Dodges.{Dodges, Dodges-maybe, Dodges-last, Dodges-run}
 use Rattle.aas_lexical.specs.Times.{fraction}
 use Rattle.aas_lexical.specs.Durations.{years, months, days, hours, minutes, seconds, date_parts, time_parts, duration}
 use Rattle.aas_lexical.specs.Cut.Times.{after_fraction}

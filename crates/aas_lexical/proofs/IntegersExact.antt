@@ -10,10 +10,10 @@ use Rattle.std.specs.Int.{w128}
 use Rattle.std.specs.Char.{is_ascii_digit, digit_value}
 use Rattle.std.specs.List.{list_all}
 use Rattle.std.specs.Str.Parse.{AllDigits, IsNumeral, starts_with_minus, without_leading_sign}
-use Rattle.aas_forms.specs.Form.{run}
-use Rattle.aas_forms.specs.Cut.{after_one, rest_or}
-use Rattle.aas_forms.proofs.Begin.{Stops, and_split}
-use Rattle.aas_forms.proofs.Cuts.{Cuts-maybe_one, peel}
+use Rattle.aas_lexical_forms.specs.Form.{run}
+use Rattle.aas_lexical_forms.specs.Cut.{after_one, rest_or}
+use Rattle.aas_lexical_forms.proofs.Begin.{Stops, and_split}
+use Rattle.aas_lexical_forms.proofs.Cuts.{Cuts-maybe_one, peel}
 use Rattle.aas_lexical.specs.Numbers.{is_sign, integer, integer_value, integer_from, integer_up_to, integer_between}
 use Rattle.aas_lexical.proofs.NumbersExact.{digits_no_sign}
 

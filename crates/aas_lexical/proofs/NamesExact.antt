@@ -1,11 +1,11 @@
 -- What is cut for a name, a language and a version is its form.
 use Rattle.std.proofs.Common.{◌≡◌, ℕ, ◌↔◌, ◌<◌, Bool, false, List, [], ◌++◌, length, Some, None, refl, arith}
 use Rattle.std.specs.Char.{is_ascii_digit, is_ascii_alphabetic, is_ascii_alphanumeric}
-use Rattle.aas_forms.specs.Form.{lit, among, run, up_to, Many, ◌▸◌}
-use Rattle.aas_forms.specs.Cut.{cut_all}
-use Rattle.aas_forms.proofs.Begin.{Stops, Apart-among, Avoids-one, Avoids-lit, Avoids-then, Needs-word, past_many}
-use Rattle.aas_forms.proofs.Cuts.{Cuts, End, Cuts-lit, Cuts-one, Cuts-any, Cuts-run, Cuts-then, Cuts-next, Cuts-either, whole}
-use Rattle.aas_forms.proofs.Repeat.{Nonempty, Nonempty-lit, Nonempty-then, Cuts-many, Cuts-up_to, Shrinks, Shrinks-cut, cut_many_turn, cut_many_end}
+use Rattle.aas_lexical_forms.specs.Form.{lit, among, run, up_to, Many, ◌▸◌}
+use Rattle.aas_lexical_forms.specs.Cut.{cut_all}
+use Rattle.aas_lexical_forms.proofs.Begin.{Stops, Apart-among, Avoids-one, Avoids-lit, Avoids-then, Needs-word, past_many}
+use Rattle.aas_lexical_forms.proofs.Cuts.{Cuts, End, Cuts-lit, Cuts-one, Cuts-any, Cuts-run, Cuts-then, Cuts-next, Cuts-either, whole}
+use Rattle.aas_lexical_forms.proofs.Repeat.{Nonempty, Nonempty-lit, Nonempty-then, Cuts-many, Cuts-up_to, Shrinks, Shrinks-cut, cut_many_turn, cut_many_end}
 use Rattle.aas_lexical.specs.Names.{language, is_nonzero_digit, version, is_name_byte, name, id_short}
 use Rattle.aas_lexical.specs.Cut.Names.{after_subtag, after_subtags, after_language, after_version, after_name, after_id_short}
 

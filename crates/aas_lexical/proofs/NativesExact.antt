@@ -9,8 +9,8 @@ use Rattle.std.specs.Int.{w128}
 use Rattle.std.specs.Char.{is_ascii_digit}
 use Rattle.std.specs.Fmt.{decimal, signed_decimal}
 use Rattle.std.specs.Str.Parse.{IsNumeral, starts_with_minus, without_leading_plus, without_leading_sign}
-use Rattle.aas_names.specs.declared.value_type.ValueType.{ValueType}
-use Rattle.aas_names.specs.declared.value_type.ValueType.TheVariants as xs
+use Rattle.aas_model_names.specs.declared.value_type.ValueType.{ValueType}
+use Rattle.aas_model_names.specs.declared.value_type.ValueType.TheVariants as xs
 use Rattle.aas_lexical.specs.declared.natives.Native.{Native}
 use Rattle.aas_lexical.specs.declared.natives.Native.TheVariants as native
 use Rattle.aas_lexical.specs.Numbers.{integer, integer_value}

@@ -1,10 +1,10 @@
 -- What is cut for a number is its form.
 use Rattle.std.proofs.Common.{◌≡◌, ℕ, ◌↔◌, Bool, false, List, [], Some, refl}
 use Rattle.std.specs.Char.{is_ascii_digit}
-use Rattle.aas_forms.specs.Form.{lit, among, any, run, maybe, ◌∣◌, ◌▸◌}
-use Rattle.aas_forms.specs.Cut.{after_lit, after_any, after_run, cut_all, cut_then, cut_maybe, cut_either}
-use Rattle.aas_forms.proofs.Begin.{Stops, Apart, Apart-among, Apart-swap, Avoids, Avoids-one, Avoids-run, Avoids-lit, Avoids-then, Avoids-either, Needs-one, Needs-run, Needs-word, Needs-then, past_maybe}
-use Rattle.aas_forms.proofs.Cuts.{Cuts, Cuts-lit, Cuts-one, Cuts-any, Cuts-run, Cuts-then, Cuts-next, Cuts-apart, Cuts-either, Cuts-maybe, Cuts-maybe_one, whole}
+use Rattle.aas_lexical_forms.specs.Form.{lit, among, any, run, maybe, ◌∣◌, ◌▸◌}
+use Rattle.aas_lexical_forms.specs.Cut.{after_lit, after_any, after_run, cut_all, cut_then, cut_maybe, cut_either}
+use Rattle.aas_lexical_forms.proofs.Begin.{Stops, Apart, Apart-among, Apart-swap, Avoids, Avoids-one, Avoids-run, Avoids-lit, Avoids-then, Avoids-either, Needs-one, Needs-run, Needs-word, Needs-then, past_maybe}
+use Rattle.aas_lexical_forms.proofs.Cuts.{Cuts, Cuts-lit, Cuts-one, Cuts-any, Cuts-run, Cuts-then, Cuts-next, Cuts-apart, Cuts-either, Cuts-maybe, Cuts-maybe_one, whole}
 use Rattle.aas_lexical.specs.Numbers.{is_sign, is_exponent_mark, decimal, exponent, decimal_with_exponent, integer}
 use Rattle.aas_lexical.specs.Cut.Numbers.{after_decimal, after_exponent, after_decimal_with_exponent, after_integer}
 

@@ -2,10 +2,10 @@
 use Rattle.std.proofs.Common.{◌≡◌, ℕ, ◌↔◌, Bool, true, false, ◌&&◌, List, [], ◌∷◌, ◌++◌, Some, refl, arith, Decides, codes}
 use Rattle.std.proofs.lemmas.Bool.Decides.{nat_tests, Decides-and, Decides-eqb}
 use Rattle.std.specs.Char.{is_ascii_digit}
-use Rattle.aas_forms.specs.Form.{among}
-use Rattle.aas_forms.proofs.Begin.{Stops, Apart-among, Avoids-lit, Avoids-either, Needs-word, Needs-then}
-use Rattle.aas_forms.proofs.Cuts.{Cuts, Anything, End, Cuts-lit, Cuts-run, Cuts-then, Cuts-next, Cuts-either, Cuts-either_by, Cuts-maybe, whole}
-use Rattle.aas_forms.proofs.Values.{Reads-two_digits, Cuts-with, Cuts-such}
+use Rattle.aas_lexical_forms.specs.Form.{among}
+use Rattle.aas_lexical_forms.proofs.Begin.{Stops, Apart-among, Avoids-lit, Avoids-either, Needs-word, Needs-then}
+use Rattle.aas_lexical_forms.proofs.Cuts.{Cuts, Anything, End, Cuts-lit, Cuts-run, Cuts-then, Cuts-next, Cuts-either, Cuts-either_by, Cuts-maybe, whole}
+use Rattle.aas_lexical_forms.proofs.Values.{Reads-two_digits, Cuts-with, Cuts-such}
 use Rattle.aas_lexical.specs.Times.{fraction, is_zero, IsClock, IsMidnight, clock, time, moment, date_time, utc, utc_date_time}
 use Rattle.aas_lexical.specs.Cut.Times.{after_fraction, is_clock, is_midnight, after_clock, after_time, after_moment, after_date_time, after_utc, after_utc_date_time}
 use Rattle.aas_lexical.proofs.DatesExact.{le_decided, day_cuts, zone_cuts, zone_past}

@@ -1,7 +1,7 @@
 -- Binary texts. XML Schema Part 2 (Second Edition), sections 3.2.15 and 3.2.16, and RFC 4648, section 4.
 use Rattle.std.specs.Prelude.{◌≡◌, ℕ, ◌%◌, ◌||◌, Bool, List, length}
 use Rattle.std.specs.Char.{is_ascii_alphanumeric, is_ascii_hexdigit}
-use Rattle.aas_forms.specs.Form.{lit, among, one, any, maybe, Many, ◌∣◌, ◌▸◌}
+use Rattle.aas_lexical_forms.specs.Form.{lit, among, one, any, maybe, Many, ◌∣◌, ◌▸◌}
 
 -- 3.2.15 hexBinary: an even number of hexadecimal digits, or none
 abbrev pub hex_binary : List ℕ → Type 0

@@ -2,7 +2,7 @@
 -- sign, and that the year 0000 is one, is this profile's own rule.
 use Rattle.std.specs.Prelude.{◌≡◌, ℕ, ◌≤◌, ◌⊎◌, List, pos}
 use Rattle.jiff.specs.Words.{IsDate}
-use Rattle.aas_forms.specs.Form.{lit, one, maybe, digits, such, ◌∣◌, ◌▸◌, ◌▸=◌}
+use Rattle.aas_lexical_forms.specs.Form.{lit, one, maybe, digits, such, ◌∣◌, ◌▸◌, ◌▸=◌}
 use Rattle.aas_lexical.specs.Numbers.{is_sign}
 
 -- hours and minutes by which a zone differs from UTC

@@ -1,7 +1,7 @@
 -- Durations. XML Schema Part 2 (Second Edition), section 3.2.6.
 use Rattle.std.specs.Prelude.{ℕ, List}
 use Rattle.std.specs.Char.{is_ascii_digit}
-use Rattle.aas_forms.specs.Form.{lit, run, maybe, nonempty, ◌▸◌}
+use Rattle.aas_lexical_forms.specs.Form.{lit, run, maybe, nonempty, ◌▸◌}
 use Rattle.aas_lexical.specs.Times.{fraction}
 
 abbrev pub years : List ℕ → Type 0

@@ -3,7 +3,7 @@
 use Rattle.std.specs.Prelude.{ℕ, ◌||◌, ◌&&◌, not, Bool, List}
 use Rattle.std.specs.Char.{is_ascii_alphanumeric}
 use Rattle.std.specs.Int.{is_in_range}
-use Rattle.aas_forms.specs.Form.{lit, among, one, any, run, Many, ◌∣◌, ◌▸◌}
+use Rattle.aas_lexical_forms.specs.Form.{lit, among, one, any, run, Many, ◌∣◌, ◌▸◌}
 
 abbrev pub is_token_byte : ℕ → Bool
 is_token_byte b = is_ascii_alphanumeric b || among "!#$%&'*+-.^_`|~" b

@@ -3,7 +3,7 @@ use Rattle.std.specs.Prelude.{◌≡◌, ℕ, ◌≤◌, ◌==◌, ◌||◌, Boo
 use Rattle.std.specs.Char.{is_ascii_digit, is_ascii_alphabetic, is_ascii_alphanumeric}
 use Rattle.std.specs.Int.{is_in_range}
 use Rattle.std.specs.List.{list_all}
-use Rattle.aas_forms.specs.Form.{lit, among, one, any, run, up_to, Many, ◌∣◌, ◌▸◌}
+use Rattle.aas_lexical_forms.specs.Form.{lit, among, one, any, run, up_to, Many, ◌∣◌, ◌▸◌}
 
 -- The tags of a language: 1 to 8 letters, and then groups of a minus and 1 to 8 letters or digits. XML Schema Part 2
 -- (Second Edition), section 3.3.3, as RFC 3066, section 2.1, has it; that each such text will do, and not only the tags

@@ -2,8 +2,8 @@
 -- IDTA-01002-3-0, serialization ValueOnly; which numbers are written so is this profile's own rule.
 use Rattle.std.specs.Prelude.{◌≡◌, ℕ, ℤ, pos, neg_ℤ, ◌-◌, ◌^◌, ◌≤ℤ◌, int_le, Bool, true, false, ◌&&◌, List, codes, bytes_eq, Option, Some, None, option_map, if◌then◌else◌}
 use Rattle.std.specs.Fmt.{signed_decimal}
-use Rattle.aas_names.specs.declared.value_type.ValueType.{ValueType}
-use Rattle.aas_names.specs.declared.value_type.ValueType.TheVariants as xs
+use Rattle.aas_model_names.specs.declared.value_type.ValueType.{ValueType}
+use Rattle.aas_model_names.specs.declared.value_type.ValueType.TheVariants as xs
 use Rattle.aas_lexical.specs.declared.natives.Native.{Native}
 use Rattle.aas_lexical.specs.declared.natives.Native.TheVariants as native
 use Rattle.aas_lexical.specs.Numbers.{integer_value}

@@ -2,7 +2,7 @@
 use Rattle.std.specs.Prelude.{ℕ, ◌-◌, ◌^◌, Bool, ℤ, pos, neg_ℤ, ◌≤ℤ◌, List}
 use Rattle.std.specs.Char.{is_ascii_digit}
 use Rattle.std.specs.Str.Parse.{signed_digits_value}
-use Rattle.aas_forms.specs.Form.{lit, among, one, any, run, maybe, ◌∣◌, ◌▸◌}
+use Rattle.aas_lexical_forms.specs.Form.{lit, among, one, any, run, maybe, ◌∣◌, ◌▸◌}
 
 abbrev pub is_sign : ℕ → Bool
 is_sign = among "+-"

@@ -1,6 +1,6 @@
 -- The same sets, of a text that is given by its characters: what its bytes in UTF-8 are.
 use Rattle.std.specs.Prelude.{ℕ, List, Option, encode_utf8_all}
-use Rattle.aas_names.specs.declared.value_type.ValueType.{ValueType}
+use Rattle.aas_model_names.specs.declared.value_type.ValueType.{ValueType}
 use Rattle.aas_lexical.specs.declared.natives.Native.{Native}
 use Rattle.aas_lexical.specs.Media.{media_type}
 use Rattle.aas_lexical.specs.Names.{language, version, name, id_short}

@@ -1,7 +1,7 @@
 -- Times of the day, and moments. XML Schema Part 2 (Second Edition), sections 3.2.7 and 3.2.8.
 use Rattle.std.specs.Prelude.{◌≡◌, ℕ, ◌≤◌, Bool, List}
 use Rattle.std.specs.Char.{is_ascii_digit}
-use Rattle.aas_forms.specs.Form.{lit, among, run, maybe, digits, such, ◌∣◌, ◌▸◌, ◌▸=◌}
+use Rattle.aas_lexical_forms.specs.Form.{lit, among, run, maybe, digits, such, ◌∣◌, ◌▸◌, ◌▸=◌}
 use Rattle.aas_lexical.specs.Dates.{day, zone}
 
 -- nothing, or a point and digits of the class

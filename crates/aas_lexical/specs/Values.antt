@@ -1,9 +1,9 @@
 -- The form of each value type: IDTA-01001-3-0, DataTypeDefXsd, and the sections of XML Schema Part 2 (Second Edition) that
 -- the types are named after. White space is not collapsed, which is this profile's own rule.
 use Rattle.std.specs.Prelude.{ℕ, pos, neg_ℤ, List, ⊤}
-use Rattle.aas_forms.specs.Form.{lit, ◌∣◌}
-use Rattle.aas_names.specs.declared.value_type.ValueType.{ValueType}
-use Rattle.aas_names.specs.declared.value_type.ValueType.TheVariants as xs
+use Rattle.aas_lexical_forms.specs.Form.{lit, ◌∣◌}
+use Rattle.aas_model_names.specs.declared.value_type.ValueType.{ValueType}
+use Rattle.aas_model_names.specs.declared.value_type.ValueType.TheVariants as xs
 use Rattle.aas_lexical.specs.Numbers.{decimal, float, integer, integer_from, integer_up_to, signed_integer, unsigned_integer}
 use Rattle.aas_lexical.specs.Binary.{hex_binary, base64_binary}
 use Rattle.aas_lexical.specs.Dates.{date, g_year, g_year_month, g_month, g_day, g_month_day}

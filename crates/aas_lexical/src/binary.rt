@@ -1,11 +1,11 @@
 ghost use Rattle.std.specs.Prelude.{◌≡◌, ◌↔◌, Some, IsTrue};
 ghost use Rattle.std.specs.Char.{is_ascii_hexdigit};
 ghost use Rattle.std.specs.Option.{option_map};
-ghost use Rattle.aas_forms.specs.Form.{any};
+ghost use Rattle.aas_lexical_forms.specs.Form.{any};
 ghost use Rattle.aas_lexical.specs.Binary as form;
 ghost use Rattle.aas_lexical.specs.Cut.Binary as cut;
 
-use aas_forms::{Ascii, ByteClass, after_any, after_one, after_word, is_whole};
+use aas_lexical_forms::{Ascii, ByteClass, after_any, after_one, after_word, is_whole};
 
 /// The symbols of base64, by how many of their six bits may be ones.
 #[derive(Clone, Copy)]

@@ -4,7 +4,7 @@ ghost use Rattle.aas_lexical.specs.Dates as form;
 ghost use Rattle.aas_lexical.specs.Cut.Dates as cut;
 
 use crate::number::NumberByte;
-use aas_forms::{after_four_digits, after_one, after_two_digits, after_word, is_whole};
+use aas_lexical_forms::{after_four_digits, after_one, after_two_digits, after_word, is_whole};
 use jiff::civil::Date;
 
 /// A year in which February has 29 days.

@@ -4,7 +4,7 @@ ghost use Rattle.aas_lexical.specs.Durations as form;
 ghost use Rattle.aas_lexical.specs.Cut.Durations as cut;
 
 use crate::time::after_fraction;
-use aas_forms::{Ascii, after_run, after_word, is_whole, shorter};
+use aas_lexical_forms::{Ascii, after_run, after_word, is_whole, shorter};
 
 /// The text behind digits and the letter of a part.
 fn after_part<'a>(letter: &[u8], text: &'a [u8]) -> Option<&'a [u8]>

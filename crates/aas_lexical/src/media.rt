@@ -3,7 +3,7 @@ ghost use Rattle.std.specs.Option.{option_map};
 ghost use Rattle.aas_lexical.specs.Media as form;
 ghost use Rattle.aas_lexical.specs.Cut.Media as cut;
 
-use aas_forms::{ByteClass, after_any, after_one, after_run, after_word, is_whole};
+use aas_lexical_forms::{ByteClass, after_any, after_one, after_run, after_word, is_whole};
 
 /// The bytes of a media type.
 #[derive(Clone, Copy)]

@@ -4,7 +4,7 @@ ghost use Rattle.std.specs.Str.{chars};
 ghost use Rattle.aas_lexical.specs.Names as form;
 ghost use Rattle.aas_lexical.specs.Cut.Names as cut;
 
-use aas_forms::{Ascii, ByteClass, after_any, after_one, after_run, after_word, is_whole, within};
+use aas_lexical_forms::{Ascii, ByteClass, after_any, after_one, after_run, after_word, is_whole, within};
 
 /// The most characters that a short name has.
 const MOST_NAME_CHARACTERS: usize = 128;

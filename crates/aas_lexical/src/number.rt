@@ -5,7 +5,7 @@ ghost use Rattle.std.specs.Option.{option_map};
 ghost use Rattle.aas_lexical.specs.Numbers as form;
 ghost use Rattle.aas_lexical.specs.Cut.Numbers as cut;
 
-use aas_forms::{Ascii, ByteClass, after_any, after_one, after_run, after_word, is_whole};
+use aas_lexical_forms::{Ascii, ByteClass, after_any, after_one, after_run, after_word, is_whole};
 
 /// The bytes of a number other than digits and the point.
 #[derive(Clone, Copy)]

@@ -1,5 +1,5 @@
 use super::*;
-use aas_names::ValueType;
+use aas_model_names::ValueType;
 use std::process::Abort;
 
 mod binary;

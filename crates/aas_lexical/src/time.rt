@@ -4,7 +4,7 @@ ghost use Rattle.aas_lexical.specs.Times as form;
 ghost use Rattle.aas_lexical.specs.Cut.Times as cut;
 
 use crate::date::{after_day, after_zone};
-use aas_forms::{Ascii, ByteClass, after_run, after_two_digits, after_word, is_whole};
+use aas_lexical_forms::{Ascii, ByteClass, after_run, after_two_digits, after_word, is_whole};
 
 /// The digit `0`.
 #[derive(Clone, Copy)]

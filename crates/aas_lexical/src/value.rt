@@ -11,7 +11,7 @@ use crate::number::{
     integer_value, is_at_least, is_at_most, is_between, is_decimal, is_float, is_integer,
 };
 use crate::time::{is_date_time, is_time};
-use aas_names::ValueType;
+use aas_model_names::ValueType;
 use itoa::Buffer;
 
 /// Whether the text is an xs:boolean.

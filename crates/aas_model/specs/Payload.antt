@@ -2,8 +2,8 @@
 -- IDTA-01001-3-0, the classes under SubmodelElement that are not abstract.
 use Rattle.aas_model.specs.declared.payload.Payload.{Payload}
 use Rattle.aas_model.specs.declared.payload.Payload.TheVariants as payload
-use Rattle.aas_names.specs.declared.kind.Kind.{Kind}
-use Rattle.aas_names.specs.declared.kind.Kind.TheVariants as kind
+use Rattle.aas_model_names.specs.declared.kind.Kind.{Kind}
+use Rattle.aas_model_names.specs.declared.kind.Kind.TheVariants as kind
 
 abbrev pub kind_of : Payload → Kind
 kind_of (payload.Property _ _ _) = kind.Property

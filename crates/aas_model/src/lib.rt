@@ -18,11 +18,11 @@ mod plain;
 mod read_fault;
 mod reference;
 
-pub use aas_names::{
+pub use aas_model_names::{
     AssetKind, Collection, Direction, ElementName, EntityType, Extent, KeyType, Kind, Level,
     ModellingKind, Named, QualifierKind, ReferenceType, StateOfEvent, ValueType,
 };
-pub use aas_text::{Boxed, Duplicate, Many, NoMemory, Text, copy_option, same_text};
+pub use aas_model_text::{Boxed, Duplicate, Many, NoMemory, Text, copy_option, same_text};
 pub use asset::{AssetInformation, Resource};
 pub use common::{Common, Head};
 pub use documents::{Concept, Environment, Shell, Submodel};

@@ -5,7 +5,7 @@ ghost use Rattle.aas_outside.specs.Link.{Takes, Gives};
 ghost use Rattle.aas_outside.specs.MemLink.{next_call, taken_count, given_count, IsCalled};
 
 use crate::{Failed, Link};
-use aas_text::NoMemory;
+use aas_model_text::NoMemory;
 use std::alloc::Global;
 use std::marker::Model;
 

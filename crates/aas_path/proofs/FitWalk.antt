@@ -11,13 +11,13 @@ use Rattle.aas_model.specs.Element as element
 use Rattle.aas_model.specs.Payload as payload
 use Rattle.aas_model.specs.declared.element.Element.{Element}
 use Rattle.aas_model.specs.declared.patch.PatchRow.{PatchRow}
-use Rattle.aas_names.specs.contracts.kind.Kind.{the_type}
-use Rattle.aas_names.specs.declared.kind.Kind.{Kind}
+use Rattle.aas_model_names.specs.contracts.kind.Kind.{the_type}
+use Rattle.aas_model_names.specs.declared.kind.Kind.{Kind}
 use Rattle.aas_path.specs.Gaps.{first_rank, gap, rises}
 use Rattle.aas_path.specs.Walk.{Left, at_start, behind, one_less, met, met_all, Ends}
-use Rattle.aas_trees.specs.Children.{kids_of}
-use Rattle.aas_trees.specs.Patched.{RiseFrom, Rise, Fits, kinds, kinds_of_all}
-use Rattle.aas_trees.proofs.Patches.{kinds_out}
+use Rattle.aas_path_trees.specs.Children.{kids_of}
+use Rattle.aas_path_trees.specs.Patched.{RiseFrom, Rise, Fits, kinds, kinds_of_all}
+use Rattle.aas_path_trees.proofs.Patches.{kinds_out}
 
 -- ---- one element behind the other
 

@@ -6,10 +6,10 @@ use borrow.Follows.Closed.{read_of}
 use mathlib.Core.Logic.{inl, inr}
 use Rattle.aas_model.specs.declared.element.Element.{Element, roll-out-Element}
 use Rattle.aas_model.specs.declared.path.PathStep.{PathStep}
-use Rattle.aas_trees.specs.Children.{kids_of, is_list, with_kids}
-use Rattle.aas_trees.specs.ElementAt.{place_of, child_by, element_below, element_among}
-use Rattle.aas_trees.specs.WithElement.{with_child, with_below, with_among}
-use Rattle.aas_trees.proofs.Paths.{element_below-cons, element_among-append, with_below-cons, with_among-append, with_among-same}
+use Rattle.aas_path_trees.specs.Children.{kids_of, is_list, with_kids}
+use Rattle.aas_path_trees.specs.ElementAt.{place_of, child_by, element_below, element_among}
+use Rattle.aas_path_trees.specs.WithElement.{with_child, with_below, with_among}
+use Rattle.aas_path_trees.proofs.Paths.{element_below-cons, element_among-append, with_below-cons, with_among-append, with_among-same}
 
 -- two lenders that end alike wherever something is lent, and where nothing is
 same_read : {X R : Type 0} (r : Option (MutBor X)) (F G : X → R) (u v : R) → ((x : MutBor X) → r ≡ Some x → (w : X) → F w ≡ G w) → u ≡ v

@@ -9,15 +9,15 @@ use Rattle.std.proofs.lemmas.Str.Ascii.{IsAscii-nil, IsAscii-cons}
 use Rattle.std.specs.Char.{is_ascii_alphabetic, is_ascii_alphanumeric}
 use Rattle.std.specs.List.{list_all}
 use Rattle.std.specs.Str.{IsAscii, encode_utf8_all}
-use Rattle.aas_forms.specs.Form.{one, any, ◌▸◌}
-use Rattle.aas_forms.proofs.Begin.{and_split}
+use Rattle.aas_lexical_forms.specs.Form.{one, any, ◌▸◌}
+use Rattle.aas_lexical_forms.proofs.Begin.{and_split}
 use Rattle.aas_model.specs.declared.path.PathStep.{PathStep}
 use Rattle.aas_model.specs.declared.path.PathStep.TheVariants.{Name, Place}
 use Rattle.aas_path.specs.PathText.{step_text}
 use Rattle.aas_path.specs.Runs.{BeginsWith, Stops, IsRun}
 use Rattle.aas_path.specs.StepText.{EndsStep, IsStep, IsNoStep}
 use Rattle.aas_path.proofs.RunsFound.{front_no_longer, same_front}
-use Rattle.aas_trees.specs.PathRule.{is_name_character, id_short, StepKeepsRule}
+use Rattle.aas_path_trees.specs.PathRule.{is_name_character, id_short, StepKeepsRule}
 
 -- ---- names are ASCII
 

@@ -9,10 +9,10 @@ use Rattle.aas_model.specs.declared.patch.PatchRow.{PatchRow}
 use Rattle.aas_model.specs.declared.payload.Payload.{Payload}
 use Rattle.aas_path.specs.Gaps.{first_rank, gap}
 use Rattle.aas_path.specs.Walk.{Left, at_start, behind, one_less, taken, IsNext, Stands, Patches, PatchesAll}
-use Rattle.aas_text.specs.Many.{filled}
-use Rattle.aas_trees.specs.Children.{kids_of}
-use Rattle.aas_trees.specs.Patched.{RiseFrom, Rise, payload_at, patched, patched_all}
-use Rattle.aas_trees.proofs.Patches.{patched_out}
+use Rattle.aas_model_text.specs.Many.{filled}
+use Rattle.aas_path_trees.specs.Children.{kids_of}
+use Rattle.aas_path_trees.specs.Patched.{RiseFrom, Rise, payload_at, patched, patched_all}
+use Rattle.aas_path_trees.proofs.Patches.{patched_out}
 
 -- ---- one element
 

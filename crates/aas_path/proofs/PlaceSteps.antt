@@ -8,15 +8,15 @@ use Rattle.std.proofs.lemmas.Str.Parse.{IsDigitsTest, IsNumeralModel, numerals_b
 use Rattle.std.specs.Char.{is_ascii_digit}
 use Rattle.std.specs.Str.{encode_utf8_all}
 use Rattle.std.specs.Str.Parse.{digits_value}
-use Rattle.aas_forms.proofs.Cuts.{word-sound, word-full}
-use Rattle.aas_forms.specs.Cut.{after_word}
-use Rattle.aas_forms.specs.Form.{any}
+use Rattle.aas_lexical_forms.proofs.Cuts.{word-sound, word-full}
+use Rattle.aas_lexical_forms.specs.Cut.{after_word}
+use Rattle.aas_lexical_forms.specs.Form.{any}
 use Rattle.aas_model.specs.declared.path.PathStep.{PathStep}
 use Rattle.aas_model.specs.declared.path.PathStep.TheVariants.{Name, Place}
 use Rattle.aas_path.specs.PathText.{step_text}
 use Rattle.aas_path.specs.Runs.{Stops, IsRun}
 use Rattle.aas_path.specs.StepText.{EndsStep, IsPlace, IsStep, IsNoStep, most_behind, most_digits}
-use Rattle.aas_trees.specs.PathRule.{StepKeepsRule}
+use Rattle.aas_path_trees.specs.PathRule.{StepKeepsRule}
 use Rattle.aas_path.proofs.RunsFound.{front_no_longer, same_front}
 use Rattle.aas_path.proofs.NameSteps.{dot_no_bracket, step_behind, stops_more, front_of, tails}
 

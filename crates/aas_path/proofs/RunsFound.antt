@@ -2,10 +2,10 @@
 use Rattle.std.proofs.Common.{◌≡◌, ℕ, zero, suc, ◌+◌, ◌-◌, ◌≤◌, Bool, true, false, ◌&&◌, List, [], ◌∷◌, ◌++◌, length, take, drop, Some, refl, sym, ap, ◌∙◌, subst, arith, length-append, if◌then◌else◌}
 use Rattle.std.specs.List.{list_all}
 use Rattle.std.proofs.lemmas.List.{drop_at, take_at}
-use Rattle.aas_forms.specs.Cut.{after_any}
-use Rattle.aas_forms.specs.Form.{any}
-use Rattle.aas_forms.proofs.Begin.{and_split}
-use Rattle.aas_forms.proofs.Cuts.{Cuts-any}
+use Rattle.aas_lexical_forms.specs.Cut.{after_any}
+use Rattle.aas_lexical_forms.specs.Form.{any}
+use Rattle.aas_lexical_forms.proofs.Begin.{and_split}
+use Rattle.aas_lexical_forms.proofs.Cuts.{Cuts-any}
 use Rattle.aas_path.specs.Runs.{Stops, IsRun}
 
 stops_by : (class : ℕ → Bool) (b : ℕ) (text : List ℕ) (v : Bool) → class b ≡ v → Stops class (after_any class text) → Stops class (if v then after_any class text else b ∷ text)

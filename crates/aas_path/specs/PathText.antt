@@ -3,7 +3,7 @@ use Rattle.std.specs.Prelude.{◌≡◌, ℕ, ◌<◌, ◌≤◌, List, [], ◌�
 use Rattle.std.specs.Str.{encode_utf8_all}
 use Rattle.aas_model.specs.declared.path.PathStep.{PathStep}
 use Rattle.aas_model.specs.declared.path.PathStep.TheVariants.{Name, Place}
-use Rattle.aas_trees.specs.PathRule.{KeepsRule}
+use Rattle.aas_path_trees.specs.PathRule.{KeepsRule}
 
 -- a step behind others: `.name` or `[n]`
 abbrev pub step_text : PathStep → List ℕ

@@ -5,9 +5,9 @@ use Rattle.aas_model.specs.declared.documents.Submodel.{Submodel}
 use Rattle.aas_model.specs.declared.element.Element.{Element}
 use Rattle.aas_model.specs.declared.path.Missing.{Missing}
 use Rattle.aas_model.specs.declared.path.PathStep.{PathStep}
-use Rattle.aas_trees.specs.Children.{role_of}
-use Rattle.aas_trees.specs.Edits.{fits_role, role_under}
-use Rattle.aas_trees.specs.ElementAt.{element_at, depth_found}
+use Rattle.aas_path_trees.specs.Children.{role_of}
+use Rattle.aas_path_trees.specs.Edits.{fits_role, role_under}
+use Rattle.aas_path_trees.specs.ElementAt.{element_at, depth_found}
 
 -- the path has steps and leads to no element, and m says how far it leads
 abbrev pub IsMissing : Submodel → List PathStep → Missing → Type 0

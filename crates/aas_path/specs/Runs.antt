@@ -1,6 +1,6 @@
 -- The bytes of a class at the front of a text.
 use Rattle.std.specs.Prelude.{◌≡◌, ℕ, ◌≤◌, Bool, true, false, List, [], ◌∷◌, length, take, drop}
-use Rattle.aas_forms.specs.Form.{any}
+use Rattle.aas_lexical_forms.specs.Form.{any}
 
 abbrev pub BeginsWith : (ℕ → Bool) → List ℕ → Type 0
 BeginsWith class [] = ⊥

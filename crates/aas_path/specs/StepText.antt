@@ -2,7 +2,7 @@
 use Rattle.std.specs.Prelude.{◌≡◌, ℕ, ◌+◌, ◌<◌, ◌≤◌, ◌^◌, ◌⊎◌, List, [], ◌∷◌, ◌++◌, length, take, slice_index, ◌==◌, if◌then◌else◌, decimal}
 use Rattle.aas_model.specs.declared.path.PathStep.{PathStep}
 use Rattle.aas_path.specs.PathText.{step_text}
-use Rattle.aas_trees.specs.PathRule.{StepKeepsRule}
+use Rattle.aas_path_trees.specs.PathRule.{StepKeepsRule}
 
 -- no further step or the `.` or `[` of one
 abbrev pub EndsStep : List ℕ → Type 0

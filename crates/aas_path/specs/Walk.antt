@@ -5,11 +5,11 @@ use Rattle.aas_model.specs.Payload.{kind_of}
 use Rattle.aas_model.specs.declared.element.Element.{Element}
 use Rattle.aas_model.specs.declared.patch.PatchRow.{PatchRow}
 use Rattle.aas_model.specs.declared.payload.Payload.{Payload}
-use Rattle.aas_names.specs.contracts.kind.Kind.{the_type}
-use Rattle.aas_names.specs.declared.kind.Kind.{Kind}
+use Rattle.aas_model_names.specs.contracts.kind.Kind.{the_type}
+use Rattle.aas_model_names.specs.declared.kind.Kind.{Kind}
 use Rattle.aas_path.specs.Gaps.{first_rank, gap, rises}
 use Rattle.aas_path.specs.declared.ahead.Ahead.{Ahead}
-use Rattle.aas_trees.specs.Patched.{RiseFrom, payload_at, patched, patched_all}
+use Rattle.aas_path_trees.specs.Patched.{RiseFrom, payload_at, patched, patched_all}
 
 -- the rows that are left, and how many elements come before that of the first of them
 pub record Left : Type 0 where

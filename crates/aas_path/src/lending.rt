@@ -1,10 +1,10 @@
 ghost use Rattle.std.specs.Prelude.{◌≡◌, ◌<◌, ◌*◌, ℕ, length, slice_get, slice_set, unwrap_or, Some, None, IfOk, IfErr, OnErr};
 ghost use Rattle.std.specs.Option.{option_copied_mut};
 ghost use Rattle.std.specs.Borrow.{Lends, LendsIf, LendsIfOk, sem};
-ghost use Rattle.aas_trees.specs.Children.{kids_of, with_kids};
-ghost use Rattle.aas_trees.specs.ElementAt.{place_of, element_among, element_at, depth_found};
-ghost use Rattle.aas_trees.specs.Lent.{element_type, kids_type, submodel_type};
-ghost use Rattle.aas_trees.specs.WithElement.{with_among, with_element};
+ghost use Rattle.aas_path_trees.specs.Children.{kids_of, with_kids};
+ghost use Rattle.aas_path_trees.specs.ElementAt.{place_of, element_among, element_at, depth_found};
+ghost use Rattle.aas_path_trees.specs.Lent.{element_type, kids_type, submodel_type};
+ghost use Rattle.aas_path_trees.specs.WithElement.{with_among, with_element};
 
 use crate::lookup::depth_among;
 use crate::steps::{is_list, place_of};

@@ -1,12 +1,12 @@
 ghost use Rattle.std.specs.Prelude.{◌≡◌, ◌<◌, ◌≤◌, ◌+◌, ◌^◌, length, Some, None, IfOk, IfErr, OnErr};
 ghost use Rattle.std.specs.Option.{option_copied};
-ghost use Rattle.aas_trees.specs.ElementAt.{element_among, depth_among, element_at, depth_found};
+ghost use Rattle.aas_path_trees.specs.ElementAt.{element_among, depth_among, element_at, depth_found};
 
 use crate::steps::{is_list, place_of};
 use aas_model::{Element, Many, Missing, Path, PathStep, Submodel};
 
 /// The element to which a step and then a path lead among the children of a list or of something else.
-#[tactic(auto, unfolding(aas_trees::specs::ElementAt::element_below, aas_trees::specs::ElementAt::child_by))]
+#[tactic(auto, unfolding(aas_path_trees::specs::ElementAt::element_below, aas_path_trees::specs::ElementAt::child_by))]
 fn element_among<'a>(
     kids: &'a Many<Element>,
     in_list: bool,
@@ -24,7 +24,7 @@ fn element_among<'a>(
 }
 
 /// How many of these steps lead to an element.
-#[tactic(auto, unfolding(aas_trees::specs::ElementAt::depth_below, aas_trees::specs::ElementAt::child_by))]
+#[tactic(auto, unfolding(aas_path_trees::specs::ElementAt::depth_below, aas_path_trees::specs::ElementAt::child_by))]
 pub(crate) fn depth_among(
     kids: &Many<Element>,
     in_list: bool,

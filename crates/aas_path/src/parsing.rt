@@ -3,11 +3,11 @@ ghost use Rattle.aas_model.specs.declared.path.PathStep.{PathStep};
 ghost use Rattle.aas_path.specs.ParseFaults.{IsStepFault, IsPathFault, behind};
 ghost use Rattle.aas_path.specs.PathText.{IsPath};
 ghost use Rattle.aas_path.specs.StepText.{EndsStep, IsPlace, IsStep, IsNoStep, most_digits};
-ghost use Rattle.aas_trees.specs.PathRule.{id_short};
+ghost use Rattle.aas_path_trees.specs.PathRule.{id_short};
 
 use crate::path_fault::PathFault;
 use crate::runs::{begins_with, run_len};
-use aas_forms::{Ascii, ByteClass, after_word};
+use aas_lexical_forms::{Ascii, ByteClass, after_word};
 use aas_model::{Many, NoMemory, Path, PathStep, Text};
 use std::alloc::Global;
 
@@ -16,7 +16,7 @@ use std::alloc::Global;
 struct NameCharacter;
 
 impl ByteClass for NameCharacter {
-    ghost use Rattle.aas_trees.specs.PathRule.{is_name_character};
+    ghost use Rattle.aas_path_trees.specs.PathRule.{is_name_character};
 
     ghost is_in = { λ _. is_name_character };
 

@@ -1,6 +1,6 @@
 ghost use Rattle.std.specs.Prelude.{◌≡◌, ◌+◌, ◌↔◌, drop, option_map, IsTrue};
 ghost use Rattle.aas_path.specs.Walk.{left_of, met, met_all, taken, Ends, Patches, PatchesAll};
-ghost use Rattle.aas_trees.specs.Patched.{Fits, kinds, kinds_of_all, patched, patched_submodel};
+ghost use Rattle.aas_path_trees.specs.Patched.{Fits, kinds, kinds_of_all, patched, patched_submodel};
 
 use crate::ahead::{Ahead, at_start, gap, rises, rows_from};
 use aas_model::{Element, Kind, Patch, PatchRow, Payload, Submodel};

@@ -1,13 +1,13 @@
 ghost use Rattle.std.specs.Prelude.{◌≡◌, ◌<◌, length, Some, None, IfOk, IfErr, OnOk, OnErr};
-ghost use Rattle.aas_trees.specs.ElementAt.{element_among, element_at, depth_found};
-ghost use Rattle.aas_trees.specs.Edits.{removed_among, removed};
+ghost use Rattle.aas_path_trees.specs.ElementAt.{element_among, element_at, depth_found};
+ghost use Rattle.aas_path_trees.specs.Edits.{removed_among, removed};
 
 use crate::lookup::depth_among;
 use crate::steps::{is_list, place_of};
 use aas_model::{Element, Many, Missing, Path, PathStep, Submodel};
 
 /// Takes the element out to which a step and then a path lead among the children of a list or of something else.
-#[tactic(auto, using(std::proofs::lemmas::Option::slice_get_past), unfolding(aas_trees::specs::ElementAt::element_below, aas_trees::specs::ElementAt::child_by, aas_trees::specs::Edits::removed_among))]
+#[tactic(auto, using(std::proofs::lemmas::Option::slice_get_past), unfolding(aas_path_trees::specs::ElementAt::element_below, aas_path_trees::specs::ElementAt::child_by, aas_path_trees::specs::Edits::removed_among))]
 fn remove_among(
     kids: &mut Many<Element>,
     in_list: bool,

@@ -1,7 +1,7 @@
 ghost use Rattle.std.specs.Prelude.{◌↔◌, IsTrue};
 ghost use Rattle.aas_path.specs.Runs.{BeginsWith, IsRun};
 
-use aas_forms::{ByteClass, after_any};
+use aas_lexical_forms::{ByteClass, after_any};
 
 /// Whether the text begins with a byte of the class.
 pub(crate) fn begins_with<C: ByteClass>(class: C, text: &[u8]) -> bool

@@ -1,6 +1,6 @@
 ghost use Rattle.std.specs.Prelude.{◌≡◌};
-ghost use Rattle.aas_trees.specs.Children.{is_list, id_short_of};
-ghost use Rattle.aas_trees.specs.ElementAt.{is_text, place_named, place_within, place_of};
+ghost use Rattle.aas_path_trees.specs.Children.{is_list, id_short_of};
+ghost use Rattle.aas_path_trees.specs.ElementAt.{is_text, place_named, place_within, place_of};
 
 use aas_model::{Element, PathStep, Payload, Text};
 
@@ -37,7 +37,7 @@ fn place_within(kids: &[Element], place: u64) -> Option<usize>
 }
 
 /// The place to which the step leads among the children of a list or of something else.
-#[tactic(auto, unfolding(aas_trees::specs::ElementAt::place_of))]
+#[tactic(auto, unfolding(aas_path_trees::specs::ElementAt::place_of))]
 pub(crate) fn place_of(in_list: bool, step: &PathStep, kids: &[Element]) -> Option<usize>
     ensures { result ≡ place_of in_list step.now kids.now }
 {

@@ -1,25 +1,25 @@
 -- What a value says as a key or as a reference is spelled by one.
 use Rattle.std.proofs.Common.{ℕ, List, ◌&&◌, true, Option, option_map, is_some, codes, refl, sym, ap, ◌∙◌}
 use Rattle.serde_json.specs.Data.{Data, object, Members}
-use Rattle.aas_names.specs.KeyTypeNames as key_type
-use Rattle.aas_names.specs.ReferenceTypeNames as reference_type
-use Rattle.aas_table.specs.Names.{key_types, reference_types}
-use Rattle.aas_table.specs.Table.{Sort, reference, key, Form, text, word, one, many, parts}
-use Rattle.aas_table.specs.Rows.{sorted}
-use Rattle.aas_table.specs.Plain.{plain, plain_member}
-use Rattle.aas_table.specs.Spelled.{attribute, text_of}
+use Rattle.aas_model_names.specs.KeyTypeNames as key_type
+use Rattle.aas_model_names.specs.ReferenceTypeNames as reference_type
+use Rattle.aas_json_table.specs.Names.{key_types, reference_types}
+use Rattle.aas_json_table.specs.Table.{Sort, reference, key, MemberType, text, word, one, many, parts}
+use Rattle.aas_json_table.specs.Rows.{sorted}
+use Rattle.aas_json_table.specs.Canonical.{canonical, canonical_member}
+use Rattle.aas_json_table.specs.Spelled.{attribute, text_of}
 use Rattle.aas_model.specs.declared.reference.Key.{Key}
 use Rattle.aas_model.specs.declared.reference.Reference.{Reference}
-use Rattle.aas_spelling.specs.Values.{IsText, HasTexts}
-use Rattle.aas_spelling.proofs.Rows.{and_left, and_right}
-use Rattle.aas_spelling.proofs.Objects.{same_members}
-use Rattle.aas_spelling.proofs.Exists.{IsSpelled, IsListed, IsWord, Kinds, IsTree, Gives, Object, there, named_there, as_itself, part_tree, tree}
+use Rattle.aas_json_spelling.specs.Values.{IsText, HasTexts}
+use Rattle.aas_json_spelling.proofs.Rows.{and_left, and_right}
+use Rattle.aas_json_spelling.proofs.Objects.{same_members}
+use Rattle.aas_json_spelling.proofs.Exists.{IsSpelled, IsListed, IsWord, Kinds, IsTree, Gives, Object, there, named_there, as_itself, part_tree, tree}
 use Rattle.aas_reference.specs.Spelling.{key_attributes, spell_key, spell_reference}
 use Rattle.aas_reference.proofs.Levels.{made, attributes_at, spell_at}
 
 -- ---- objects, of which it is known by what their attributes are spelled
 
-pub key_object : (g : List ℕ → Form → Option Data) → IsWord key_types (g (codes "type") (word key_types)) → IsSpelled text_of (g (codes "value") text) → Object spell_key (sorted (parts key)) g
+pub key_object : (g : List ℕ → MemberType → Option Data) → IsWord key_types (g (codes "type") (word key_types)) → IsSpelled text_of (g (codes "value") text) → Object spell_key (sorted (parts key)) g
 key_object g type value all =
     let type_there = and_left (is_some (g (codes "type") (word key_types))) (is_some (g (codes "value") text) && true) all in
     let value_there = and_left (is_some (g (codes "value") text)) true (and_right (is_some (g (codes "type") (word key_types))) (is_some (g (codes "value") text) && true) all) in
@@ -28,7 +28,7 @@ key_object g type value all =
     let k : Key = record { key_type = t.0; value = v.0 } in
     (k, ap object (same_members (sorted (parts key)) g (attribute (key_attributes k)) (t.1, (v.1, tt))))
 
-pub reference_object : (g : List ℕ → Form → Option Data) → IsListed spell_key (g (codes "keys") (many key)) → IsSpelled spell_reference (g (codes "referredSemanticId") (one reference))
+pub reference_object : (g : List ℕ → MemberType → Option Data) → IsListed spell_key (g (codes "keys") (many key)) → IsSpelled spell_reference (g (codes "referredSemanticId") (one reference))
     → IsWord reference_types (g (codes "type") (word reference_types)) → Object spell_reference (sorted (parts reference)) g
 reference_object g keys referred type all =
     let type_there = and_left (is_some (g (codes "type") (word reference_types))) true (and_right (is_some (g (codes "keys") (many key))) (is_some (g (codes "type") (word reference_types)) && true) all) in
@@ -54,12 +54,12 @@ spell s t = t
 abbrev kinds : Kinds
 kinds = record { Tree = Tree; spell = spell }
 
-builds : (s : Sort) (ms : Members) → HasTexts ms → Gives kinds (plain_member ms) → IsTree kinds (one s) (plain (one s) (object ms))
+builds : (s : Sort) (ms : Members) → HasTexts ms → Gives kinds (canonical_member ms) → IsTree kinds (one s) (canonical (one s) (object ms))
 builds reference ms u g = part_tree spell_reference reference ms refl
-    (reference_object (plain_member ms) (g (codes "keys") (many key)) (g (codes "referredSemanticId") (one reference)) (g (codes "type") (word reference_types)))
-builds key ms u g = part_tree spell_key key ms refl (key_object (plain_member ms) (g (codes "type") (word key_types)) (g (codes "value") text))
-builds s ms u g = as_itself (plain (one s) (object ms))
+    (reference_object (canonical_member ms) (g (codes "keys") (many key)) (g (codes "referredSemanticId") (one reference)) (g (codes "type") (word reference_types)))
+builds key ms u g = part_tree spell_key key ms refl (key_object (canonical_member ms) (g (codes "type") (word key_types)) (g (codes "value") text))
+builds s ms u g = as_itself (canonical (one s) (object ms))
 
 -- What a value of UTF-8 says is spelled by a reference.
-pub some_reference : (j : Data) → IsText j → IsSpelled spell_reference (plain (one reference) j)
+pub some_reference : (j : Data) → IsText j → IsSpelled spell_reference (canonical (one reference) j)
 some_reference j u = tree kinds builds j (one reference) u

@@ -2,13 +2,13 @@
 use Rattle.std.proofs.Common.{◌≡◌, nat_le, true, Option, Some, None, option_map, refl}
 use Rattle.std.proofs.lemmas.Bool.{leb-true, le-leb}
 use Rattle.serde_json.specs.Data.{Data}
-use Rattle.aas_table.specs.Table.{one, reference}
-use Rattle.aas_table.specs.TooDeep.{Levels}
-use Rattle.aas_table.specs.Plain.{plain}
+use Rattle.aas_json_table.specs.Table.{one, reference}
+use Rattle.aas_json_table.specs.TooDeep.{Levels}
+use Rattle.aas_json_table.specs.Canonical.{canonical}
 use Rattle.aas_model.specs.declared.reference.Reference.{Reference}
-use Rattle.aas_spelling.proofs.Rows.{and_left, and_right}
-use Rattle.aas_spelling.proofs.Exists.{IsSpelled}
-use Rattle.aas_spelling.proofs.Laws.{Laws}
+use Rattle.aas_json_spelling.proofs.Rows.{and_left, and_right}
+use Rattle.aas_json_spelling.proofs.Exists.{IsSpelled}
+use Rattle.aas_json_spelling.proofs.Laws.{Laws}
 use Rattle.aas_reference.specs.Spelling.{spell_reference}
 use Rattle.aas_reference.specs.Whole.{has_keys, reference_levels, is_whole}
 use Rattle.aas_reference.specs.Trees.{references}
@@ -40,5 +40,5 @@ laws = record {
   good = λ l r w. reference_good r l (fits_where_whole l r w);
   back = λ l r s g. whole_where_fits l r (said_whole r l (spell_reference r) g.low g.again);
   same = λ r s a b e. same_reference r s e;
-  found = λ j u. shaped (plain (one reference) j) (some_reference j u);
+  found = λ j u. shaped (canonical (one reference) j) (some_reference j u);
 }

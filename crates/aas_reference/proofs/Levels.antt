@@ -1,10 +1,10 @@
 -- References by levels: induction, and what is said of one level.
 use Rattle.std.proofs.Common.{◌≡◌, ℕ, suc, ◌≤◌, ◌&&◌, List, Bool, true, Option, Some, None, option_map, unwrap_or, subst}
 use Rattle.serde_json.specs.Data.{Data}
-use Rattle.aas_spelling.specs.Lists.{is_any}
-use Rattle.aas_table.specs.Table.{parts, reference}
-use Rattle.aas_table.specs.Spelled.{Attributes, spelled}
-use Rattle.aas_names.specs.declared.reference_type.ReferenceType.{ReferenceType}
+use Rattle.aas_json_spelling.specs.Lists.{is_any}
+use Rattle.aas_json_table.specs.Table.{parts, reference}
+use Rattle.aas_json_table.specs.Spelled.{Attributes, spelled}
+use Rattle.aas_model_names.specs.declared.reference_type.ReferenceType.{ReferenceType}
 use Rattle.aas_model.specs.declared.reference.Key.{Key}
 use Rattle.aas_model.specs.declared.reference.Reference.{Reference, out-Reference, roll-Reference, roll-out-Reference}
 use Rattle.aas_model.specs.declared.reference.Reference.TheFolds.{ind-Reference, fold-roll-Reference, map-Reference}

@@ -1,14 +1,14 @@
 -- What a reader of references answers.
 use Rattle.std.proofs.Common.{Result, Ok, Err}
 use Rattle.serde_json.specs.Data.{Data}
-use Rattle.aas_table.specs.Table.{reference}
-use Rattle.aas_table.specs.TooDeep.{Levels}
+use Rattle.aas_json_table.specs.Table.{reference}
+use Rattle.aas_json_table.specs.TooDeep.{Levels}
 use Rattle.aas_model.specs.declared.read_fault.ReadFault.{ReadFault}
 use Rattle.aas_model.specs.declared.read_fault.ReadFault.TheVariants.{NotJson, NotMapping, TooDeep, NoMemory}
 use Rattle.aas_model.specs.declared.reference.Reference.{Reference}
-use Rattle.aas_spelling.specs.Reads.{Reads, ReadsEach}
-use Rattle.aas_spelling.proofs.Laws.{reads_each}
-use Rattle.aas_members.specs.Said.{said}
+use Rattle.aas_json_spelling.specs.Reads.{Reads, ReadsEach}
+use Rattle.aas_json_spelling.proofs.Laws.{reads_each}
+use Rattle.aas_json_members.specs.Said.{said}
 use Rattle.aas_reference.specs.Spelling.{spell_reference}
 use Rattle.aas_reference.specs.Trees.{references}
 use Rattle.aas_reference.proofs.Facts.{AnyShape, laws, whole_where_fits}

@@ -3,12 +3,12 @@ use Rattle.std.proofs.Common.{◌≡◌, ℕ, ◌&&◌, List, [], ◌∷◌, len
 use Rattle.std.specs.Bool.{Decides}
 use Rattle.std.specs.List.{list_all, zip}
 use Rattle.std.proofs.lemmas.Slice.Eq.{bytes_eq-Decides}
-use Rattle.aas_names.specs.KeyTypeNames as key_type
-use Rattle.aas_names.specs.ReferenceTypeNames as reference_type
+use Rattle.aas_model_names.specs.KeyTypeNames as key_type
+use Rattle.aas_model_names.specs.ReferenceTypeNames as reference_type
 use Rattle.aas_model.specs.declared.reference.Key.{Key}
 use Rattle.aas_model.specs.declared.reference.Reference.{Reference, out-Reference}
-use Rattle.aas_spelling.proofs.Rows.{and_left, and_right}
-use Rattle.aas_spelling.proofs.Forms.{Found, same_named}
+use Rattle.aas_json_spelling.proofs.Rows.{and_left, and_right}
+use Rattle.aas_json_spelling.proofs.MemberTypes.{Found, same_named}
 use Rattle.aas_reference.specs.Same.{IsSame, same_key, same_keys, same}
 
 -- ---- keys in pairs

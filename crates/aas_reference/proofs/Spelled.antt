@@ -1,19 +1,19 @@
 -- What a whole reference spells is good, and is spelled from one reference.
 use Rattle.std.proofs.Common.{◌≡◌, ℕ, zero, suc, ◌≤◌, ◌&&◌, List, [], ◌∷◌, true, Option, Some, None, option_map, unwrap_or, refl, sym, ap, ◌∙◌, subst, true≢false, arith}
-use Rattle.aas_names.specs.KeyTypeNames as key_type
-use Rattle.aas_names.specs.ReferenceTypeNames as reference_type
-use Rattle.aas_names.specs.declared.reference_type.ReferenceType.{ReferenceType}
-use Rattle.aas_table.specs.Table.{one, parts, reference, key}
-use Rattle.aas_table.specs.Rows.{rows_of, sorted}
-use Rattle.aas_table.specs.TooDeep.{Levels}
-use Rattle.aas_table.specs.Spelled.{attribute, spelled}
+use Rattle.aas_model_names.specs.KeyTypeNames as key_type
+use Rattle.aas_model_names.specs.ReferenceTypeNames as reference_type
+use Rattle.aas_model_names.specs.declared.reference_type.ReferenceType.{ReferenceType}
+use Rattle.aas_json_table.specs.Table.{one, parts, reference, key}
+use Rattle.aas_json_table.specs.Rows.{rows_of, sorted}
+use Rattle.aas_json_table.specs.TooDeep.{Levels}
+use Rattle.aas_json_table.specs.Spelled.{attribute, spelled}
 use Rattle.aas_model.specs.declared.reference.Key.{Key}
 use Rattle.aas_model.specs.declared.reference.Reference.{Reference, out-Reference}
-use Rattle.aas_spelling.specs.Lists.{is_any}
-use Rattle.aas_spelling.specs.Good.{Good}
-use Rattle.aas_spelling.proofs.Objects.{object_good, same_attributes}
-use Rattle.aas_spelling.proofs.Lists.{each_of}
-use Rattle.aas_spelling.proofs.Forms.{none_good, text_good, named_good, list_good, same_texts, same_words, same_options, same_lists}
+use Rattle.aas_json_spelling.specs.Lists.{is_any}
+use Rattle.aas_json_spelling.specs.Good.{Good}
+use Rattle.aas_json_spelling.proofs.Objects.{object_good, same_attributes}
+use Rattle.aas_json_spelling.proofs.Lists.{each_of}
+use Rattle.aas_json_spelling.proofs.MemberTypes.{none_good, text_good, named_good, list_good, same_texts, same_words, same_options, same_lists}
 use Rattle.aas_reference.specs.Spelling.{key_attributes, spell_key, spell_reference}
 use Rattle.aas_reference.specs.Whole.{has_keys, reference_levels}
 use Rattle.aas_reference.proofs.Levels.{made, made_out, Within, by_levels, Fits, attributes_at, spell_at, keys_at, levels_at}
@@ -37,13 +37,13 @@ within_good l (Some r) h k n = h r refl l (k, n)
 level_good : (t : ReferenceType) (ks : List Key) (o : Option Reference) → Within IsGood o → (l : Levels) (n : ℕ) → is_any ks && unwrap_or (option_map has_keys o) true ≡ true
     → suc (unwrap_or (option_map reference_levels o) 0) ≤ n → Good (record l { references = n }) (one reference) (Some (spelled (parts reference) (attributes_at t ks (option_map spell_reference o))))
 unfolding rows_of
-level_good t [] o h l n any low = absurd (true≢false (sym any))
-level_good t (k ∷ ks) o h l zero any low = absurd (omega (arith, low))
-level_good t (k ∷ ks) o h l (suc n) any low =
+level_good t [] o h l n plain low = absurd (true≢false (sym plain))
+level_good t (k ∷ ks) o h l zero plain low = absurd (omega (arith, low))
+level_good t (k ∷ ks) o h l (suc n) plain low =
     let inner : Levels = record l { references = n } in
     object_good reference (record l { references = suc n }) inner (sorted (parts reference)) (attribute (attributes_at t (k ∷ ks) (option_map spell_reference o))) refl refl refl refl refl (
       list_good inner spell_key key (k ∷ ks) (each_of (λ x. Good inner (one key) (Some (spell_key x))) (key_good inner) (k ∷ ks)),
-      (within_good inner o h any (omega (arith, low)), (named_good inner reference_type.name_of reference_type.all reference_type.found t, tt)),
+      (within_good inner o h plain (omega (arith, low)), (named_good inner reference_type.name_of reference_type.all reference_type.found t, tt)),
     )
 
 -- What a whole reference spells is good, where there are levels for it.

@@ -1,24 +1,24 @@
 -- What a value says is whole, where nothing in it is too deep. The order of names in the value doesn't matter.
 use Rattle.std.proofs.Common.{◌≡◌, ℕ, zero, suc, ◌≤◌, ◌&&◌, List, [], ◌∷◌, Bool, true, Option, Some, None, option_map, unwrap_or, is_some, codes, refl, sym, ap, ◌∙◌, subst, arith}
 use Rattle.serde_json.specs.Data.{Data, null, boolean, number, string, array, object, Members}
-use Rattle.aas_names.specs.declared.reference_type.ReferenceType.{ReferenceType}
-use Rattle.aas_table.specs.Table.{one, many, word, parts, reference, key, optional}
-use Rattle.aas_table.specs.Names.{reference_types}
-use Rattle.aas_table.specs.Rows.{rows_of, sorted}
-use Rattle.aas_table.specs.TooDeep.{Levels, too_deep, too_deep_members, within, spend}
-use Rattle.aas_table.specs.Plain.{plain, plain_member}
-use Rattle.aas_table.specs.Spelled.{spelled, list_of}
+use Rattle.aas_model_names.specs.declared.reference_type.ReferenceType.{ReferenceType}
+use Rattle.aas_json_table.specs.Table.{one, many, word, parts, reference, key, optional}
+use Rattle.aas_json_table.specs.Names.{reference_types}
+use Rattle.aas_json_table.specs.Rows.{rows_of, sorted}
+use Rattle.aas_json_table.specs.TooDeep.{Levels, too_deep, too_deep_members, within, spend}
+use Rattle.aas_json_table.specs.Canonical.{canonical, canonical_member}
+use Rattle.aas_json_table.specs.Spelled.{spelled, list_of}
 use Rattle.aas_model.specs.declared.reference.Key.{Key}
 use Rattle.aas_model.specs.declared.reference.Reference.{Reference}
-use Rattle.aas_spelling.specs.Lists.{is_any}
-use Rattle.aas_spelling.proofs.Rows.{and_left}
+use Rattle.aas_json_spelling.specs.Lists.{is_any}
+use Rattle.aas_json_spelling.proofs.Rows.{and_left}
 use Rattle.aas_reference.specs.Spelling.{spell_key, spell_reference}
 use Rattle.aas_reference.specs.Whole.{has_keys, reference_levels}
 use Rattle.aas_reference.proofs.Levels.{made, Within, by_levels, Fits, attributes_at, spell_at, keys_at, levels_at}
 use Rattle.aas_reference.proofs.Said.{says, found, member_shallow}
 
 abbrev IsSaidWhole : Reference → Type 0
-IsSaidWhole r = (l : Levels) (j : Data) → too_deep (one reference) j l ≡ None → plain (one reference) j ≡ Some (spell_reference r) → Fits l.references r
+IsSaidWhole r = (l : Levels) (j : Data) → too_deep (one reference) j l ≡ None → canonical (one reference) j ≡ Some (spell_reference r) → Fits l.references r
 
 any_listed : (ks : List Key) → is_some (list_of spell_key ks) ≡ true → is_any ks ≡ true
 any_listed [] e = e
@@ -26,7 +26,7 @@ any_listed (k ∷ ks) e = refl
 
 -- the reference within
 within_whole : (o : Option Reference) → Within IsSaidWhole o → (l : Levels) (ms : Members) → too_deep_members ms (sorted (parts reference)) l ≡ None
-    → plain_member ms (codes "referredSemanticId") (one reference) ≡ option_map spell_reference o
+    → canonical_member ms (codes "referredSemanticId") (one reference) ≡ option_map spell_reference o
     → (unwrap_or (option_map has_keys o) true ≡ true) × (unwrap_or (option_map reference_levels o) 0 ≤ l.references)
 within_whole None h l ms low e = (refl, omega arith)
 within_whole (Some r) h l ms low e =
@@ -38,19 +38,19 @@ both a b e f = rw (e, f) refl
 
 level_whole : (t : ReferenceType) (ks : List Key) (o : Option Reference) → Within IsSaidWhole o → (l : Levels) (n : ℕ) (ms : Members)
     → within (option_map (λ k. record l { references = k }) (spend n)) (too_deep_members ms (sorted (parts reference))) ≡ None
-    → plain (one reference) (object ms) ≡ Some (spelled (parts reference) (attributes_at t ks (option_map spell_reference o)))
+    → canonical (one reference) (object ms) ≡ Some (spelled (parts reference) (attributes_at t ks (option_map spell_reference o)))
     → (is_any ks && unwrap_or (option_map has_keys o) true ≡ true) × (suc (unwrap_or (option_map reference_levels o) 0) ≤ n)
 unfolding rows_of
 level_whole t ks o h l zero ms low e = cc
 level_whole t ks o h l (suc n) ms low e =
     let said = says reference (parts reference) (attributes_at t ks (option_map spell_reference o)) ms refl refl e in
     let below = within_whole o h (record l { references = n }) ms low said.agree.1.0 in
-    let listed = and_left (is_some (plain_member ms (codes "keys") (many key))) (is_some (plain_member ms (codes "type") (word reference_types)) && true) said.there in
-    let any = any_listed ks (ap is_some (sym said.agree.0) ∙ listed) in
-    (both (is_any ks) _ any below.0, omega (arith, below.1))
+    let listed = and_left (is_some (canonical_member ms (codes "keys") (many key))) (is_some (canonical_member ms (codes "type") (word reference_types)) && true) said.there in
+    let plain = any_listed ks (ap is_some (sym said.agree.0) ∙ listed) in
+    (both (is_any ks) _ plain below.0, omega (arith, below.1))
 
 object_whole : (t : ReferenceType) (ks : List Key) (o : Option Reference) → Within IsSaidWhole o → (l : Levels) (ms : Members) → too_deep (one reference) (object ms) l ≡ None
-    → plain (one reference) (object ms) ≡ Some (spell_reference (made t ks o)) → Fits l.references (made t ks o)
+    → canonical (one reference) (object ms) ≡ Some (spell_reference (made t ks o)) → Fits l.references (made t ks o)
 unfolding rows_of
 object_whole t ks o h l ms low e =
     let level = level_whole t ks o h l l.references ms low (e ∙ ap Some (spell_at t ks o)) in

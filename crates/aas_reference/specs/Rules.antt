@@ -2,13 +2,13 @@
 -- A reference within another, its referredSemanticId, keeps them too.
 use Rattle.std.specs.Prelude.{ℕ, ◌&&◌, ◌||◌, not, nat_le, Bool, true, false, List, [], ◌∷◌, length, map, filter, Option, Some, None, unwrap_or}
 use Rattle.std.specs.List.{list_all}
-use Rattle.aas_names.specs.ElementNameNames as element_name
-use Rattle.aas_names.specs.KeyTypeNames as key_type
-use Rattle.aas_names.specs.declared.key_type.KeyType.{KeyType}
-use Rattle.aas_names.specs.declared.key_type.KeyType.TheVariants as k
-use Rattle.aas_names.specs.declared.reference_type.ReferenceType.{ReferenceType}
-use Rattle.aas_names.specs.declared.reference_type.ReferenceType.TheVariants as r
-use Rattle.aas_table.specs.Names.{has}
+use Rattle.aas_model_names.specs.ElementNameNames as element_name
+use Rattle.aas_model_names.specs.KeyTypeNames as key_type
+use Rattle.aas_model_names.specs.declared.key_type.KeyType.{KeyType}
+use Rattle.aas_model_names.specs.declared.key_type.KeyType.TheVariants as k
+use Rattle.aas_model_names.specs.declared.reference_type.ReferenceType.{ReferenceType}
+use Rattle.aas_model_names.specs.declared.reference_type.ReferenceType.TheVariants as r
+use Rattle.aas_json_table.specs.Names.{has}
 use Rattle.aas_model.specs.declared.reference.Key.{Key}
 use Rattle.aas_model.specs.declared.reference.Reference.{Reference, fold-Reference}
 

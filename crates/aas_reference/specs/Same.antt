@@ -1,7 +1,7 @@
 -- Sameness of references: equal reference type and equal key lists; referredSemanticId isn't compared. This profile's own rule.
 use Rattle.std.specs.Prelude.{◌≡◌, ◌&&◌, Bool, true, false, List, [], ◌∷◌, bytes_eq}
-use Rattle.aas_names.specs.KeyTypeNames as key_type
-use Rattle.aas_names.specs.ReferenceTypeNames as reference_type
+use Rattle.aas_model_names.specs.KeyTypeNames as key_type
+use Rattle.aas_model_names.specs.ReferenceTypeNames as reference_type
 use Rattle.aas_model.specs.declared.reference.Key.{Key}
 use Rattle.aas_model.specs.declared.reference.Reference.{Reference, out-Reference}
 

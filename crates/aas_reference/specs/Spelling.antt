@@ -1,10 +1,10 @@
 -- How references are spelled in JSON (IDTA-01001-3-0, classes Reference and Key).
 use Rattle.std.specs.Prelude.{[], ◌∷◌, codes, Some}
 use Rattle.serde_json.specs.Data.{Data, string}
-use Rattle.aas_names.specs.KeyTypeNames as key_type
-use Rattle.aas_names.specs.ReferenceTypeNames as reference_type
-use Rattle.aas_table.specs.Table.{parts, reference, key}
-use Rattle.aas_table.specs.Spelled.{Attributes, spelled, text_of, list_of}
+use Rattle.aas_model_names.specs.KeyTypeNames as key_type
+use Rattle.aas_model_names.specs.ReferenceTypeNames as reference_type
+use Rattle.aas_json_table.specs.Table.{parts, reference, key}
+use Rattle.aas_json_table.specs.Spelled.{Attributes, spelled, text_of, list_of}
 use Rattle.aas_model.specs.declared.reference.Key.{Key}
 use Rattle.aas_model.specs.declared.reference.Reference.{Reference, fold-Reference}
 use Rattle.aas_model.specs.declared.reference.Reference.TheOpen.{Reference-F}

@@ -1,7 +1,7 @@
 -- Whole references: the reference and those within it have keys, and no more stand in one another than levels are left. The limit is this profile's own rule.
 use Rattle.std.specs.Prelude.{ℕ, suc, ◌&&◌, nat_le, Bool, true, false, Option, Some, None, unwrap_or}
-use Rattle.aas_table.specs.TooDeep.{Levels}
-use Rattle.aas_spelling.specs.Lists.{is_any}
+use Rattle.aas_json_table.specs.TooDeep.{Levels}
+use Rattle.aas_json_spelling.specs.Lists.{is_any}
 use Rattle.aas_model.specs.declared.reference.Reference.{Reference, fold-Reference}
 
 -- the reference and those within it have keys

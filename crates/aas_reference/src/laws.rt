@@ -2,12 +2,12 @@
 
 ghost use Rattle.std.specs.Prelude.{◌≡◌, Some, None, true};
 ghost use Rattle.serde_json.specs.Data.{Data};
-ghost use Rattle.aas_table.specs.Misfit.{misfit};
-ghost use Rattle.aas_table.specs.Plain.{plain};
-ghost use Rattle.aas_table.specs.Table.{one, reference};
-ghost use Rattle.aas_table.specs.TooDeep.{Levels, too_deep};
+ghost use Rattle.aas_json_table.specs.Misfit.{misfit};
+ghost use Rattle.aas_json_table.specs.Canonical.{canonical};
+ghost use Rattle.aas_json_table.specs.Table.{one, reference};
+ghost use Rattle.aas_json_table.specs.TooDeep.{Levels, too_deep};
 ghost use Rattle.aas_model.specs.declared.reference.Reference.{Reference};
-ghost use Rattle.aas_spelling.specs.Spells.{Spells, ExactlyOne};
+ghost use Rattle.aas_json_spelling.specs.Spells.{Spells, ExactlyOne};
 ghost use Rattle.aas_reference.specs.Spelling.{spell_reference};
 ghost use Rattle.aas_reference.specs.Trees.{references};
 ghost use Rattle.aas_reference.specs.Whole.{is_whole};
@@ -26,7 +26,7 @@ pub fn references_are_said_once()
 /// What a value says is whole, where nothing in the value is too deep.
 pub fn references_that_are_said_are_whole()
     ensures { (left : Levels) (j : Data) (r : Reference) → too_deep (one reference) j left ≡ None →
-        plain (one reference) j ≡ Some (spell_reference r) → is_whole left r ≡ true }
+        canonical (one reference) j ≡ Some (spell_reference r) → is_whole left r ≡ true }
 {}
 
 /// Each value spells one reference, has a mapping fault, or has none and lies too deep.

@@ -1,19 +1,19 @@
 ghost use Rattle.std.specs.Prelude.{◌≡◌, IfOk, Some, codes, is_some, option_map};
 ghost use Rattle.serde_json.specs.View.{view, members_view};
-ghost use Rattle.aas_table.specs.Plain.{plain, plain_member, plain_object};
-ghost use Rattle.aas_table.specs.Rows.{sorted};
-ghost use Rattle.aas_table.specs.Spelled.{list_of};
-ghost use Rattle.aas_table.specs.Table.{one, parts, key, reference};
-ghost use Rattle.aas_table.specs.TooDeep.{limits};
-ghost use Rattle.aas_spelling.specs.Reads.{Reads, ReadsEach};
+ghost use Rattle.aas_json_table.specs.Canonical.{canonical, canonical_member, canonical_object};
+ghost use Rattle.aas_json_table.specs.Rows.{sorted};
+ghost use Rattle.aas_json_table.specs.Spelled.{list_of};
+ghost use Rattle.aas_json_table.specs.Table.{one, parts, key, reference};
+ghost use Rattle.aas_json_table.specs.TooDeep.{limits};
+ghost use Rattle.aas_json_spelling.specs.Reads.{Reads, ReadsEach};
 ghost use Rattle.aas_reference.specs.Spelling.{spell_key, spell_reference};
 ghost use Rattle.aas_reference.specs.Trees.{references};
 
 use crate::sorts::{Keys, References};
-use aas_members::{Part, list_member, member, read_part, string_member, word_member};
+use aas_json_members::{Part, list_member, member, read_part, string_member, word_member};
 use aas_model::{Boxed, Key, Many, NoMemory, ReadFault, Reference};
-use aas_table::table::Sort;
-use aas_table::too_deep::Levels;
+use aas_json_table::table::Sort;
+use aas_json_table::too_deep::Levels;
 use serde_json::{Map, Value};
 use std::alloc::Global;
 
@@ -34,7 +34,7 @@ impl Part for Keys {
 
     ghost spell = { spell_key };
 
-    #[tactic(auto, unfolding(aas_table::specs::Rows::rows_of))]
+    #[tactic(auto, unfolding(aas_json_table::specs::Rows::rows_of))]
     fn tree(alloc: Global, value: &Value) -> Result<Option<Key>, NoMemory> {
         match value {
             Value::Object(members) => Ok(key_in(alloc, members)?),
@@ -56,7 +56,7 @@ impl Part for References {
 }
 
 fn key_in(alloc: Global, members: &Map<String, Value>) -> Result<Option<Key>, NoMemory>
-    ensures { IfOk result (λ found. option_map spell_key found ≡ plain_object (Some (sorted (parts key))) (plain_member (members_view members.now.entries))) }
+    ensures { IfOk result (λ found. option_map spell_key found ≡ canonical_object (Some (sorted (parts key))) (canonical_member (members_view members.now.entries))) }
 {
     let Some(key_type) = word_member(members, "type") else {
         return Ok(None);
@@ -68,9 +68,9 @@ fn key_in(alloc: Global, members: &Map<String, Value>) -> Result<Option<Key>, No
 }
 
 #[cycle(reference)]
-#[tactic(auto, unfolding(aas_table::specs::Rows::rows_of))]
+#[tactic(auto, unfolding(aas_json_table::specs::Rows::rows_of))]
 fn reference_of(alloc: Global, value: &Value) -> Result<Option<Reference>, NoMemory>
-    ensures { IfOk result (λ found. option_map spell_reference found ≡ plain (one reference) (view value.now)) }
+    ensures { IfOk result (λ found. option_map spell_reference found ≡ canonical (one reference) (view value.now)) }
 {
     match value {
         Value::Object(members) => Ok(reference_in(alloc, members)?),
@@ -80,7 +80,7 @@ fn reference_of(alloc: Global, value: &Value) -> Result<Option<Reference>, NoMem
 
 #[cycle(reference)]
 fn reference_in(alloc: Global, members: &Map<String, Value>) -> Result<Option<Reference>, NoMemory>
-    ensures { IfOk result (λ found. option_map spell_reference found ≡ plain_object (Some (sorted (parts reference))) (plain_member (members_view members.now.entries))) }
+    ensures { IfOk result (λ found. option_map spell_reference found ≡ canonical_object (Some (sorted (parts reference))) (canonical_member (members_view members.now.entries))) }
 {
     let keys = list_member::<Keys>(alloc, members, "keys")?;
     if !has_any(&keys) {
@@ -102,7 +102,7 @@ fn referred_member(
     alloc: Global,
     members: &Map<String, Value>,
 ) -> Result<Option<Boxed<Reference>>, NoMemory>
-    ensures { IfOk result (λ found. option_map spell_reference found ≡ plain_member (members_view members.now.entries) (codes "referredSemanticId") (one reference)) }
+    ensures { IfOk result (λ found. option_map spell_reference found ≡ canonical_member (members_view members.now.entries) (codes "referredSemanticId") (one reference)) }
 {
     let Some(inner) = member(members, "referredSemanticId") else {
         return Ok(None);
@@ -113,7 +113,7 @@ fn referred_member(
     }
 }
 
-#[tactic(auto, using(aas_members::proofs::Lists::is_some_list))]
+#[tactic(auto, using(aas_json_members::proofs::Lists::is_some_list))]
 fn has_any(keys: &Many<Key>) -> bool
     ensures { result ≡ is_some (list_of spell_key keys.now) }
 {

@@ -1,10 +1,10 @@
 ghost use Rattle.std.specs.Prelude.{◌≡◌, ◌++◌, IfOk, OnOk, OnErr, option_map};
 ghost use Rattle.serde_json.specs.Written.{compact_text};
-ghost use Rattle.aas_members.specs.Exact.{data_of};
+ghost use Rattle.aas_json_members.specs.Exact.{data_of};
 ghost use Rattle.aas_reference.specs.Spelling.{spell_key, spell_reference};
 
 use crate::sorts::{Keys, References};
-use aas_members::{Exact, Object, Written, list_value, text_value, word_value};
+use aas_json_members::{Exact, Object, Written, list_value, text_value, word_value};
 use aas_model::{Boxed, Key, NoMemory, Reference};
 use std::alloc::Global;
 

@@ -7,15 +7,15 @@ use Rattle.serde_json.specs.Data.{Data}
 use Rattle.aas_model.specs.declared.element.Element.{Element}
 use Rattle.aas_model.specs.declared.read_fault.ReadFault.{ReadFault}
 use Rattle.aas_model.specs.declared.read_fault.ReadFault.TheVariants.{NotJson, NotMapping, TooDeep, NoMemory}
-use Rattle.aas_table.specs.Misfit.{misfit}
-use Rattle.aas_table.specs.Pointer.{pointer_text}
-use Rattle.aas_table.specs.Rows.{Pointer}
-use Rattle.aas_table.specs.Table.{one, element}
-use Rattle.aas_table.specs.TooDeep.{limits, too_deep}
-use Rattle.aas_spelling.specs.Reading.{reading}
-use Rattle.aas_spelling.specs.Reads.{ReadsIf, ReadsBytes}
-use Rattle.aas_spelling.specs.Spells.{Spells}
-use Rattle.aas_mapping.specs.Trees.{elements}
+use Rattle.aas_json_table.specs.Misfit.{misfit}
+use Rattle.aas_json_table.specs.Pointer.{pointer_text}
+use Rattle.aas_json_table.specs.Rows.{Pointer}
+use Rattle.aas_json_table.specs.Table.{one, element}
+use Rattle.aas_json_table.specs.TooDeep.{limits, too_deep}
+use Rattle.aas_json_spelling.specs.Reading.{reading}
+use Rattle.aas_json_spelling.specs.Reads.{ReadsIf, ReadsBytes}
+use Rattle.aas_json_spelling.specs.Spells.{Spells}
+use Rattle.aas_json_mapping.specs.Trees.{elements}
 use Rattle.aas_server.specs.declared.answered.Answered.{Answered}
 use Rattle.aas_server.specs.Answer.{Answer, refused, answer_of}
 use Rattle.aas_server.specs.Console.{input_limit}

@@ -2,19 +2,19 @@
 use Rattle.std.specs.Prelude.{◌≡◌, ◌⊎◌, ◌==◌, ℕ, nat_lt, List, ◌++◌, length, codes, decimal, Option, Some, None, MatchBool, if◌then◌else◌}
 use Rattle.serde_json.specs.Data.{Data}
 use Rattle.serde_json.specs.Written.{compact_text}
-use Rattle.aas_names.specs.declared.modifiers.Extent.TheVariants.{WithBlobValue}
+use Rattle.aas_model_names.specs.declared.modifiers.Extent.TheVariants.{WithBlobValue}
 use Rattle.aas_model.specs.declared.element.Element.{Element}
 use Rattle.aas_model.specs.declared.path.Fault.{Fault}
-use Rattle.aas_table.specs.Misfit.{misfit}
-use Rattle.aas_table.specs.Pointer.{pointer_text}
-use Rattle.aas_table.specs.Rows.{Pointer}
-use Rattle.aas_table.specs.Table.{one, element}
-use Rattle.aas_table.specs.TooDeep.{limits, too_deep}
-use Rattle.aas_spelling.specs.Reading.{reading}
-use Rattle.aas_spelling.specs.Spells.{Spells}
-use Rattle.aas_mapping.specs.Trees.{elements}
+use Rattle.aas_json_table.specs.Misfit.{misfit}
+use Rattle.aas_json_table.specs.Pointer.{pointer_text}
+use Rattle.aas_json_table.specs.Rows.{Pointer}
+use Rattle.aas_json_table.specs.Table.{one, element}
+use Rattle.aas_json_table.specs.TooDeep.{limits, too_deep}
+use Rattle.aas_json_spelling.specs.Reading.{reading}
+use Rattle.aas_json_spelling.specs.Spells.{Spells}
+use Rattle.aas_json_mapping.specs.Trees.{elements}
 use Rattle.aas_path.specs.PathText.{fault_path_text}
-use Rattle.aas_rules.specs.Faults.{element_faults, first}
+use Rattle.aas_constraint_rules.specs.Faults.{element_faults, first}
 use Rattle.aas_value.specs.ValueForm.{value_form}
 use Rattle.aas_server.specs.Answer.{Answer, done, refused}
 use Rattle.aas_server.specs.Console.{input_limit}

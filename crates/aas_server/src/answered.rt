@@ -2,7 +2,7 @@
 ghost use Rattle.std.specs.Prelude.{◌≡◌, IfOk};
 ghost use Rattle.aas_server.specs.Answer.{refused, answer_of};
 
-use aas_text::NoMemory;
+use aas_model_text::NoMemory;
 use itoa::Buffer;
 use std::alloc::Global;
 

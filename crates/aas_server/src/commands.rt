@@ -13,7 +13,7 @@ use crate::console::{InputFault, end_with, read_input};
 use crate::status::Status;
 use crate::value::answer_value;
 use aas_outside::Link;
-use aas_text::{Many, Text, same_text};
+use aas_model_text::{Many, Text, same_text};
 use std::alloc::Global;
 
 /// Does what the words ask for on this console, and answers the exit status of the program.

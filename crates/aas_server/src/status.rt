@@ -1,6 +1,6 @@
 ghost use Rattle.std.specs.Prelude.{◌≡◌};
 
-use aas_text::NoMemory;
+use aas_model_text::NoMemory;
 
 /// How a run ends.
 #[derive(Clone, Copy)]

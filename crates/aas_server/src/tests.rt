@@ -1,7 +1,7 @@
 // The commands over a link in memory.
 use crate::run;
 use aas_outside::MemLink;
-use aas_text::{Many, Text};
+use aas_model_text::{Many, Text};
 use std::alloc::Global;
 use std::test::Fail;
 

@@ -2,7 +2,7 @@
 ghost use Rattle.std.specs.Prelude.{◌≡◌, ◌≤◌, ◌++◌, length, codes, IfOk};
 ghost use Rattle.std.specs.Str.{encode_utf8_all};
 ghost use Rattle.serde_json.specs.Written.{compact_text};
-ghost use Rattle.aas_members.specs.Exact.{data_of};
+ghost use Rattle.aas_json_members.specs.Exact.{data_of};
 ghost use Rattle.aas_server.specs.Console.{input_limit};
 ghost use Rattle.aas_server.specs.Answer.{done, refused, answer_of};
 ghost use Rattle.aas_server.specs.ValueAnswer.{constraint_name, fault_answer, element_answer, IsValueAnswer};
@@ -10,10 +10,10 @@ ghost use Rattle.aas_server.specs.ValueAnswer.{constraint_name, fault_answer, el
 use crate::answered::{Answered, refusal};
 use aas_constraints::check_element;
 use aas_json_read::read_element;
-use aas_members::Exact;
+use aas_json_members::Exact;
 use aas_model::{Element, Extent, Fault, ReadFault};
 use aas_path::print_fault_path;
-use aas_text::{NoMemory, Text};
+use aas_model_text::{NoMemory, Text};
 use aas_value::element_value;
 use itoa::Buffer;
 use std::alloc::Global;

@@ -1,6 +1,6 @@
 -- The value form of an element, by its children's.
 use Rattle.std.proofs.Common.{◌≡◌, List, [], ◌∷◌, ◌++◌, map, ap, append_assoc}
-use Rattle.aas_names.specs.declared.modifiers.Extent.{Extent}
+use Rattle.aas_model_names.specs.declared.modifiers.Extent.{Extent}
 use Rattle.aas_model.specs.declared.element.Element.{Element, out-Element}
 use Rattle.aas_model.specs.declared.element.Element.TheFolds.{fold_out-Element}
 use Rattle.aas_value.specs.ValueForm.{Child, as_child, child_of, value_form, value_over}

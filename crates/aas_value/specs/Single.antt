@@ -4,11 +4,11 @@ use Rattle.std.specs.Prelude.{ℕ, List, Option, Some, None}
 use Rattle.std.specs.Str.{encode_utf8_all}
 use Rattle.serde_json.specs.Data.{Data, null, boolean, number}
 use Rattle.serde_json.specs.Find.{of_integer}
-use Rattle.aas_names.specs.declared.value_type.ValueType.{ValueType}
+use Rattle.aas_model_names.specs.declared.value_type.ValueType.{ValueType}
 use Rattle.aas_lexical.specs.declared.natives.Native.{Native}
 use Rattle.aas_lexical.specs.declared.natives.Native.TheVariants as native
 use Rattle.aas_lexical.specs.Natives.{native_of}
-use Rattle.aas_table.specs.Spelled.{text_of}
+use Rattle.aas_json_table.specs.Spelled.{text_of}
 
 abbrev pub native_or_text : Option Native → List ℕ → Data
 native_or_text (Some (native.Bool b)) s = boolean b

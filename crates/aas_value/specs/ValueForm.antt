@@ -4,14 +4,14 @@ use Rattle.std.specs.Prelude.{ℕ, List, [], ◌∷◌, codes, map, Option, Some
 use Rattle.std.specs.Str.{encode_utf8_all}
 use Rattle.std.specs.List.{filter_map}
 use Rattle.serde_json.specs.Data.{Data, null, string, array, object, no_items, Members, no_members, member, put}
-use Rattle.aas_names.specs.EntityTypeNames as entity_type
-use Rattle.aas_table.specs.Spelled.{text_of, onto}
+use Rattle.aas_model_names.specs.EntityTypeNames as entity_type
+use Rattle.aas_json_table.specs.Spelled.{text_of, onto}
 use Rattle.aas_reference.specs.Spelling.{spell_reference}
-use Rattle.aas_mapping.specs.Parts.{spell_specific_asset_id}
+use Rattle.aas_json_mapping.specs.Parts.{spell_specific_asset_id}
 use Rattle.aas_value.specs.Single.{single}
-use Rattle.aas_names.specs.declared.entity_type.EntityType.{EntityType}
-use Rattle.aas_names.specs.declared.modifiers.Extent.{Extent}
-use Rattle.aas_names.specs.declared.modifiers.Extent.TheVariants as extent
+use Rattle.aas_model_names.specs.declared.entity_type.EntityType.{EntityType}
+use Rattle.aas_model_names.specs.declared.modifiers.Extent.{Extent}
+use Rattle.aas_model_names.specs.declared.modifiers.Extent.TheVariants as extent
 use Rattle.aas_model.specs.declared.parts.LangText.{LangText}
 use Rattle.aas_model.specs.declared.reference.Reference.{Reference}
 use Rattle.aas_model.specs.declared.element.Element.{Element, fold-Element}

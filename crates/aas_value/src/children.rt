@@ -1,12 +1,12 @@
 ghost use Rattle.std.specs.Prelude.{◌≡◌, ◌++◌, List, OnOk, option_map};
 ghost use Rattle.std.specs.List.{cons_option};
 ghost use Rattle.serde_json.specs.Data.{Data};
-ghost use Rattle.aas_members.specs.Array.{items_of};
-ghost use Rattle.aas_members.specs.Exact.{data_of};
-ghost use Rattle.aas_members.specs.Object.{members_of};
+ghost use Rattle.aas_json_members.specs.Array.{items_of};
+ghost use Rattle.aas_json_members.specs.Exact.{data_of};
+ghost use Rattle.aas_json_members.specs.Object.{members_of};
 ghost use Rattle.aas_value.specs.ValueForm.{put_child};
 
-use aas_members::{Array, Exact, Object};
+use aas_json_members::{Array, Exact, Object};
 use aas_model::{NoMemory, Text};
 use std::alloc::Global;
 

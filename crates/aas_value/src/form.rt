@@ -1,8 +1,8 @@
 ghost use Rattle.std.specs.Prelude.{◌≡◌, false, map, IfOk, IfSome, option_map};
 ghost use Rattle.serde_json.specs.View.{view};
 ghost use Rattle.serde_json.specs.Written.{has_float};
-ghost use Rattle.aas_members.specs.Exact.{data_of};
-ghost use Rattle.aas_names.specs.declared.modifiers.Extent.{Extent};
+ghost use Rattle.aas_json_members.specs.Exact.{data_of};
+ghost use Rattle.aas_model_names.specs.declared.modifiers.Extent.{Extent};
 ghost use Rattle.aas_model.specs.declared.element.Element.{out-Element};
 ghost use Rattle.aas_value.specs.ValueForm.{child_of, value_form, submodel_value, named, in_order, annotation_value};
 
@@ -12,7 +12,7 @@ use crate::kinds::{
     range_value, reference_or_null, relationship_value,
 };
 use crate::single::single_value;
-use aas_members::{Array, Exact, Object};
+use aas_json_members::{Array, Exact, Object};
 use aas_model::{Element, Extent, Many, NoMemory, Payload, Submodel};
 use serde_json::Value;
 use std::alloc::Global;

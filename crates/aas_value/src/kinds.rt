@@ -1,15 +1,15 @@
 ghost use Rattle.std.specs.Prelude.{◌≡◌, [], ◌∷◌, codes, map, IfOk};
 ghost use Rattle.serde_json.specs.Data.{object, member, no_members};
-ghost use Rattle.aas_members.specs.Array.{items_of};
-ghost use Rattle.aas_members.specs.Exact.{data_of};
-ghost use Rattle.aas_mapping.specs.Parts.{spell_specific_asset_id};
-ghost use Rattle.aas_names.specs.declared.modifiers.Extent.{Extent};
+ghost use Rattle.aas_json_members.specs.Array.{items_of};
+ghost use Rattle.aas_json_members.specs.Exact.{data_of};
+ghost use Rattle.aas_json_mapping.specs.Parts.{spell_specific_asset_id};
+ghost use Rattle.aas_model_names.specs.declared.modifiers.Extent.{Extent};
 ghost use Rattle.aas_value.specs.Single.{single};
 ghost use Rattle.aas_value.specs.ValueForm.{array_of, text_or_null, reference_or_null, entity_type_or_null, language_value, blob_value};
 
 use crate::single::single_value;
 use aas_json_write::SpecificAssetIds;
-use aas_members::{Array, Exact, Object, Written, text_value, word_value};
+use aas_json_members::{Array, Exact, Object, Written, text_value, word_value};
 use aas_model::{
     EntityType, Extent, LangText, Many, NoMemory, Reference, SpecificAssetId, Text, ValueType,
 };

@@ -1,12 +1,12 @@
 ghost use Rattle.std.specs.Prelude.{◌≡◌, IfOk};
-ghost use Rattle.aas_members.specs.Exact.{data_of};
+ghost use Rattle.aas_json_members.specs.Exact.{data_of};
 ghost use Rattle.serde_json.specs.Data as Data;
 ghost use Rattle.serde_json.specs.Find.{of_integer};
 ghost use Rattle.aas_lexical.specs.Natives.{IsWritten};
 ghost use Rattle.aas_value.specs.Single.{single, native_or_text};
 
 use aas_lexical::{Native, native};
-use aas_members::{Exact, flag_value, text_value};
+use aas_json_members::{Exact, flag_value, text_value};
 use aas_model::{NoMemory, Text, ValueType};
 use serde_json::{Number, Value};
 use std::alloc::Global;

@@ -4,7 +4,7 @@
 mod console;
 
 use aas_server::{Status, run};
-use aas_text::{Many, NoMemory, Text};
+use aas_model_text::{Many, NoMemory, Text};
 use console::ConsoleLink;
 use std::env;
 use std::io::ErrorKind;

@@ -1,10 +1,10 @@
 use Rattle.std.proofs.Common.{◌-◌, subst}
-use Rattle.aas_table.specs.TooDeep.{limits}
-use Rattle.aas_spelling.specs.Reads.{ReadsBytes}
-use Rattle.aas_spelling.proofs.Laws.{reads_each_of_bytes}
-use Rattle.aas_mapping.specs.Shape.{IsShaped}
-use Rattle.aas_mapping.specs.Trees.{elements}
-use Rattle.aas_mapping.proofs.ElementsLaws.{elements_laws}
+use Rattle.aas_json_table.specs.TooDeep.{limits}
+use Rattle.aas_json_spelling.specs.Reads.{ReadsBytes}
+use Rattle.aas_json_spelling.proofs.Laws.{reads_each_of_bytes}
+use Rattle.aas_json_mapping.specs.Shape.{IsShaped}
+use Rattle.aas_json_mapping.specs.Trees.{elements}
+use Rattle.aas_json_mapping.proofs.ElementsLaws.{elements_laws}
 use Rattle.aas_json_read.specs.Shaped.{shaped}
 use Rattle.aas_json_read.proofs.Reading.{reads_whole}
 use Rattle.aas_json_read.proofs.read_element.Goals as goal

@@ -1,8 +1,8 @@
-use Rattle.aas_table.specs.TooDeep.{limits}
-use Rattle.aas_mapping.specs.Trees.{environments}
-use Rattle.aas_mapping.specs.Shape.{IsShapedEnvironment}
-use Rattle.aas_mapping.proofs.DocumentsLaws.{environments_laws}
-use Rattle.aas_spelling.proofs.Laws.{reads_each_of_bytes}
+use Rattle.aas_json_table.specs.TooDeep.{limits}
+use Rattle.aas_json_mapping.specs.Trees.{environments}
+use Rattle.aas_json_mapping.specs.Shape.{IsShapedEnvironment}
+use Rattle.aas_json_mapping.proofs.DocumentsLaws.{environments_laws}
+use Rattle.aas_json_spelling.proofs.Laws.{reads_each_of_bytes}
 use Rattle.aas_json_read.proofs.Reading.{reads_whole}
 use Rattle.aas_json_read.proofs.read_environment.Goals as goal
 

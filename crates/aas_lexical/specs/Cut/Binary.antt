@@ -1,6 +1,6 @@
 -- What is cut for a binary text.
 use Rattle.std.specs.Prelude.{ℕ, Bool, List, Option}
-use Rattle.aas_forms.specs.Cut.{after_lit, after_one, cut_all, cut_then, cut_maybe, cut_either, cut_many}
+use Rattle.aas_lexical_forms.specs.Cut.{after_lit, after_one, cut_all, cut_then, cut_maybe, cut_either, cut_many}
 use Rattle.aas_lexical.specs.Binary.{is_symbol, is_symbol_of_four_bits, is_symbol_of_two_bits}
 use Rattle.aas_lexical.specs.declared.binary.Base64Byte.{Base64Byte}
 use Rattle.aas_lexical.specs.declared.binary.Base64Byte.TheVariants.{SixBits, FourBits, TwoBits}

@@ -1,7 +1,7 @@
 -- What is cut for a day.
 use Rattle.std.specs.Prelude.{ℕ, ◌==◌, ◌&&◌, ◌||◌, nat_le, Bool, List, Option, pos}
 use Rattle.jiff.specs.Words.{days_in_month}
-use Rattle.aas_forms.specs.Cut.{after_lit, after_one, after_two_digits, after_four_digits, cut_then, cut_maybe, cut_either, cut_with, cut_such}
+use Rattle.aas_lexical_forms.specs.Cut.{after_lit, after_one, after_two_digits, after_four_digits, cut_then, cut_maybe, cut_either, cut_with, cut_such}
 use Rattle.aas_lexical.specs.Numbers.{is_sign}
 
 abbrev pub is_offset : ℕ → ℕ → Bool

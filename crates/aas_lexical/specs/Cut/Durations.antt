@@ -1,7 +1,7 @@
 -- What is cut for a duration.
 use Rattle.std.specs.Prelude.{ℕ, List, Option}
 use Rattle.std.specs.Char.{is_ascii_digit}
-use Rattle.aas_forms.specs.Cut.{after_word, after_lit, after_run, cut_then, cut_maybe, cut_nonempty}
+use Rattle.aas_lexical_forms.specs.Cut.{after_word, after_lit, after_run, cut_then, cut_maybe, cut_nonempty}
 use Rattle.aas_lexical.specs.Cut.Times.{after_fraction}
 
 -- digits and the letter of a part

@@ -1,6 +1,6 @@
 -- What is cut for a media type.
 use Rattle.std.specs.Prelude.{ℕ, Bool, List, Option}
-use Rattle.aas_forms.specs.Cut.{after_lit, after_one, after_any, after_run, cut_all, cut_then, cut_either, cut_many}
+use Rattle.aas_lexical_forms.specs.Cut.{after_lit, after_one, after_any, after_run, cut_all, cut_then, cut_either, cut_many}
 use Rattle.aas_lexical.specs.Media.{is_token_byte, is_space, is_printable, is_plain, is_lead, is_continuation}
 use Rattle.aas_lexical.specs.declared.media.MediaByte.{MediaByte}
 use Rattle.aas_lexical.specs.declared.media.MediaByte.TheVariants.{Token, Space, Printable, Plain, Lead, Continuation}

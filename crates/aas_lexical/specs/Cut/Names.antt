@@ -1,7 +1,7 @@
 -- What is cut for a name, a language and a version.
 use Rattle.std.specs.Prelude.{ℕ, Bool, List, Option}
 use Rattle.std.specs.Char.{is_ascii_digit, is_ascii_alphabetic, is_ascii_alphanumeric}
-use Rattle.aas_forms.specs.Cut.{after_lit, after_one, after_any, after_run, cut_all, cut_then, cut_either, cut_many, cut_up_to}
+use Rattle.aas_lexical_forms.specs.Cut.{after_lit, after_one, after_any, after_run, cut_all, cut_then, cut_either, cut_many, cut_up_to}
 use Rattle.aas_lexical.specs.Names.{is_nonzero_digit, is_name_byte}
 use Rattle.aas_lexical.specs.declared.name.NameByte.{NameByte}
 use Rattle.aas_lexical.specs.declared.name.NameByte.TheVariants.{NonzeroDigit, Name}

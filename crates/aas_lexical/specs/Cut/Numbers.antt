@@ -1,7 +1,7 @@
 -- What is cut for a number.
 use Rattle.std.specs.Prelude.{ℕ, Bool, List, Option}
 use Rattle.std.specs.Char.{is_ascii_digit}
-use Rattle.aas_forms.specs.Cut.{after_lit, after_one, after_any, after_run, cut_all, cut_then, cut_maybe, cut_either}
+use Rattle.aas_lexical_forms.specs.Cut.{after_lit, after_one, after_any, after_run, cut_all, cut_then, cut_maybe, cut_either}
 use Rattle.aas_lexical.specs.Numbers.{is_sign, is_exponent_mark}
 use Rattle.aas_lexical.specs.declared.number.NumberByte.{NumberByte}
 use Rattle.aas_lexical.specs.declared.number.NumberByte.TheVariants.{Sign, ExponentMark}

@@ -1,7 +1,7 @@
 -- What is cut for a time.
 use Rattle.std.specs.Prelude.{ℕ, ◌==◌, ◌&&◌, nat_le, Bool, List, Option}
 use Rattle.std.specs.Char.{is_ascii_digit}
-use Rattle.aas_forms.specs.Cut.{after_lit, after_run, after_two_digits, cut_then, cut_maybe, cut_either, cut_with, cut_such}
+use Rattle.aas_lexical_forms.specs.Cut.{after_lit, after_run, after_two_digits, cut_then, cut_maybe, cut_either, cut_with, cut_such}
 use Rattle.aas_lexical.specs.Times.{is_zero}
 use Rattle.aas_lexical.specs.Cut.Dates.{after_day, after_zone}
 

@@ -1,5 +1,5 @@
 use super::check;
-use aas_names::ValueType;
+use aas_model_names::ValueType;
 
 #[test]
 fn binary_texts(rt: HostRuntime) {

@@ -1,6 +1,6 @@
 use super::check;
 use crate::is_utc_date_time;
-use aas_names::ValueType;
+use aas_model_names::ValueType;
 
 #[test]
 fn days(rt: HostRuntime) {

@@ -1,5 +1,5 @@
 use crate::{Native, native};
-use aas_names::ValueType;
+use aas_model_names::ValueType;
 use std::process::Abort;
 
 /// Asserts that each text is written as the number, or as a string.

@@ -1,5 +1,5 @@
 use super::check;
-use aas_names::ValueType;
+use aas_model_names::ValueType;
 
 /// 2^127, which is the first above an `i128`.
 const ABOVE: &str = "170141183460469231731687303715884105728";

@@ -1,9 +1,9 @@
 use Rattle.std.proofs.Common.{◌≡◌, ◌<◌, ◌∷◌, [], Some, None, map, filter_map, take, length, get_or, refl, sym, ap, ◌∙◌, subst, arith}
 use Rattle.std.specs.Option.{option_copied}
 use Rattle.aas_model.specs.declared.element.Element.{Element, out-Element}
-use Rattle.aas_rules.specs.Sites.{step_to}
-use Rattle.aas_rules.specs.Rules.{name_of}
-use Rattle.aas_rules.specs.Faults.{fault}
+use Rattle.aas_constraint_rules.specs.Sites.{step_to}
+use Rattle.aas_constraint_rules.specs.Rules.{name_of}
+use Rattle.aas_constraint_rules.specs.Faults.{fault}
 use Rattle.aas_constraints.specs.Repeats.{HasTexts}
 use Rattle.aas_constraints.specs.Walk.{own_of, above_of, Knows, found_in, found_among}
 use Rattle.aas_constraints.proofs.Lists.{taken_map}

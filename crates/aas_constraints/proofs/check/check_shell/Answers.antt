@@ -1,5 +1,5 @@
 use Rattle.std.proofs.Common.{sym, ap, Some, ◌∙◌}
-use Rattle.aas_rules.specs.Faults.{shell_rules}
+use Rattle.aas_constraint_rules.specs.Faults.{shell_rules}
 use Rattle.aas_constraints.proofs.Walks.{document_none, document_some}
 use Rattle.aas_constraints.proofs.check.check_shell.Goals as goal
 

@@ -1,5 +1,5 @@
 use Rattle.std.proofs.Common.{◌≡◌, map, take, drop}
-use Rattle.aas_rules.specs.Texts.{all_differ, all_differ_after}
+use Rattle.aas_constraint_rules.specs.Texts.{all_differ, all_differ_after}
 use Rattle.aas_constraints.specs.Repeats.{HasTexts}
 use Rattle.aas_constraints.proofs.names.extensions_differ.Given as goal
 

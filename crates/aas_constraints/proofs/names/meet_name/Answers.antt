@@ -1,5 +1,5 @@
 use Rattle.std.proofs.Common.{◌∙◌, ◌++◌, ◌∷◌, [], subst, filter_map}
-use Rattle.aas_rules.specs.Rules.{name_of}
+use Rattle.aas_constraint_rules.specs.Rules.{name_of}
 use Rattle.aas_constraints.specs.Repeats.{HasTexts}
 use Rattle.aas_constraints.proofs.Sets.{has_more, has_same}
 use Rattle.aas_constraints.proofs.names.meet_name.Goals as goal

@@ -1,6 +1,6 @@
 use Rattle.std.proofs.Common.{◌≡◌, ap₂, ap, sym, ◌∙◌}
 use Rattle.aas_reference.specs.Faults.{least}
-use Rattle.aas_rules.specs.Sites.{Site}
+use Rattle.aas_constraint_rules.specs.Sites.{Site}
 use Rattle.aas_constraints.specs.Own.{own_rules_to_21, own_rules_to_120, own_rules_to_134}
 use Rattle.aas_constraints.specs.References.{least_broken}
 use Rattle.aas_constraints.specs.Walk.{above_of, own_of, or_next, place}

@@ -1,6 +1,6 @@
 use Rattle.std.proofs.Common.{◌≡◌, flat_map, drop}
 use Rattle.std.specs.List.{list_all}
-use Rattle.aas_rules.specs.Decided.{is_string}
+use Rattle.aas_constraint_rules.specs.Decided.{is_string}
 use Rattle.aas_constraints.proofs.strings.are_strings.Given as goal
 
 abbrev pub invariant-loop-item : goal.invariant-loop-item

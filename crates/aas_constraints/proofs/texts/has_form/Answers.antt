@@ -1,7 +1,7 @@
 use Rattle.std.specs.Str.{encode_utf8_all}
 use Rattle.aas_lexical.specs.Values.{HasForm}
-use Rattle.aas_rules.specs.Decided.{has_form}
-use Rattle.aas_rules.proofs.Forms.{form_tells}
+use Rattle.aas_constraint_rules.specs.Decided.{has_form}
+use Rattle.aas_constraint_rules.proofs.Forms.{form_tells}
 use Rattle.aas_constraints.proofs.Told.{told}
 use Rattle.aas_constraints.proofs.texts.has_form.Goals as goal
 

@@ -1,6 +1,6 @@
 use Rattle.aas_lexical.specs.Names.{IsIdentifier}
-use Rattle.aas_rules.specs.Decided.{is_identifier}
-use Rattle.aas_rules.proofs.Forms.{identifier_tells}
+use Rattle.aas_constraint_rules.specs.Decided.{is_identifier}
+use Rattle.aas_constraint_rules.proofs.Forms.{identifier_tells}
 use Rattle.aas_constraints.proofs.Told.{told_by_characters}
 use Rattle.aas_constraints.proofs.texts.is_identifier.Goals as goal
 

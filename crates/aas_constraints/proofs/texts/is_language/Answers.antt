@@ -1,6 +1,6 @@
 use Rattle.aas_lexical.specs.Names.{language}
-use Rattle.aas_rules.specs.Decided.{is_language}
-use Rattle.aas_rules.proofs.Forms.{language_tells}
+use Rattle.aas_constraint_rules.specs.Decided.{is_language}
+use Rattle.aas_constraint_rules.proofs.Forms.{language_tells}
 use Rattle.aas_constraints.proofs.Told.{told}
 use Rattle.aas_constraints.proofs.texts.is_language.Goals as goal
 

@@ -1,6 +1,6 @@
 use Rattle.aas_lexical.specs.Media.{media_type}
-use Rattle.aas_rules.specs.Decided.{is_media_type}
-use Rattle.aas_rules.proofs.Forms.{media_type_tells}
+use Rattle.aas_constraint_rules.specs.Decided.{is_media_type}
+use Rattle.aas_constraint_rules.proofs.Forms.{media_type_tells}
 use Rattle.aas_constraints.proofs.Told.{told}
 use Rattle.aas_constraints.proofs.texts.is_media_type.Goals as goal
 

@@ -1,6 +1,6 @@
 use Rattle.aas_lexical.specs.Names.{id_short}
-use Rattle.aas_rules.specs.Decided.{is_path_name}
-use Rattle.aas_rules.proofs.Forms.{path_name_tells}
+use Rattle.aas_constraint_rules.specs.Decided.{is_path_name}
+use Rattle.aas_constraint_rules.proofs.Forms.{path_name_tells}
 use Rattle.aas_constraints.proofs.Told.{told}
 use Rattle.aas_constraints.proofs.texts.is_path_name.Goals as goal
 

@@ -1,6 +1,6 @@
 use Rattle.aas_lexical.specs.Times.{utc_date_time}
-use Rattle.aas_rules.specs.Decided.{is_utc_date_time}
-use Rattle.aas_rules.proofs.Forms.{utc_date_time_tells}
+use Rattle.aas_constraint_rules.specs.Decided.{is_utc_date_time}
+use Rattle.aas_constraint_rules.proofs.Forms.{utc_date_time_tells}
 use Rattle.aas_constraints.proofs.Told.{told}
 use Rattle.aas_constraints.proofs.texts.is_utc_date_time.Goals as goal
 

@@ -2,9 +2,9 @@ use Rattle.std.proofs.Common.{◌≡◌, ◌∙◌, ◌≤◌, ◌+◌, IfSome, 
 use Rattle.serde_json.specs.Data.{object, depth, items_depth}
 use Rattle.serde_json.specs.View.{view, items_view, members_view}
 use Rattle.serde_json.proofs.Views.{view-Object}
-use Rattle.aas_table.specs.Table.{Form, one, operation_variable}
-use Rattle.aas_table.specs.Rows.{rows_of}
-use Rattle.aas_table.specs.Plain.{plain, plain_items, plain_member, add_item}
+use Rattle.aas_json_table.specs.Table.{MemberType, one, operation_variable}
+use Rattle.aas_json_table.specs.Rows.{rows_of}
+use Rattle.aas_json_table.specs.Canonical.{canonical, canonical_items, canonical_member, add_item}
 use Rattle.aas_model.specs.Payload.{kind_of}
 use Rattle.aas_json_read.specs.Own.{sort_under, spell_own}
 use Rattle.aas_json_read.specs.Children.{AddsItems}
@@ -22,68 +22,68 @@ items_after-child_of-requires t c =
 
 pub element_in-returns-clause-says : goal.element_in-returns-clause-says
 element_in-returns-clause-says t c =
-    element_is (plain_member (members_view c.args.members.now.entries)) c.args.role c.in_ok-common.common c.in-Some.payload c.in_ok-kids.kids c.args.kind
+    element_is (canonical_member (members_view c.args.members.now.entries)) c.args.role c.in_ok-common.common c.in-Some.payload c.in_ok-kids.kids c.args.kind
     (subst (λ o. IfSome o (λ p. kind_of p ≡ c.args.kind)) c.in-Some.is c.in_ok-payload.ensures.kind) c.in_ok-common.ensures c.requires.name
     (ap (option_map spell_own) (sym c.in-Some.is) ∙ c.in_ok-payload.ensures.says) c.in_ok-kids.ensures.says
 
 pub items_after-loop-item-preserved : goal.items_after-loop-item-preserved
 items_after-loop-item-preserved t c =
-    let f : Form = one (sort_under c.args.role) in
+    let f : MemberType = one (sort_under c.args.role) in
     let xs = c.deref-item-items.result.now in
     let i = c.loop-item.item-index in
     let o = c.in_ok-child_of.field-0 in
-    let split : plain_items (items_view (drop i xs)) f ≡ add_item (plain f (view c.item-item.result)) (plain_items (items_view (drop (i + 1) xs)) f) =
-    ap (λ vs. plain_items (items_view vs) f) (drop_item xs i c.item-item.result (omega arith) c.item-item.is) in
-    subst (λ all. AddsItems c.args.role c.args.before all (plain_items (items_view (drop (i + 1) xs)) f) (plain_items (items_view xs) f)) (sym c.in_ok-add_found.ensures)
-    (adds_one c.args.role c.args.before c.loop-item.all o (plain f (view c.item-item.result)) (plain_items (items_view (drop (i + 1) xs)) f) (plain_items (items_view xs) f)
-    (subst (λ rest. AddsItems c.args.role c.args.before c.loop-item.all rest (plain_items (items_view xs) f)) split c.loop-item.invariant) c.in_ok-child_of.ensures.says c.in_ok-child_of.ensures.place)
+    let split : canonical_items (items_view (drop i xs)) f ≡ add_item (canonical f (view c.item-item.result)) (canonical_items (items_view (drop (i + 1) xs)) f) =
+    ap (λ vs. canonical_items (items_view vs) f) (drop_item xs i c.item-item.result (omega arith) c.item-item.is) in
+    subst (λ all. AddsItems c.args.role c.args.before all (canonical_items (items_view (drop (i + 1) xs)) f) (canonical_items (items_view xs) f)) (sym c.in_ok-add_found.ensures)
+    (adds_one c.args.role c.args.before c.loop-item.all o (canonical f (view c.item-item.result)) (canonical_items (items_view (drop (i + 1) xs)) f) (canonical_items (items_view xs) f)
+    (subst (λ rest. AddsItems c.args.role c.args.before c.loop-item.all rest (canonical_items (items_view xs) f)) split c.loop-item.invariant) c.in_ok-child_of.ensures.says c.in_ok-child_of.ensures.place)
 
 pub child_of-returns-in_ok-variable_in-in-Object-clause-says : goal.child_of-returns-in_ok-variable_in-in-Object-clause-says
 unfolding rows_of
 child_of-returns-in_ok-variable_in-in-Object-clause-says t c =
     let ms = members_view c.in-Object.members.entries in
     let seen : view c.args.value.now ≡ object ms = ap view c.in-Object.is ∙ view-Object c.in-Object.members in
-    variable_under c.args.role c.in_ok-variable_in-in-Object.field-0 (plain (one (sort_under c.args.role)) (view c.args.value.now)) c.in-Input.is
-    (c.in_ok-variable_in-in-Object.ensures.says ∙ ap (plain (one operation_variable)) (sym seen) ∙ ap (λ s. plain (one s) (view c.args.value.now)) (variable_sort c.args.role c.in-Input.is))
+    variable_under c.args.role c.in_ok-variable_in-in-Object.field-0 (canonical (one (sort_under c.args.role)) (view c.args.value.now)) c.in-Input.is
+    (c.in_ok-variable_in-in-Object.ensures.says ∙ ap (canonical (one operation_variable)) (sym seen) ∙ ap (λ s. canonical (one s) (view c.args.value.now)) (variable_sort c.args.role c.in-Input.is))
 
 -- ---- children
 
 pub kids_in-returns-in_ok-children_after-in-AnnotatedRelationshipElement-clause-says : goal.kids_in-returns-in_ok-children_after-in-AnnotatedRelationshipElement-clause-says
 kids_in-returns-in_ok-children_after-in-AnnotatedRelationshipElement-clause-says t c =
     let all = c.in_ok-children_after-in-AnnotatedRelationshipElement in
-    (annotations_read (plain_member (members_view c.args.members.now.entries)) c.args.kind c.new-none.result all.field-0 c.in-AnnotatedRelationshipElement.is c.new-none.ensures all.ensures).says
+    (annotations_read (canonical_member (members_view c.args.members.now.entries)) c.args.kind c.new-none.result all.field-0 c.in-AnnotatedRelationshipElement.is c.new-none.ensures all.ensures).says
 
 pub kids_in-returns-in_ok-children_after-in-AnnotatedRelationshipElement-clause-places : goal.kids_in-returns-in_ok-children_after-in-AnnotatedRelationshipElement-clause-places
 kids_in-returns-in_ok-children_after-in-AnnotatedRelationshipElement-clause-places t c =
     let all = c.in_ok-children_after-in-AnnotatedRelationshipElement in
-    (annotations_read (plain_member (members_view c.args.members.now.entries)) c.args.kind c.new-none.result all.field-0 c.in-AnnotatedRelationshipElement.is c.new-none.ensures all.ensures).places
+    (annotations_read (canonical_member (members_view c.args.members.now.entries)) c.args.kind c.new-none.result all.field-0 c.in-AnnotatedRelationshipElement.is c.new-none.ensures all.ensures).places
 
 pub kids_in-returns-in_ok-children_after-in-Entity-clause-says : goal.kids_in-returns-in_ok-children_after-in-Entity-clause-says
 kids_in-returns-in_ok-children_after-in-Entity-clause-says t c =
     let all = c.in_ok-children_after-in-Entity in
-    (statements_read (plain_member (members_view c.args.members.now.entries)) c.args.kind c.new-none.result all.field-0 c.in-Entity.is c.new-none.ensures all.ensures).says
+    (statements_read (canonical_member (members_view c.args.members.now.entries)) c.args.kind c.new-none.result all.field-0 c.in-Entity.is c.new-none.ensures all.ensures).says
 
 pub kids_in-returns-in_ok-children_after-in-Entity-clause-places : goal.kids_in-returns-in_ok-children_after-in-Entity-clause-places
 kids_in-returns-in_ok-children_after-in-Entity-clause-places t c =
     let all = c.in_ok-children_after-in-Entity in
-    (statements_read (plain_member (members_view c.args.members.now.entries)) c.args.kind c.new-none.result all.field-0 c.in-Entity.is c.new-none.ensures all.ensures).places
+    (statements_read (canonical_member (members_view c.args.members.now.entries)) c.args.kind c.new-none.result all.field-0 c.in-Entity.is c.new-none.ensures all.ensures).places
 
 pub kids_in-returns-in_ok-children_after-in-SubmodelElementCollection-clause-says : goal.kids_in-returns-in_ok-children_after-in-SubmodelElementCollection-clause-says
 kids_in-returns-in_ok-children_after-in-SubmodelElementCollection-clause-says t c =
     let all = c.in_ok-children_after-in-SubmodelElementCollection in
-    (members_read (plain_member (members_view c.args.members.now.entries)) c.args.kind c.new-none.result all.field-0 c.in-SubmodelElementCollection.is c.new-none.ensures all.ensures).says
+    (members_read (canonical_member (members_view c.args.members.now.entries)) c.args.kind c.new-none.result all.field-0 c.in-SubmodelElementCollection.is c.new-none.ensures all.ensures).says
 
 pub kids_in-returns-in_ok-children_after-in-SubmodelElementCollection-clause-places : goal.kids_in-returns-in_ok-children_after-in-SubmodelElementCollection-clause-places
 kids_in-returns-in_ok-children_after-in-SubmodelElementCollection-clause-places t c =
     let all = c.in_ok-children_after-in-SubmodelElementCollection in
-    (members_read (plain_member (members_view c.args.members.now.entries)) c.args.kind c.new-none.result all.field-0 c.in-SubmodelElementCollection.is c.new-none.ensures all.ensures).places
+    (members_read (canonical_member (members_view c.args.members.now.entries)) c.args.kind c.new-none.result all.field-0 c.in-SubmodelElementCollection.is c.new-none.ensures all.ensures).places
 
 pub variables_in-returns-clause-says : goal.variables_in-returns-clause-says
 variables_in-returns-clause-says t c =
-    (variables_read (plain_member (members_view c.args.members.now.entries)) c.new.result c.in_ok-input.input c.in_ok-output.output c.in_ok-all.all c.new.ensures c.in_ok-input.ensures c.in_ok-output.ensures
+    (variables_read (canonical_member (members_view c.args.members.now.entries)) c.new.result c.in_ok-input.input c.in_ok-output.output c.in_ok-all.all c.new.ensures c.in_ok-input.ensures c.in_ok-output.ensures
     c.in_ok-all.ensures).says
 
 pub variables_in-returns-clause-places : goal.variables_in-returns-clause-places
 variables_in-returns-clause-places t c =
-    (variables_read (plain_member (members_view c.args.members.now.entries)) c.new.result c.in_ok-input.input c.in_ok-output.output c.in_ok-all.all c.new.ensures c.in_ok-input.ensures c.in_ok-output.ensures
+    (variables_read (canonical_member (members_view c.args.members.now.entries)) c.new.result c.in_ok-input.input c.in_ok-output.output c.in_ok-all.all c.new.ensures c.in_ok-input.ensures c.in_ok-output.ensures
     c.in_ok-all.ensures).places

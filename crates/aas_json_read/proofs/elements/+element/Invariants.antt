@@ -1,8 +1,8 @@
 use Rattle.std.proofs.Common.{◌+◌, ◌*◌, drop}
 use Rattle.serde_json.specs.Data.{depth, items_depth, members_depth}
 use Rattle.serde_json.specs.View.{view, items_view, members_view}
-use Rattle.aas_table.specs.Table.{one}
-use Rattle.aas_table.specs.Plain.{plain_items}
+use Rattle.aas_json_table.specs.Table.{one}
+use Rattle.aas_json_table.specs.Canonical.{canonical_items}
 use Rattle.aas_json_read.specs.Own.{sort_under}
 use Rattle.aas_json_read.specs.Children.{AddsItems}
 use Rattle.aas_json_read.proofs.elements.+element.Given as goal
@@ -34,4 +34,4 @@ decreases-items_after l = 8 * items_depth (items_view l.items.now.items) + 2
 -- what was added, before what is left, is what all items say
 abbrev pub invariant-items_after-loop-item : goal.invariant-items_after-loop-item
 invariant-items_after-loop-item l =
-    AddsItems l.role l.fn.before l.all (plain_items (items_view (drop l.item-index l.item-items)) (one (sort_under l.role))) (plain_items (items_view l.item-items) (one (sort_under l.role)))
+    AddsItems l.role l.fn.before l.all (canonical_items (items_view (drop l.item-index l.item-items)) (one (sort_under l.role))) (canonical_items (items_view l.item-items) (one (sort_under l.role)))

@@ -1,7 +1,7 @@
 use Rattle.std.proofs.Common.{subst}
 use Rattle.aas_model.specs.declared.element.Role.TheVariants as role
-use Rattle.aas_spelling.specs.Lists.{Each}
-use Rattle.aas_mapping.specs.Shape.{IsShaped}
+use Rattle.aas_json_spelling.specs.Lists.{Each}
+use Rattle.aas_json_mapping.specs.Shape.{IsShaped}
 use Rattle.aas_json_read.proofs.KidsRead.{added}
 use Rattle.aas_json_read.proofs.Places.{members_shaped}
 use Rattle.aas_json_read.proofs.elements.members_in.Goals as goal

@@ -1,10 +1,10 @@
 use Rattle.std.proofs.Common.{refl, sym, ap, ◌∙◌, option_map}
 use Rattle.serde_json.specs.View.{members_view}
-use Rattle.aas_table.specs.Plain.{plain_member}
-use Rattle.aas_table.specs.Spelled.{text_of}
-use Rattle.aas_table.specs.Table.{specific_asset_id, parts}
-use Rattle.aas_mapping.specs.Parts.{specific_asset_id_attributes}
-use Rattle.aas_members.proofs.Objects.{spelled_as}
+use Rattle.aas_json_table.specs.Canonical.{canonical_member}
+use Rattle.aas_json_table.specs.Spelled.{text_of}
+use Rattle.aas_json_table.specs.Table.{specific_asset_id, parts}
+use Rattle.aas_json_mapping.specs.Parts.{specific_asset_id_attributes}
+use Rattle.aas_json_members.proofs.Objects.{spelled_as}
 use Rattle.aas_json_read.proofs.parts.specific_asset_id_in.Goals as goal
 
 pub returns : goal.returns
@@ -13,7 +13,7 @@ returns c =
     let semantics = c.in_ok-semantics.semantics in
     spelled_as (parts specific_asset_id)
     (specific_asset_id_attributes record { name = c.in-Some.name; value = c.in-Some-2.value; external_subject_id = external; semantics = semantics })
-    (plain_member (members_view c.args.members.now.entries)) refl (
+    (canonical_member (members_view c.args.members.now.entries)) refl (
       c.in_ok-external_subject_id.ensures,
       (
         ap (option_map text_of) (sym c.in-Some.is) ∙ c.in_ok-name.ensures,

@@ -1,10 +1,10 @@
 use Rattle.std.proofs.Common.{refl, sym, ap, ◌∙◌, [], Some, option_map}
 use Rattle.serde_json.specs.View.{members_view}
-use Rattle.aas_names.specs.declared.kind.Kind.TheVariants as kind
-use Rattle.aas_table.specs.Plain.{plain_member}
+use Rattle.aas_model_names.specs.declared.kind.Kind.TheVariants as kind
+use Rattle.aas_json_table.specs.Canonical.{canonical_member}
 use Rattle.aas_reference.specs.Spelling.{spell_reference}
-use Rattle.aas_mapping.specs.Elements.{own_attributes}
-use Rattle.aas_members.proofs.Objects.{spelled_as}
+use Rattle.aas_json_mapping.specs.Elements.{own_attributes}
+use Rattle.aas_json_members.proofs.Objects.{spelled_as}
 use Rattle.aas_model.specs.declared.payload.Payload.TheVariants as p
 use Rattle.aas_json_read.specs.Own.{own_rows}
 use Rattle.aas_json_read.proofs.payload.event_in.Goals as goal
@@ -18,7 +18,7 @@ returns-clause-says c =
     let max = c.in_ok-string_member-4.field-0 in
     spelled_as (own_rows kind.BasicEventElement)
     (own_attributes (p.BasicEventElement (Some c.in-Some-2.observed) c.in-Some.direction c.in-Some-word_member.state topic broker last min max) [])
-    (plain_member (members_view c.args.members.now.entries)) refl (
+    (canonical_member (members_view c.args.members.now.entries)) refl (
       c.in-Some.ensures,
       (
         c.in_ok-string_member-2.ensures,

@@ -1,8 +1,8 @@
 use Rattle.std.proofs.Common.{◌≡◌, None, subst}
 use Rattle.serde_json.specs.View.{view}
-use Rattle.aas_table.specs.Table.{Sort, one}
-use Rattle.aas_table.specs.Misfit.{misfit}
-use Rattle.aas_members.proofs.FaultLemmas.{says_something}
+use Rattle.aas_json_table.specs.Table.{Sort, one}
+use Rattle.aas_json_table.specs.Misfit.{misfit}
+use Rattle.aas_json_members.proofs.FaultLemmas.{says_something}
 use Rattle.aas_json_read.proofs.read.tree_of.Goals as goal
 
 pub unreachable-requires : goal.unreachable-requires

@@ -1,9 +1,9 @@
 use Rattle.std.proofs.Common.{codes, Some, ap, ◌∙◌}
 use Rattle.serde_json.specs.Data.{object}
-use Rattle.aas_table.specs.Spelled.{attribute, list_of}
-use Rattle.aas_members.proofs.Built.{then_built, then_put}
+use Rattle.aas_json_table.specs.Spelled.{attribute, list_of}
+use Rattle.aas_json_members.proofs.Built.{then_built, then_put}
 use Rattle.aas_reference.specs.Spelling.{spell_reference}
-use Rattle.aas_mapping.specs.Documents.{head_attributes}
+use Rattle.aas_json_mapping.specs.Documents.{head_attributes}
 use Rattle.aas_json_write.specs.Rows.{head_rows}
 use Rattle.aas_json_write.proofs.Spellings.{shell_put}
 use Rattle.aas_json_write.proofs.documents.shell_value.Goals as goal

@@ -1,10 +1,10 @@
 use Rattle.std.proofs.Common.{codes, ap, ◌∙◌}
 use Rattle.serde_json.specs.Data.{object}
-use Rattle.aas_table.specs.Spelled.{attribute, list_of}
-use Rattle.aas_table.specs.Table.{has_semantics}
-use Rattle.aas_members.proofs.Built.{then_built, then_put}
-use Rattle.aas_mapping.specs.Documents.{head_attributes}
-use Rattle.aas_mapping.specs.Parts.{semantics_attributes, spell_qualifier}
+use Rattle.aas_json_table.specs.Spelled.{attribute, list_of}
+use Rattle.aas_json_table.specs.Table.{has_semantics}
+use Rattle.aas_json_members.proofs.Built.{then_built, then_put}
+use Rattle.aas_json_mapping.specs.Documents.{head_attributes}
+use Rattle.aas_json_mapping.specs.Parts.{semantics_attributes, spell_qualifier}
 use Rattle.aas_json_write.specs.Rows.{head_rows}
 use Rattle.aas_json_write.proofs.Levels.{elements_list}
 use Rattle.aas_json_write.proofs.Spellings.{submodel_put}

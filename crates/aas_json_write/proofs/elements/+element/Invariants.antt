@@ -1,6 +1,6 @@
 use Rattle.std.proofs.Common.{◌≡◌, ℕ, ◌<◌, ◌++◌, true, length, get_or, map, filter, take, drop}
-use Rattle.aas_members.specs.Array.{items_of}
-use Rattle.aas_mapping.specs.Elements.{spelled_child, spell_variable}
+use Rattle.aas_json_members.specs.Array.{items_of}
+use Rattle.aas_json_mapping.specs.Elements.{spelled_child, spell_variable}
 use Rattle.aas_model.specs.declared.element.Element.{Element}
 use Rattle.aas_json_write.specs.Order.{element_in_order}
 use Rattle.aas_json_write.specs.Variables.{is_variable}

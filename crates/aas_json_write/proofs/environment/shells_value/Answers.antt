@@ -1,5 +1,5 @@
 use Rattle.std.proofs.Common.{map, ap, ◌∙◌}
-use Rattle.aas_spelling.specs.Lists.{each_true}
+use Rattle.aas_json_spelling.specs.Lists.{each_true}
 use Rattle.aas_json_write.specs.Order.{shell_in_order}
 use Rattle.aas_json_write.proofs.InOrder.{at_index}
 use Rattle.aas_json_write.proofs.environment.shells_value.Goals as goal

@@ -1,4 +1,4 @@
-use Rattle.aas_forms.proofs.Cuts.{answered}
+use Rattle.aas_lexical_forms.proofs.Cuts.{answered}
 use Rattle.aas_lexical.specs.Dates.{g_day}
 use Rattle.aas_lexical.specs.Cut.Dates.{after_g_day}
 use Rattle.aas_lexical.proofs.DatesExact.{g_day_exact}

@@ -1,6 +1,6 @@
 use Rattle.std.proofs.Common.{◌≡◌, drop}
 use Rattle.aas_path.specs.Walk.{left_of, met_all}
-use Rattle.aas_trees.specs.Patched.{kinds_of_all}
+use Rattle.aas_path_trees.specs.Patched.{kinds_of_all}
 use Rattle.aas_path.proofs.patches.+fits.Given as goal
 
 abbrev pub invariant-meet_all-loop-kid : goal.invariant-meet_all-loop-kid

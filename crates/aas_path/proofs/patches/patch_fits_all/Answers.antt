@@ -1,6 +1,6 @@
 use Rattle.std.proofs.Common.{ap, ◌∙◌}
 use Rattle.aas_path.specs.Walk.{left_of, met_all}
-use Rattle.aas_trees.specs.Patched.{kinds_of_all}
+use Rattle.aas_path_trees.specs.Patched.{kinds_of_all}
 use Rattle.aas_path.proofs.FitWalk.{fits_if_walked}
 use Rattle.aas_path.proofs.patches.patch_fits_all.Goals as goal
 

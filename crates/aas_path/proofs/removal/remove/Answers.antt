@@ -1,5 +1,5 @@
 use Rattle.std.proofs.Common.{false, sym, ap, ◌∙◌}
-use Rattle.aas_trees.proofs.Removed.{removed_among-none}
+use Rattle.aas_path_trees.proofs.Removed.{removed_among-none}
 use Rattle.aas_path.proofs.removal.remove.Goals as goal
 
 pub returns-in-None-clause-same : goal.returns-in-None-clause-same

@@ -1,7 +1,7 @@
 use Rattle.std.proofs.Common.{◌≡◌, ◌++◌, drop, map}
 use Rattle.serde_json.specs.Data.{no_members}
-use Rattle.aas_members.specs.Array.{items_of}
-use Rattle.aas_members.specs.Object.{members_of}
+use Rattle.aas_json_members.specs.Array.{items_of}
+use Rattle.aas_json_members.specs.Object.{members_of}
 use Rattle.aas_value.specs.ValueForm.{annotation_value, child_of, forms_of, put_children}
 use Rattle.aas_value.proofs.form.+value.Given as goal
 

@@ -1,5 +1,5 @@
 use Rattle.std.proofs.Common.{◌≡◌, map, take}
-use Rattle.aas_members.specs.Array.{items_of}
+use Rattle.aas_json_members.specs.Array.{items_of}
 use Rattle.aas_value.proofs.kinds.array_value.Given as goal
 
 -- so far as the loop has come

@@ -1,5 +1,5 @@
 use Rattle.std.proofs.Common.{length, unwrap_or, ◌∙◌, ap}
-use Rattle.aas_trees.specs.ElementAt.{place_of}
+use Rattle.aas_path_trees.specs.ElementAt.{place_of}
 use Rattle.aas_path.proofs.Lenders.{one_step}
 use Rattle.aas_path.proofs.lending.OneDown.lend.Goals as goal
 

@@ -1,0 +1,289 @@
+-- Shells, submodels and concept descriptions: what is whole spells what is good, what spells what is good is whole, and what spells the same is the same.
+use Rattle.std.proofs.Common.{◌≡◌, ℕ, ◌&&◌, List, [], ◌∷◌, ◌++◌, true, Option, Some, option_map, codes, refl, sym, ◌∙◌, subst}
+use Rattle.std.specs.List.{list_all}
+use Rattle.serde_json.specs.Data.{Data, string}
+use Rattle.aas_model_names.specs.ModellingKindNames as modelling_kind
+use Rattle.aas_json_table.specs.Names.{modelling_kinds}
+use Rattle.aas_json_table.specs.Table.{Sort, one, many, word, asset_information, Row, required, optional, valued, shell, submodel, concept, element, reference, referable, identifiable, has_semantics, qualifiable, model_types}
+use Rattle.aas_json_table.specs.Rows.{find, sorted, rows_of}
+use Rattle.aas_json_table.specs.TooDeep.{Levels, enter}
+use Rattle.aas_json_table.specs.Canonical.{are_there, members_by}
+use Rattle.aas_json_table.specs.Spelled.{Attributes, attribute, spelled, list_of}
+use Rattle.aas_model.specs.declared.common.Head.{Head}
+use Rattle.aas_model.specs.declared.documents.Shell.{Shell}
+use Rattle.aas_model.specs.declared.documents.Submodel.{Submodel}
+use Rattle.aas_model.specs.declared.documents.Concept.{Concept}
+use Rattle.aas_model.specs.declared.element.Element.{Element}
+use Rattle.aas_json_spelling.specs.Lists.{Each}
+use Rattle.aas_json_spelling.specs.Good.{Good}
+use Rattle.aas_json_spelling.proofs.Rows.{and_left, and_right}
+use Rattle.aas_json_spelling.proofs.Objects.{Agree, AreGood}
+use Rattle.aas_json_spelling.proofs.MemberTypes.{EachGood, text_good, named_if_good, list_good, list_back, same_texts, same_words_if, same_lists_of}
+use Rattle.aas_reference.specs.Spelling.{spell_reference}
+use Rattle.aas_reference.specs.Whole.{is_whole, whole_if_there}
+use Rattle.aas_json_mapping.specs.Documents.{head_attributes, spell_shell, spell_submodel, spell_concept}
+use Rattle.aas_json_mapping.specs.Elements.{spell_element}
+use Rattle.aas_json_mapping.specs.Parts.{semantics_attributes, spell_qualifier, spell_asset_information}
+use Rattle.aas_json_mapping.specs.Shape.{IsShaped, IsShapedSubmodel}
+use Rattle.aas_json_mapping.specs.Whole.{whole_kept, whole_extension, whole_administration_if_there, whole_head, whole_semantics, whole_qualifier, whole_asset_information, is_whole_element, is_whole_shell, is_whole_submodel, is_whole_concept}
+use Rattle.aas_json_mapping.proofs.Rows.{both, good_before, good_with, agree_before, object_made, object_within, same_rows, model_rows, model_rise, found_again}
+use Rattle.aas_json_mapping.proofs.Facts.{Facts, all_good, all_back, all_same, if_same, reference_facts, reference_if_good, reference_if_back}
+use Rattle.aas_json_mapping.proofs.Parts.{administration_facts, administration_if_good, administration_if_back, asset_information_facts, qualifier_facts, semantics_good, semantics_back, same_semantics}
+use Rattle.aas_json_mapping.proofs.Referable.{Referable, referable_good, referable_back, same_referable}
+use Rattle.aas_json_mapping.proofs.ElementsLaws.{whole_good, whole_back, same_shaped}
+
+-- ---- objects of one modelType, which has the rows of Referable
+
+-- the rows of a sort under its modelType
+pub record IsModel (s : Sort) (n : List ℕ) (rows : List Row) : Type 0 where
+  pub first : List ℕ × List Row
+  pub rest : List (List ℕ × List Row)
+  pub models : model_types s ≡ first ∷ rest
+  pub found : find n (model_types s) ≡ Some (referable ++ rows)
+
+-- attributes with a modelType
+abbrev pub typed : List ℕ → Attributes → Attributes
+typed n attributes = (codes "modelType", Some (string n)) ∷ attributes
+
+rows_at : (s : Sort) (n : List ℕ) (rows : List Row) → IsModel s n rows → (attributes : Attributes)
+    → rows_of s (members_by (sorted (referable ++ rows)) (attribute (typed n attributes))) ≡ Some (sorted (referable ++ rows))
+rows_at s n rows m attributes =
+    let g = attribute (typed n attributes) in
+    model_rows s m.first m.rest m.models n (referable ++ rows) m.found (members_by (sorted (referable ++ rows)) g)
+    (found_again (referable ++ rows) g (model_rise s m.first m.rest m.models n (referable ++ rows) m.found)).1.1.1.1.1.0
+
+document_good : (s : Sort) (n : List ℕ) (rows : List Row) → IsModel s n rows → (l : Levels) (attributes : Attributes) → enter s l ≡ Some l → are_there (referable ++ rows) (attribute (typed n attributes)) ≡ true
+    → AreGood l (referable ++ rows) (attribute (typed n attributes)) → Good l (one s) (Some (spelled (referable ++ rows) (typed n attributes)))
+document_good s n rows m l attributes entered e good = object_made s l l (referable ++ rows) (attribute (typed n attributes)) entered (rows_at s n rows m attributes) e good
+
+document_back : (s : Sort) (n : List ℕ) (rows : List Row) → IsModel s n rows → (l : Levels) (attributes : Attributes) → enter s l ≡ Some l
+    → Good l (one s) (Some (spelled (referable ++ rows) (typed n attributes))) → AreGood l (referable ++ rows) (attribute (typed n attributes))
+document_back s n rows m l attributes entered good =
+    let within = object_within s l (referable ++ rows) (attribute (typed n attributes)) (rows_at s n rows m attributes) good in
+    subst (λ inner. AreGood inner (referable ++ rows) (attribute (typed n attributes))) (same_levels within.inner (sym within.entered ∙ entered)) within.good
+  where
+    same_levels : (inner : Levels) → Some inner ≡ Some l → inner ≡ l
+    same_levels inner e = cc
+
+same_document : (s : Sort) (n : List ℕ) (rows : List Row) → IsModel s n rows → (as_ bs : Attributes) → spelled (referable ++ rows) (typed n as_) ≡ spelled (referable ++ rows) (typed n bs)
+    → Agree (referable ++ rows) (attribute (typed n as_)) (attribute (typed n bs))
+same_document s n rows m as_ bs e = same_rows (referable ++ rows) (typed n as_) (typed n bs) (model_rise s m.first m.rest m.models n (referable ++ rows) m.found) e
+
+-- ---- Identifiable
+
+abbrev pub referable_in : Head → Referable
+referable_in h = record {
+  category = h.category;
+  description = h.description;
+  display_name = h.display_name;
+  extensions = h.extensions;
+  id_short = h.id_short;
+  embedded_data_specifications = h.embedded_data_specifications;
+}
+
+head_good : (l : Levels) (n : List ℕ) (h : Head) (rows : List Row) (own : Attributes) → whole_head l h ≡ true → AreGood l rows (attribute (typed n (head_attributes h ++ own)))
+    → AreGood l (referable ++ (identifiable ++ rows)) (attribute (typed n (head_attributes h ++ own)))
+head_good l n h rows own w good =
+    let g = attribute (typed n (head_attributes h ++ own)) in
+    let a = whole_administration_if_there l h.administration in
+    let e = list_all (whole_extension l) h.extensions in
+    let k = whole_kept l h.embedded_data_specifications in
+    let first = and_left (a && e) k w in
+    good_with l referable (identifiable ++ rows) g (referable_good l n (referable_in h) (and_right a e first) (and_right (a && e) k w))
+    (text_good l (Some h.id), (administration_if_good l h.administration (and_left a e first), good))
+
+head_back : (l : Levels) (n : List ℕ) (h : Head) (rows : List Row) (own : Attributes) → AreGood l (referable ++ (identifiable ++ rows)) (attribute (typed n (head_attributes h ++ own)))
+    → (whole_head l h ≡ true) × AreGood l rows (attribute (typed n (head_attributes h ++ own)))
+head_back l n h rows own good =
+    let g = attribute (typed n (head_attributes h ++ own)) in
+    let split = good_before l referable (identifiable ++ rows) g good in
+    let first = referable_back l n (referable_in h) split.0 in
+    let a = whole_administration_if_there l h.administration in
+    let e = list_all (whole_extension l) h.extensions in
+    let k = whole_kept l h.embedded_data_specifications in
+    (both (a && e) k (both a e (administration_if_back l h.administration split.1.1.0) first.0) first.1, split.1.1.1)
+
+same_head : (n : List ℕ) (h k : Head) (rows : List Row) (a b : Attributes) → Agree (referable ++ (identifiable ++ rows)) (attribute (typed n (head_attributes h ++ a))) (attribute (typed n (head_attributes k ++ b)))
+    → (h ≡ k) × Agree rows (attribute (typed n (head_attributes h ++ a))) (attribute (typed n (head_attributes k ++ b)))
+same_head n h k rows a b agree =
+    let split = agree_before referable (identifiable ++ rows) (attribute (typed n (head_attributes h ++ a))) (attribute (typed n (head_attributes k ++ b))) agree in
+    let first = (same_referable n n (referable_in h) (referable_in k) split.0).1 in
+    let id = same_texts h.id k.id split.1.0 in
+    let administration = if_same administration_facts h.administration k.administration split.1.1.0 in (
+      (λ i. record {
+        id = id i;
+        administration = administration i;
+        id_short = (first i).id_short;
+        category = (first i).category;
+        description = (first i).description;
+        display_name = (first i).display_name;
+        extensions = (first i).extensions;
+        embedded_data_specifications = (first i).embedded_data_specifications;
+      }),
+      split.1.1.1,
+    )
+
+-- ---- AssetAdministrationShell
+
+abbrev pub shell_rows : List Row
+shell_rows = required (codes "assetInformation") (one asset_information) ∷ optional (codes "derivedFrom") (one reference) ∷ optional (codes "submodels") (many reference) ∷ []
+
+abbrev pub own_shell : Shell → Attributes
+own_shell s =
+    (codes "assetInformation", Some (spell_asset_information s.asset)) ∷ (codes "derivedFrom", option_map spell_reference s.derived_from) ∷ (codes "submodels", list_of spell_reference s.submodels) ∷ []
+
+abbrev pub shell_name : List ℕ
+shell_name = codes "AssetAdministrationShell"
+
+shell_model : IsModel shell shell_name (identifiable ++ shell_rows)
+shell_model = record { first = _; rest = _; models = refl; found = refl }
+
+shell_good : (l : Levels) (s : Shell) → is_whole_shell l s ≡ true → Good l (one shell) (Some (spell_shell s))
+shell_good l s w =
+    let h = whole_head l s.head in
+    let d = whole_if_there l s.derived_from in
+    let a = whole_asset_information l s.asset in
+    let m = list_all (is_whole l) s.submodels in
+    let three = and_left (h && d && a) m w in
+    let two = and_left (h && d) a three in
+    document_good shell shell_name (identifiable ++ shell_rows) shell_model l (head_attributes s.head ++ own_shell s) refl refl
+    (head_good l shell_name s.head shell_rows (own_shell s) (and_left h d two) (
+      asset_information_facts.good l s.asset (and_right (h && d) a three),
+      (reference_if_good l s.derived_from (and_right h d two), (all_good reference_facts l s.submodels (and_right (h && d && a) m w), tt)),
+    ))
+
+shell_back : (l : Levels) (s : Shell) → Good l (one shell) (Some (spell_shell s)) → is_whole_shell l s ≡ true
+shell_back l s good =
+    let inside = document_back shell shell_name (identifiable ++ shell_rows) shell_model l (head_attributes s.head ++ own_shell s) refl good in
+    let head = head_back l shell_name s.head shell_rows (own_shell s) inside in
+    let h = whole_head l s.head in
+    let d = whole_if_there l s.derived_from in
+    let a = whole_asset_information l s.asset in
+    both (h && d && a) (list_all (is_whole l) s.submodels)
+    (both (h && d) a (both h d head.0 (reference_if_back l s.derived_from head.1.1.0)) (asset_information_facts.back l s.asset head.1.0))
+    (all_back reference_facts l s.submodels head.1.1.1.0)
+
+same_shell : (s t : Shell) → spell_shell s ≡ spell_shell t → s ≡ t
+same_shell s t e =
+    let agree = same_document shell shell_name (identifiable ++ shell_rows) shell_model (head_attributes s.head ++ own_shell s) (head_attributes t.head ++ own_shell t) e in
+    let head = same_head shell_name s.head t.head shell_rows (own_shell s) (own_shell t) agree in
+    let h = head.0 in
+    let a = asset_information_facts.same s.asset t.asset (same_some head.1.0) in
+    let d = if_same reference_facts s.derived_from t.derived_from head.1.1.0 in
+    let m = all_same reference_facts s.submodels t.submodels head.1.1.1.0 in
+    λ i. record { head = h i; derived_from = d i; asset = a i; submodels = m i }
+  where
+    same_some : ◌≡◌ {A = Option Data} (Some (spell_asset_information s.asset)) (Some (spell_asset_information t.asset)) → spell_asset_information s.asset ≡ spell_asset_information t.asset
+    same_some e = cc
+
+pub shell_facts : Facts shell spell_shell is_whole_shell
+shell_facts = record { good = shell_good; back = shell_back; same = same_shell }
+
+-- ---- ConceptDescription
+
+abbrev pub concept_rows : List Row
+concept_rows = optional (codes "isCaseOf") (many reference) ∷ []
+
+abbrev pub own_concept : Concept → Attributes
+own_concept c = (codes "isCaseOf", list_of spell_reference c.is_case_of) ∷ []
+
+abbrev pub concept_name : List ℕ
+concept_name = codes "ConceptDescription"
+
+concept_model : IsModel concept concept_name (identifiable ++ concept_rows)
+concept_model = record { first = _; rest = _; models = refl; found = refl }
+
+concept_good : (l : Levels) (c : Concept) → is_whole_concept l c ≡ true → Good l (one concept) (Some (spell_concept c))
+concept_good l c w =
+    document_good concept concept_name (identifiable ++ concept_rows) concept_model l (head_attributes c.head ++ own_concept c) refl refl
+    (head_good l concept_name c.head concept_rows (own_concept c) (and_left (whole_head l c.head) (list_all (is_whole l) c.is_case_of) w)
+    (all_good reference_facts l c.is_case_of (and_right (whole_head l c.head) (list_all (is_whole l) c.is_case_of) w), tt))
+
+concept_back : (l : Levels) (c : Concept) → Good l (one concept) (Some (spell_concept c)) → is_whole_concept l c ≡ true
+concept_back l c good =
+    let inside = document_back concept concept_name (identifiable ++ concept_rows) concept_model l (head_attributes c.head ++ own_concept c) refl good in
+    let head = head_back l concept_name c.head concept_rows (own_concept c) inside in
+    both (whole_head l c.head) (list_all (is_whole l) c.is_case_of) head.0 (all_back reference_facts l c.is_case_of head.1.0)
+
+same_concept : (c d : Concept) → spell_concept c ≡ spell_concept d → c ≡ d
+same_concept c d e =
+    let agree = same_document concept concept_name (identifiable ++ concept_rows) concept_model (head_attributes c.head ++ own_concept c) (head_attributes d.head ++ own_concept d) e in
+    let head = same_head concept_name c.head d.head concept_rows (own_concept c) (own_concept d) agree in
+    let h = head.0 in
+    let m = all_same reference_facts c.is_case_of d.is_case_of head.1.0 in
+    λ i. record { head = h i; is_case_of = m i }
+
+pub concept_facts : Facts concept spell_concept is_whole_concept
+concept_facts = record { good = concept_good; back = concept_back; same = same_concept }
+
+-- ---- Submodel
+
+abbrev pub kids_row : List Row
+kids_row = valued (optional (codes "submodelElements") (many element)) ∷ []
+
+abbrev pub submodel_rows : List Row
+submodel_rows = optional (codes "kind") (word modelling_kinds) ∷ (has_semantics ++ (qualifiable ++ kids_row))
+
+abbrev pub own_submodel : Submodel → Attributes
+own_submodel s =
+    (codes "kind", option_map (λ k. string (modelling_kind.name_of k)) s.kind)
+    ∷ (semantics_attributes s.semantics ++ ((codes "qualifiers", list_of spell_qualifier s.qualifiers) ∷ (codes "submodelElements", list_of spell_element s.kids) ∷ []))
+
+abbrev pub submodel_name : List ℕ
+submodel_name = codes "Submodel"
+
+submodel_model : IsModel submodel submodel_name (identifiable ++ submodel_rows)
+submodel_model = record { first = _; rest = _; models = refl; found = refl }
+
+kids_good : (l : Levels) (ks : List Element) → list_all (is_whole_element l) ks ≡ true → EachGood l (one element) spell_element ks
+kids_good l [] w = tt
+kids_good l (k ∷ ks) w = (whole_good l k (and_left (is_whole_element l k) _ w), kids_good l ks (and_right (is_whole_element l k) _ w))
+
+kids_back : (l : Levels) (ks : List Element) → Each IsShaped ks → EachGood l (one element) spell_element ks → list_all (is_whole_element l) ks ≡ true
+kids_back l [] s good = refl
+kids_back l (k ∷ ks) s good = both (is_whole_element l k) (list_all (is_whole_element l) ks) (whole_back l k s.0 good.0) (kids_back l ks s.1 good.1)
+
+kids_alone : (ks : List Element) → Each IsShaped ks → Each (λ x. (y : Element) → IsShaped y → spell_element x ≡ spell_element y → x ≡ y) ks
+kids_alone [] s = tt
+kids_alone (k ∷ ks) s = (λ y t e. same_shaped k y s.0 t e, kids_alone ks s.1)
+
+pub submodel_good : (l : Levels) (s : Submodel) → is_whole_submodel l s ≡ true → Good l (one submodel) (Some (spell_submodel s))
+submodel_good l s w =
+    let h = whole_head l s.head in
+    let m = whole_semantics l s.semantics in
+    let q = list_all (whole_qualifier l) s.qualifiers in
+    let k = list_all (is_whole_element l) s.kids in
+    let three = and_left (h && m && q) k w in
+    let two = and_left (h && m) q three in
+    let g = attribute (typed submodel_name (head_attributes s.head ++ own_submodel s)) in
+    document_good submodel submodel_name (identifiable ++ submodel_rows) submodel_model l (head_attributes s.head ++ own_submodel s) refl refl
+    (head_good l submodel_name s.head submodel_rows (own_submodel s) (and_left h m two) (
+      named_if_good l modelling_kind.name_of modelling_kind.all modelling_kind.found s.kind,
+      good_with l has_semantics (qualifiable ++ kids_row) g (semantics_good l s.semantics (and_right h m two))
+          (all_good qualifier_facts l s.qualifiers (and_right (h && m) q three), (list_good l spell_element element s.kids (kids_good l s.kids (and_right (h && m && q) k w)), tt)),
+    ))
+
+pub submodel_back : (l : Levels) (s : Submodel) → IsShapedSubmodel s → Good l (one submodel) (Some (spell_submodel s)) → is_whole_submodel l s ≡ true
+submodel_back l s shape good =
+    let inside = document_back submodel submodel_name (identifiable ++ submodel_rows) submodel_model l (head_attributes s.head ++ own_submodel s) refl good in
+    let head = head_back l submodel_name s.head submodel_rows (own_submodel s) inside in
+    let g = attribute (typed submodel_name (head_attributes s.head ++ own_submodel s)) in
+    let semantics = good_before l has_semantics (qualifiable ++ kids_row) g head.1.1 in
+    let h = whole_head l s.head in
+    let m = whole_semantics l s.semantics in
+    let q = list_all (whole_qualifier l) s.qualifiers in
+    both (h && m && q) (list_all (is_whole_element l) s.kids)
+    (both (h && m) q (both h m head.0 (semantics_back l s.semantics semantics.0)) (all_back qualifier_facts l s.qualifiers semantics.1.0))
+    (kids_back l s.kids shape (list_back l spell_element element s.kids semantics.1.1.0))
+
+pub same_submodel : (s t : Submodel) → IsShapedSubmodel s → IsShapedSubmodel t → spell_submodel s ≡ spell_submodel t → s ≡ t
+same_submodel s t a b e =
+    let agree = same_document submodel submodel_name (identifiable ++ submodel_rows) submodel_model (head_attributes s.head ++ own_submodel s) (head_attributes t.head ++ own_submodel t) e in
+    let head = same_head submodel_name s.head t.head submodel_rows (own_submodel s) (own_submodel t) agree in
+    let split = agree_before has_semantics (qualifiable ++ kids_row) (attribute (typed submodel_name (head_attributes s.head ++ own_submodel s))) (attribute (typed submodel_name (head_attributes t.head ++ own_submodel t))) head.1.1 in
+    let h = head.0 in
+    let k = same_words_if modelling_kind.name_of modelling_kind.all modelling_kind.found s.kind t.kind head.1.0 in
+    let m = same_semantics s.semantics t.semantics split.0 in
+    let q = all_same qualifier_facts s.qualifiers t.qualifiers split.1.0 in
+    let ks = same_lists_of IsShaped spell_element s.kids t.kids (kids_alone s.kids a) b split.1.1.0 in
+    λ i. record { head = h i; kind = k i; semantics = m i; qualifiers = q i; kids = ks i }

@@ -1,0 +1,200 @@
+-- The compact text of a value reads back as the value, where its names rise, its numbers are whole and it nests at most 127 deep.
+use Rattle.std.proofs.Common.{◌≡◌, ℕ, pos, negsuc, suc, ◌<◌, ◌≤◌, max, ◌==◌, ◌&&◌, nat_lt, Bool, true, false, cond, List, [], ◌∷◌, ◌++◌, get_or, Some, option_map, option_and_then, Less, Greater, nat_cmp, IsUtf8, decimal, refl, sym, ap, ap₂, ◌∙◌, arith, append-nil}
+use Rattle.std.specs.Cmp.Lexicographic.{slice_cmp}
+use Rattle.std.specs.Ordering.{ordering_reverse}
+use Rattle.std.proofs.lemmas.Cmp.{nat_list_cmp_total}
+use Rattle.std.proofs.lemmas.Str.{IsUtf8-append, IsUtf8-nil, IsUtf8-from_ascii, is_utf8-from_IsUtf8}
+use Rattle.std.proofs.lemmas.Fmt.{first_decimal, IsAscii-decimal}
+use Rattle.std.proofs.lemmas.Bool.{ne_eqb}
+use Rattle.json.specs.Json as json
+use Rattle.json.specs.Tree as tree
+use Rattle.json.specs.Lex.{tokens}
+use Rattle.json.specs.Word.{after_number, after_whole, after_fraction, after_exponent}
+use Rattle.json.specs.Print.{IsNumber, quoted}
+use Rattle.json.proofs.Printed.Tokens.{tokens-print}
+use Rattle.json.proofs.Printed.Trees.{value-json_tokens, ArePrintable-json_tokens}
+use Rattle.json.proofs.Printed.Decimals.{IsNumber-decimal}
+use Rattle.json.proofs.Printed.Utf8.{IsUtf8-quoted, IsUtf8-are_ascii, IsUtf8-boolean}
+use Rattle.serde_json.specs.Data.{Num, unsigned, negative, float, Data, null, boolean, number, string, array, object, Items, no_items, item, Members, no_members, member, put, depth, items_depth, members_depth}
+use Rattle.serde_json.specs.Read.{of_json, of_items, of_members, read, number_of, max_depth}
+use Rattle.serde_json.specs.Written.{number_text, outline, items_outline, members_outline, compact_text, items_text, members_text, comma_if}
+use Rattle.serde_json.proofs.Numbers.{number_of-decimal, number_of-negative}
+use Rattle.serde_json.proofs.Texts.{print-outline}
+use Rattle.aas_json_spelling.specs.Values.{IsText, AreTexts, HasTexts, IsOrdered, AreOrdered, HasOrder, AreAbove, IsWholeNumber, HasWholeNumbers, HaveWholeNumbers, MembersHaveWholeNumbers}
+use Rattle.aas_json_spelling.specs.Reading.{reading}
+
+-- ---- members that go in one after another
+
+then_members : Members → Members → Members
+then_members no_members ms = ms
+then_members (member k d before) ms = member k d (then_members before ms)
+
+then_none : (before : Members) → then_members before no_members ≡ before
+unfolding then_members
+then_none no_members = refl
+then_none (member k d before) = ap (member k d) (then_none before)
+
+then_one_more : (before : Members) (k : List ℕ) (d : Data) (ms : Members) → then_members (then_members before (member k d no_members)) ms ≡ then_members before (member k d ms)
+unfolding then_members
+then_one_more no_members k d ms = refl
+then_one_more (member l e before) k d ms = ap (member l e) (then_one_more before k d ms)
+
+-- k is above each name of the members
+IsBelow : Members → List ℕ → Type 0
+IsBelow no_members k = Unit {0}
+IsBelow (member l e ms) k = (slice_cmp nat_cmp k l ≡ Greater) × IsBelow ms k
+
+AllBelow : Members → Members → Type 0
+AllBelow before no_members = Unit {0}
+AllBelow before (member k d ms) = IsBelow before k × AllBelow before ms
+
+none_below : (ms : Members) → AllBelow no_members ms
+unfolding IsBelow AllBelow
+none_below no_members = tt
+none_below (member k d ms) = (tt, none_below ms)
+
+put_after : (before : Members) (k : List ℕ) (d : Data) → IsBelow before k → put k d before ≡ then_members before (member k d no_members)
+unfolding then_members IsBelow
+put_after no_members k d h = refl
+put_after (member l e before) k d h = rw h.0 (ap (member l e) (put_after before k d h.1))
+
+below_more : (before : Members) (k l : List ℕ) (d : Data) → IsBelow before l → slice_cmp nat_cmp k l ≡ Less → IsBelow (then_members before (member k d no_members)) l
+unfolding then_members IsBelow
+below_more no_members k l d h less = (nat_list_cmp_total.antisymm l k ∙ ap ordering_reverse less, tt)
+below_more (member m e before) k l d h less = (h.0, below_more before k l d h.1 less)
+
+all_below_more : (before ms : Members) (k : List ℕ) (d : Data) → AllBelow before ms → AreAbove k ms → AllBelow (then_members before (member k d no_members)) ms
+unfolding AllBelow
+all_below_more before no_members k d h above = tt
+all_below_more before (member l e ms) k d h above = (below_more before k l d h.0 above.0, all_below_more before ms k d h.1 above.1)
+
+-- ---- numbers
+
+negative_number : (ds : List ℕ) → 48 < get_or ds 0 0 → IsNumber ds → IsNumber (45 ∷ ds)
+unfolding after_number
+negative_number [] h n = absurd (omega arith)
+negative_number (x ∷ ds) h n =
+    let other : (x == 45) ≡ false = ne_eqb x 45 (λ e. omega arith) in
+    sym (ap (λ b. option_and_then after_exponent (option_and_then after_fraction (after_whole (cond b ds (x ∷ ds))))) other) ∙ n
+
+is_number : (n : Num) → IsWholeNumber n → IsNumber (number_text n)
+is_number (unsigned n) h = IsNumber-decimal n h
+is_number (negative (pos n)) h = absurd h
+is_number (negative (negsuc n)) h = negative_number (decimal (suc n)) (first_decimal (suc n) (omega arith) (omega (arith, h))) (IsNumber-decimal (suc n) (omega (arith, h)))
+is_number (float x) h = absurd h
+
+of_number : (n : Num) → IsWholeNumber n → number_of (number_text n) ≡ Some n
+of_number (unsigned n) h = number_of-decimal n h
+of_number (negative (pos n)) h = absurd h
+of_number (negative (negsuc n)) h = number_of-negative n h
+of_number (float x) h = absurd h
+
+-- ---- the value of a value's outline
+
+mutual
+  unfolding then_members IsBelow AllBelow
+
+  of_outline : (d : Data) → IsOrdered d → HasWholeNumbers d → of_json (outline d) ≡ Some d
+  of_outline null o w = refl
+  of_outline (boolean b) o w = refl
+  of_outline (number n) o w = ap (option_map number) (of_number n w)
+  of_outline (string s) o w = refl
+  of_outline (array ds) o w = ap (option_map array) (of_items_outline ds o w)
+  of_outline (object ms) o w = ap (option_map object) (of_members_outline ms no_members o w (none_below ms))
+
+  of_items_outline : (ds : Items) → AreOrdered ds → HaveWholeNumbers ds → of_items (items_outline ds) ≡ Some ds
+  of_items_outline no_items o w = refl
+  of_items_outline (item d ds) o w =
+      ap (λ r. option_and_then (λ e. option_map (item e) (of_items (items_outline ds))) r) (of_outline d o.0 w.0) ∙ ap (option_map (item d)) (of_items_outline ds o.1 w.1)
+
+  of_members_outline : (ms before : Members) → HasOrder ms → MembersHaveWholeNumbers ms → AllBelow before ms → of_members (members_outline ms) before ≡ Some (then_members before ms)
+  of_members_outline no_members before o w below = ap Some (sym (then_none before))
+  of_members_outline (member k d ms) before o w below =
+      ap (λ r. option_and_then (λ e. of_members (members_outline ms) (put k e before)) r) (of_outline d o.1 w.0)
+      ∙ ap (of_members (members_outline ms)) (put_after before k d below.0)
+      ∙ of_members_outline ms (then_members before (member k d no_members)) o.2 w.1 (all_below_more before ms k d below.1 o.0)
+      ∙ ap Some (then_one_more before k d ms)
+
+mutual
+  depth_outline : (d : Data) → tree.depth (outline d) ≡ depth d
+  depth_outline null = refl
+  depth_outline (boolean b) = refl
+  depth_outline (number n) = refl
+  depth_outline (string s) = refl
+  depth_outline (array ds) = ap suc (items_depth_outline ds)
+  depth_outline (object ms) = ap suc (members_depth_outline ms)
+
+  items_depth_outline : (ds : Items) → tree.items_depth (items_outline ds) ≡ items_depth ds
+  items_depth_outline no_items = refl
+  items_depth_outline (item d ds) = ap₂ max (depth_outline d) (items_depth_outline ds)
+
+  members_depth_outline : (ms : Members) → tree.members_depth (members_outline ms) ≡ members_depth ms
+  members_depth_outline no_members = refl
+  members_depth_outline (member k d ms) = ap₂ max (depth_outline d) (members_depth_outline ms)
+
+mutual
+  numbers_outline : (d : Data) → HasWholeNumbers d → tree.HasNumbers (outline d)
+  numbers_outline null w = tt
+  numbers_outline (boolean b) w = tt
+  numbers_outline (number n) w = is_number n w
+  numbers_outline (string s) w = tt
+  numbers_outline (array ds) w = items_numbers_outline ds w
+  numbers_outline (object ms) w = members_numbers_outline ms w
+
+  items_numbers_outline : (ds : Items) → HaveWholeNumbers ds → tree.ItemsHaveNumbers (items_outline ds)
+  items_numbers_outline no_items w = tt
+  items_numbers_outline (item d ds) w = (numbers_outline d w.0, items_numbers_outline ds w.1)
+
+  members_numbers_outline : (ms : Members) → MembersHaveWholeNumbers ms → tree.MembersHaveNumbers (members_outline ms)
+  members_numbers_outline no_members w = tt
+  members_numbers_outline (member k d ms) w = (numbers_outline d w.0, members_numbers_outline ms w.1)
+
+-- The compact text reads back.
+pub read_back : (d : Data) → IsOrdered d → HasWholeNumbers d → depth d ≤ max_depth → read (compact_text d) ≡ Some d
+read_back d o w shallow =
+    let j = outline d in
+    let ts = tree.json_tokens j in
+    let same : tokens (compact_text d) ≡ ts = ap tokens (sym (print-outline d)) ∙ tokens-print ts (ArePrintable-json_tokens j (numbers_outline d w)) in
+    let whole : json.value max_depth (tokens (compact_text d)) ≡ Some (j, []) =
+    ap (json.value max_depth) (same ∙ sym (append-nil ts)) ∙ value-json_tokens j max_depth [] (omega (arith, shallow, depth_outline d)) in
+    ap (λ r. option_and_then of_json (option_and_then (λ p. json.if_last p.0 p.1) r)) whole ∙ of_outline d o w
+
+-- ---- the text is UTF-8
+
+number_utf8 : (n : Num) → IsWholeNumber n → IsUtf8 (number_text n)
+number_utf8 (unsigned n) h = IsUtf8-from_ascii (decimal n) (IsAscii-decimal n h)
+number_utf8 (negative (pos n)) h = absurd h
+number_utf8 (negative (negsuc n)) h = IsUtf8-append (45 ∷ []) (decimal (suc n)) (IsUtf8-are_ascii (45 ∷ []) refl) (IsUtf8-from_ascii (decimal (suc n)) (IsAscii-decimal (suc n) (omega (arith, h))))
+number_utf8 (float x) h = absurd h
+
+one_byte : (x : ℕ) (xs : List ℕ) → nat_lt x 128 && true ≡ true → IsUtf8 xs → IsUtf8 (x ∷ xs)
+one_byte x xs small u = IsUtf8-append (x ∷ []) xs (IsUtf8-are_ascii (x ∷ []) small) u
+
+comma_utf8 : (b : Bool) → IsUtf8 (comma_if b)
+comma_utf8 true = IsUtf8-are_ascii (44 ∷ []) refl
+comma_utf8 false = IsUtf8-nil
+
+mutual
+  -- The compact text is UTF-8.
+  pub text_utf8 : (d : Data) → IsText d → HasWholeNumbers d → IsUtf8 (compact_text d)
+  text_utf8 null u w = IsUtf8-are_ascii (110 ∷ 117 ∷ 108 ∷ 108 ∷ []) refl
+  text_utf8 (boolean b) u w = IsUtf8-boolean b
+  text_utf8 (number n) u w = number_utf8 n w
+  text_utf8 (string s) u w = IsUtf8-quoted s u
+  text_utf8 (array ds) u w = one_byte 91 (items_text false ds) refl (items_utf8 false ds u w)
+  text_utf8 (object ms) u w = one_byte 123 (members_text false ms) refl (members_utf8 false ms u w)
+
+  items_utf8 : (later : Bool) (ds : Items) → AreTexts ds → HaveWholeNumbers ds → IsUtf8 (items_text later ds)
+  items_utf8 later no_items u w = IsUtf8-are_ascii (93 ∷ []) refl
+  items_utf8 later (item d ds) u w = IsUtf8-append (comma_if later) (compact_text d ++ items_text true ds) (comma_utf8 later) (IsUtf8-append (compact_text d) (items_text true ds) (text_utf8 d u.0 w.0) (items_utf8 true ds u.1 w.1))
+
+  members_utf8 : (later : Bool) (ms : Members) → HasTexts ms → MembersHaveWholeNumbers ms → IsUtf8 (members_text later ms)
+  members_utf8 later no_members u w = IsUtf8-are_ascii (125 ∷ []) refl
+  members_utf8 later (member k d ms) u w =
+      let rest = compact_text d ++ members_text true ms in
+      IsUtf8-append (comma_if later) (quoted k ++ 58 ∷ rest) (comma_utf8 later)
+      (IsUtf8-append (quoted k) (58 ∷ rest) (IsUtf8-quoted k u.0) (one_byte 58 rest refl (IsUtf8-append (compact_text d) (members_text true ms) (text_utf8 d u.1 w.0) (members_utf8 true ms u.2 w.1))))
+
+-- The bytes of the compact text are read as the value.
+pub reading_back : (d : Data) → IsText d → IsOrdered d → HasWholeNumbers d → depth d ≤ max_depth → reading (compact_text d) ≡ Some d
+reading_back d u o w shallow = rw (is_utf8-from_IsUtf8 (compact_text d) (text_utf8 d u w)) (read_back d o w shallow)

@@ -1,0 +1,10 @@
+pub mod Examples
+pub mod Misfit
+pub mod Names
+pub mod Canonical
+pub mod Pointer
+pub mod Rows
+pub mod Seen
+pub mod Spelled
+pub mod Table
+pub mod TooDeep

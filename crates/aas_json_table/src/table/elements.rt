@@ -1,0 +1,314 @@
+ghost use Rattle.std.specs.Prelude.{◌≡◌, map, Some, option_map};
+ghost use Rattle.aas_model_names.specs.KindNames.{name_of};
+ghost use Rattle.aas_json_table.specs.Names.{has};
+ghost use Rattle.aas_json_table.specs.Rows.{sorted, find};
+ghost use Rattle.aas_json_table.specs.Seen.{row_of, rows_seen};
+ghost use Rattle.aas_json_table.specs.Table.{model_types, data_elements, element, data_element};
+
+use super::MemberType::{Flag, Many, One, Text, Word};
+use super::common::{
+    CATEGORY, DESCRIPTION, DISPLAY_NAME, EMBEDDED_DATA_SPECIFICATIONS, EXTENSIONS, ID_SHORT,
+    MODEL_TYPE, QUALIFIERS, SEMANTIC_ID, SUPPLEMENTAL_SEMANTIC_IDS,
+};
+use super::{Class, Names, Row, Sort};
+use aas_model_names::{Kind, Named};
+
+/// Property.
+static PROPERTY: [Row; 13] = [
+    CATEGORY,
+    DESCRIPTION,
+    DISPLAY_NAME,
+    EMBEDDED_DATA_SPECIFICATIONS,
+    EXTENSIONS,
+    ID_SHORT,
+    MODEL_TYPE,
+    QUALIFIERS,
+    SEMANTIC_ID,
+    SUPPLEMENTAL_SEMANTIC_IDS,
+    optional!("value", Text, Class::V),
+    optional!("valueId", One(Sort::Reference)),
+    required!("valueType", Word(Names::ValueTypes)),
+];
+
+/// MultiLanguageProperty.
+static MULTI_LANGUAGE_PROPERTY: [Row; 12] = [
+    CATEGORY,
+    DESCRIPTION,
+    DISPLAY_NAME,
+    EMBEDDED_DATA_SPECIFICATIONS,
+    EXTENSIONS,
+    ID_SHORT,
+    MODEL_TYPE,
+    QUALIFIERS,
+    SEMANTIC_ID,
+    SUPPLEMENTAL_SEMANTIC_IDS,
+    optional!("value", Many(Sort::LangText), Class::V),
+    optional!("valueId", One(Sort::Reference)),
+];
+
+/// Range.
+static RANGE: [Row; 13] = [
+    CATEGORY,
+    DESCRIPTION,
+    DISPLAY_NAME,
+    EMBEDDED_DATA_SPECIFICATIONS,
+    EXTENSIONS,
+    ID_SHORT,
+    optional!("max", Text, Class::V),
+    optional!("min", Text, Class::V),
+    MODEL_TYPE,
+    QUALIFIERS,
+    SEMANTIC_ID,
+    SUPPLEMENTAL_SEMANTIC_IDS,
+    required!("valueType", Word(Names::ValueTypes)),
+];
+
+/// File.
+static FILE: [Row; 12] = [
+    CATEGORY,
+    required!("contentType", Text, Class::V),
+    DESCRIPTION,
+    DISPLAY_NAME,
+    EMBEDDED_DATA_SPECIFICATIONS,
+    EXTENSIONS,
+    ID_SHORT,
+    MODEL_TYPE,
+    QUALIFIERS,
+    SEMANTIC_ID,
+    SUPPLEMENTAL_SEMANTIC_IDS,
+    optional!("value", Text, Class::V),
+];
+
+/// Blob.
+static BLOB: [Row; 12] = [
+    CATEGORY,
+    required!("contentType", Text, Class::V),
+    DESCRIPTION,
+    DISPLAY_NAME,
+    EMBEDDED_DATA_SPECIFICATIONS,
+    EXTENSIONS,
+    ID_SHORT,
+    MODEL_TYPE,
+    QUALIFIERS,
+    SEMANTIC_ID,
+    SUPPLEMENTAL_SEMANTIC_IDS,
+    optional!("value", Text, Class::V),
+];
+
+/// ReferenceElement.
+static REFERENCE_ELEMENT: [Row; 11] = [
+    CATEGORY,
+    DESCRIPTION,
+    DISPLAY_NAME,
+    EMBEDDED_DATA_SPECIFICATIONS,
+    EXTENSIONS,
+    ID_SHORT,
+    MODEL_TYPE,
+    QUALIFIERS,
+    SEMANTIC_ID,
+    SUPPLEMENTAL_SEMANTIC_IDS,
+    optional!("value", One(Sort::Reference), Class::V),
+];
+
+/// RelationshipElement.
+static RELATIONSHIP_ELEMENT: [Row; 12] = [
+    CATEGORY,
+    DESCRIPTION,
+    DISPLAY_NAME,
+    EMBEDDED_DATA_SPECIFICATIONS,
+    EXTENSIONS,
+    required!("first", One(Sort::Reference), Class::V),
+    ID_SHORT,
+    MODEL_TYPE,
+    QUALIFIERS,
+    required!("second", One(Sort::Reference), Class::V),
+    SEMANTIC_ID,
+    SUPPLEMENTAL_SEMANTIC_IDS,
+];
+
+/// AnnotatedRelationshipElement.
+static ANNOTATED_RELATIONSHIP_ELEMENT: [Row; 13] = [
+    optional!("annotations", Many(Sort::DataElement), Class::V),
+    CATEGORY,
+    DESCRIPTION,
+    DISPLAY_NAME,
+    EMBEDDED_DATA_SPECIFICATIONS,
+    EXTENSIONS,
+    required!("first", One(Sort::Reference), Class::V),
+    ID_SHORT,
+    MODEL_TYPE,
+    QUALIFIERS,
+    required!("second", One(Sort::Reference), Class::V),
+    SEMANTIC_ID,
+    SUPPLEMENTAL_SEMANTIC_IDS,
+];
+
+/// Entity.
+static ENTITY: [Row; 14] = [
+    CATEGORY,
+    DESCRIPTION,
+    DISPLAY_NAME,
+    EMBEDDED_DATA_SPECIFICATIONS,
+    required!("entityType", Word(Names::EntityTypes), Class::V),
+    EXTENSIONS,
+    optional!("globalAssetId", Text, Class::V),
+    ID_SHORT,
+    MODEL_TYPE,
+    QUALIFIERS,
+    SEMANTIC_ID,
+    optional!("specificAssetIds", Many(Sort::SpecificAssetId), Class::V),
+    optional!("statements", Many(Sort::Element), Class::V),
+    SUPPLEMENTAL_SEMANTIC_IDS,
+];
+
+/// BasicEventElement.
+static BASIC_EVENT_ELEMENT: [Row; 18] = [
+    CATEGORY,
+    DESCRIPTION,
+    required!("direction", Word(Names::Directions)),
+    DISPLAY_NAME,
+    EMBEDDED_DATA_SPECIFICATIONS,
+    EXTENSIONS,
+    ID_SHORT,
+    optional!("lastUpdate", Text),
+    optional!("maxInterval", Text),
+    optional!("messageBroker", One(Sort::Reference)),
+    optional!("messageTopic", Text),
+    optional!("minInterval", Text),
+    MODEL_TYPE,
+    required!("observed", One(Sort::Reference), Class::V),
+    QUALIFIERS,
+    SEMANTIC_ID,
+    required!("state", Word(Names::StatesOfEvent)),
+    SUPPLEMENTAL_SEMANTIC_IDS,
+];
+
+/// Capability.
+static CAPABILITY: [Row; 10] = [
+    CATEGORY,
+    DESCRIPTION,
+    DISPLAY_NAME,
+    EMBEDDED_DATA_SPECIFICATIONS,
+    EXTENSIONS,
+    ID_SHORT,
+    MODEL_TYPE,
+    QUALIFIERS,
+    SEMANTIC_ID,
+    SUPPLEMENTAL_SEMANTIC_IDS,
+];
+
+/// Operation.
+static OPERATION: [Row; 13] = [
+    CATEGORY,
+    DESCRIPTION,
+    DISPLAY_NAME,
+    EMBEDDED_DATA_SPECIFICATIONS,
+    EXTENSIONS,
+    ID_SHORT,
+    optional!("inoutputVariables", Many(Sort::OperationVariable), Class::V),
+    optional!("inputVariables", Many(Sort::OperationVariable), Class::V),
+    MODEL_TYPE,
+    optional!("outputVariables", Many(Sort::OperationVariable), Class::V),
+    QUALIFIERS,
+    SEMANTIC_ID,
+    SUPPLEMENTAL_SEMANTIC_IDS,
+];
+
+/// SubmodelElementCollection.
+static SUBMODEL_ELEMENT_COLLECTION: [Row; 11] = [
+    CATEGORY,
+    DESCRIPTION,
+    DISPLAY_NAME,
+    EMBEDDED_DATA_SPECIFICATIONS,
+    EXTENSIONS,
+    ID_SHORT,
+    MODEL_TYPE,
+    QUALIFIERS,
+    SEMANTIC_ID,
+    SUPPLEMENTAL_SEMANTIC_IDS,
+    optional!("value", Many(Sort::Element), Class::V),
+];
+
+/// SubmodelElementList.
+static SUBMODEL_ELEMENT_LIST: [Row; 15] = [
+    CATEGORY,
+    DESCRIPTION,
+    DISPLAY_NAME,
+    EMBEDDED_DATA_SPECIFICATIONS,
+    EXTENSIONS,
+    ID_SHORT,
+    MODEL_TYPE,
+    optional!("orderRelevant", Flag),
+    QUALIFIERS,
+    SEMANTIC_ID,
+    optional!("semanticIdListElement", One(Sort::Reference)),
+    SUPPLEMENTAL_SEMANTIC_IDS,
+    required!("typeValueListElement", Word(Names::ElementNames)),
+    optional!("value", Many(Sort::Element), Class::V),
+    optional!("valueTypeListElement", Word(Names::ValueTypes)),
+];
+
+/// The rows of a submodel element whose kind has this name.
+pub(super) fn element_rows(name: &str) -> Option<&'static [Row]>
+    ensures { rows_seen result ≡ option_map sorted (find name.now (model_types element)) }
+{
+    match Kind::from_name(name) {
+        Some(kind) => Some(rows_of_kind(kind)),
+        None => None,
+    }
+}
+
+/// The rows of a data element whose kind has this name.
+pub(super) fn data_element_rows(name: &str) -> Option<&'static [Row]>
+    ensures { rows_seen result ≡ option_map sorted (find name.now (model_types data_element)) }
+{
+    match Kind::from_name(name) {
+        Some(kind) => data_rows_of_kind(kind),
+        None => None,
+    }
+}
+
+fn rows_of_kind(kind: Kind) -> &'static [Row]
+    ensures { option_map sorted (find (name_of kind) (model_types element)) ≡ Some (map row_of result.now) }
+{
+    match kind {
+        Kind::Property => &PROPERTY,
+        Kind::MultiLanguageProperty => &MULTI_LANGUAGE_PROPERTY,
+        Kind::Range => &RANGE,
+        Kind::File => &FILE,
+        Kind::Blob => &BLOB,
+        Kind::ReferenceElement => &REFERENCE_ELEMENT,
+        Kind::RelationshipElement => &RELATIONSHIP_ELEMENT,
+        Kind::AnnotatedRelationshipElement => &ANNOTATED_RELATIONSHIP_ELEMENT,
+        Kind::Entity => &ENTITY,
+        Kind::BasicEventElement => &BASIC_EVENT_ELEMENT,
+        Kind::Capability => &CAPABILITY,
+        Kind::Operation => &OPERATION,
+        Kind::SubmodelElementCollection => &SUBMODEL_ELEMENT_COLLECTION,
+        Kind::SubmodelElementList => &SUBMODEL_ELEMENT_LIST,
+    }
+}
+
+fn data_rows_of_kind(kind: Kind) -> Option<&'static [Row]>
+    ensures { rows_seen result ≡ option_map sorted (find (name_of kind) (model_types data_element)) }
+{
+    if is_data_element(kind) {
+        Some(rows_of_kind(kind))
+    } else {
+        None
+    }
+}
+
+fn is_data_element(kind: Kind) -> bool
+    ensures { result ≡ has data_elements (name_of kind) }
+{
+    matches!(
+        kind,
+        Kind::Property
+            | Kind::MultiLanguageProperty
+            | Kind::Range
+            | Kind::File
+            | Kind::Blob
+            | Kind::ReferenceElement
+    )
+}

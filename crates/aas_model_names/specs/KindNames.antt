@@ -1,0 +1,60 @@
+-- The names of `Kind`. IDTA-01001-3-0: the classes under SubmodelElement that are not abstract.
+use Rattle.std.specs.Prelude.{◌≡◌, ℕ, List, [], ◌∷◌, Some, codes, bytes_eq, refl}
+use Rattle.std.specs.List.{find}
+use Rattle.aas_model_names.specs.Names.{names_of}
+use Rattle.aas_model_names.specs.declared.kind.Kind.{Kind}
+use Rattle.aas_model_names.specs.declared.kind.Kind.TheVariants.{Property, MultiLanguageProperty, Range, File, Blob, ReferenceElement, RelationshipElement, AnnotatedRelationshipElement, Entity, BasicEventElement, Capability, Operation, SubmodelElementCollection, SubmodelElementList}
+
+abbrev pub name_of : Kind → List ℕ
+name_of Property = codes "Property"
+name_of MultiLanguageProperty = codes "MultiLanguageProperty"
+name_of Range = codes "Range"
+name_of File = codes "File"
+name_of Blob = codes "Blob"
+name_of ReferenceElement = codes "ReferenceElement"
+name_of RelationshipElement = codes "RelationshipElement"
+name_of AnnotatedRelationshipElement = codes "AnnotatedRelationshipElement"
+name_of Entity = codes "Entity"
+name_of BasicEventElement = codes "BasicEventElement"
+name_of Capability = codes "Capability"
+name_of Operation = codes "Operation"
+name_of SubmodelElementCollection = codes "SubmodelElementCollection"
+name_of SubmodelElementList = codes "SubmodelElementList"
+
+abbrev pub all : List Kind
+all =
+    Property ∷
+    MultiLanguageProperty ∷
+    Range ∷
+    File ∷
+    Blob ∷
+    ReferenceElement ∷
+    RelationshipElement ∷
+    AnnotatedRelationshipElement ∷
+    Entity ∷
+    BasicEventElement ∷
+    Capability ∷
+    Operation ∷
+    SubmodelElementCollection ∷
+    SubmodelElementList ∷
+    []
+
+abbrev pub names : List (List ℕ)
+names = names_of name_of all
+
+-- each value is the first of all that has its name
+pub found : (v : Kind) → find (λ u. bytes_eq (name_of u) (name_of v)) all ≡ Some v
+found Property = refl
+found MultiLanguageProperty = refl
+found Range = refl
+found File = refl
+found Blob = refl
+found ReferenceElement = refl
+found RelationshipElement = refl
+found AnnotatedRelationshipElement = refl
+found Entity = refl
+found BasicEventElement = refl
+found Capability = refl
+found Operation = refl
+found SubmodelElementCollection = refl
+found SubmodelElementList = refl

@@ -1,5 +1,0 @@
-use Rattle.aas_rules.proofs.Forms.{identifier_tells}
-use Rattle.aas_rules.proofs.laws.identifiers_are_told.Goals as goal
-
-pub returns : goal.returns
-returns c = identifier_tells

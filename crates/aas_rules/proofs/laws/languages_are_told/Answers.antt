@@ -1,5 +1,0 @@
-use Rattle.aas_rules.proofs.Forms.{language_tells}
-use Rattle.aas_rules.proofs.laws.languages_are_told.Goals as goal
-
-pub returns : goal.returns
-returns c = language_tells

@@ -1,5 +1,0 @@
-use Rattle.aas_rules.proofs.Forms.{media_type_tells}
-use Rattle.aas_rules.proofs.laws.media_types_are_told.Goals as goal
-
-pub returns : goal.returns
-returns c = media_type_tells

@@ -1,5 +1,0 @@
-use Rattle.aas_rules.proofs.Forms.{string_tells}
-use Rattle.aas_rules.proofs.laws.strings_are_told.Goals as goal
-
-pub returns : goal.returns
-returns c = string_tells

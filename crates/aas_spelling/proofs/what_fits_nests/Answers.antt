@@ -1,6 +1,0 @@
-use Rattle.aas_table.specs.Table.{one}
-use Rattle.aas_spelling.proofs.Nesting.{fits_whole}
-use Rattle.aas_spelling.proofs.what_fits_nests.Goals as goal
-
-pub returns-clause-numbers : goal.returns-clause-numbers
-returns-clause-numbers c s j fits = fits_whole j (one s) fits
