@@ -10,6 +10,7 @@ pub mod Members
 pub mod Nesting
 pub mod Objects
 pub mod Canonicals
+pub mod Conforms
 pub mod Reading
 pub mod Rows
 pub mod Views

@@ -11,7 +11,7 @@ use Rattle.aas_json_spelling.proofs.Fits.{first_none, map_none}
 
 -- ---- the row of a member that fits
 
-row_of : (k : List ℕ) (d : Data) (o : Option Row) → misfit_member k o (λ f. misfit f d) ≡ None → (r : Row) × (o ≡ Some r) × (misfit r.member_type d ≡ None)
+pub row_of : (k : List ℕ) (d : Data) (o : Option Row) → misfit_member k o (λ f. misfit f d) ≡ None → (r : Row) × (o ≡ Some r) × (misfit r.member_type d ≡ None)
 row_of k d None e = cc
 row_of k d (Some r) e = (r, refl, map_none (λ p. in_member k ∷ p) (misfit r.member_type d) e)
 

@@ -7,14 +7,15 @@
 
 #![tactic(auto)]
 
-ghost use Rattle.std.specs.Prelude.{◌≡◌, ◌≤◌, ℕ, List, Some, None, is_some, true};
+ghost use Rattle.std.specs.Prelude.{◌≡◌, ◌↔◌, ◌≤◌, ℕ, List, Some, None, is_some, true};
 ghost use Rattle.std.specs.Str.{IsUtf8};
 ghost use Rattle.serde_json.specs.Data.{Data, depth};
 ghost use Rattle.serde_json.specs.Read.{read, max_depth};
 ghost use Rattle.serde_json.specs.Written.{compact_text};
 ghost use Rattle.serde_json.specs.View.{view};
 ghost use Rattle.serde_json.specs.declared.value.Value.{Value};
-ghost use Rattle.aas_json_table.specs.Table.{Sort, one, kept};
+ghost use Rattle.aas_json_table.specs.Table.{Sort, MemberType, one, kept};
+ghost use Rattle.aas_json_table.specs.Conforms.{Conforms};
 ghost use Rattle.aas_json_table.specs.Misfit.{misfit};
 ghost use Rattle.aas_json_table.specs.TooDeep.{Levels, too_deep};
 ghost use Rattle.aas_json_table.specs.Canonical.{canonical};
@@ -24,6 +25,13 @@ ghost use Rattle.aas_json_spelling.specs.Spells.{IsWithinLimits};
 ghost use Rattle.aas_json_spelling.specs.Good.{Good};
 ghost use Rattle.aas_json_spelling.specs.Kept.{spell_kept, IsWholeKept};
 ghost use Rattle.aas_json_spelling.specs.Reading.{reading};
+
+/// A value conforms to the type of a member exactly where it has no mapping fault and nothing in it lies too deep.
+#[tactic(auto, using(crate::proofs::Conforms::conforms_where_clear))]
+pub fn what_conforms_has_no_fault()
+    ensures { (left : Levels) (f : MemberType) (j : Data) →
+        Conforms left f j ↔ ((misfit f j ≡ None) × (too_deep f j left ≡ None)) }
+{}
 
 /// An object that fits has a canonical value.
 #[tactic(auto, using(crate::proofs::Fits::fits_one))]

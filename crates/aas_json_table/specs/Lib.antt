@@ -1,3 +1,4 @@
+pub mod Conforms
 pub mod Examples
 pub mod Misfit
 pub mod Names
