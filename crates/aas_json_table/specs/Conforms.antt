@@ -1,4 +1,5 @@
--- That a JSON value has the type of a member by the attribute table (the JSON mapping of IDTA-01001-3-0), where so many levels are left.
+-- That a JSON value has the type of a member by the attribute table (the JSON mapping of IDTA-01001-3-0), where so many levels are left: one rule for each way to have one.
+-- No rule speaks of an order or a place. The walks `misfit` and `too_deep` find nothing exactly where a value conforms. The levels are this profile's own rule.
 use Rattle.std.specs.Prelude.{◌≡◌, ◌⊎◌, ℕ, List, Bool, true, Some, IsSome, All}
 use Rattle.serde_json.specs.Data.{Data, null, boolean, string, array, object, Items, no_items, item, Members, no_members, member}
 use Rattle.serde_json.specs.Find.{get_member}
