@@ -11,7 +11,7 @@ use Rattle.aas_model.specs.declared.element.Element.TheFolds.{ind-Element, fold-
 use Rattle.aas_model.specs.declared.element.Role.{Role}
 use Rattle.aas_model.specs.declared.payload.Payload.{Payload}
 use Rattle.aas_json_spelling.specs.Lists.{Each, most}
-use Rattle.aas_json_spelling.proofs.Rows.{and_left, and_right}
+use Rattle.aas_lemmas.proofs.Truth.{and_left, and_right}
 use Rattle.aas_json_mapping.specs.Elements.{Child, element_attributes, rows_for, model_type_of, spell_over, spelled_child, spell_element}
 use Rattle.aas_json_mapping.specs.Whole.{whole_common, whole_payload, has_whole_parts, is_data_element, Placed, admits, rank, in_order, placed_over, is_placed, element_levels}
 
@@ -27,7 +27,7 @@ role_of e = (out-Element e).role
 
 -- ---- induction
 
-each_within : (P : Element → Type 0) (ks : List ((e : Element) × P e)) → Each P (map (λ k. k.0) ks)
+pub each_within : (P : Element → Type 0) (ks : List ((e : Element) × P e)) → Each P (map (λ k. k.0) ks)
 each_within P [] = tt
 each_within P (k ∷ ks) = (k.1, each_within P ks)
 

@@ -25,7 +25,7 @@ use Rattle.aas_model.specs.declared.payload.Payload.{Payload}
 use Rattle.aas_model.specs.declared.payload.Payload.TheVariants as p
 use Rattle.aas_json_spelling.specs.Lists.{Each}
 use Rattle.aas_json_spelling.specs.Values.{IsText, HasTexts}
-use Rattle.aas_json_spelling.proofs.Rows.{and_left, and_right}
+use Rattle.aas_lemmas.proofs.Truth.{and_left, and_right}
 use Rattle.aas_json_spelling.proofs.Objects.{Agree}
 use Rattle.aas_json_spelling.proofs.Exists.{IsSpelled, Kinds, IsTree, Gives, Model, there, named_there, named_if, as_itself, part_tree, tree}
 use Rattle.aas_reference.specs.Spelling.{spell_reference}

@@ -11,7 +11,7 @@ use Rattle.aas_json_table.specs.Names.{has}
 use Rattle.aas_json_table.specs.Table.{element, data_element, word, text, Row, model_types}
 use Rattle.aas_json_table.specs.Rows.{find, sorted, choose, rows_of}
 use Rattle.aas_json_table.specs.Canonical.{canonical, canonical_member}
-use Rattle.aas_json_spelling.proofs.Rows.{and_left, and_right}
+use Rattle.aas_lemmas.proofs.Truth.{and_left, and_right}
 use Rattle.aas_json_members.proofs.Lookup.{canonical_member_is}
 use Rattle.aas_json_mapping.specs.Elements.{rows_for}
 use Rattle.aas_model.specs.declared.element.Role.{Role}

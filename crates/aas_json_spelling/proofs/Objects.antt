@@ -3,7 +3,7 @@ use Rattle.std.proofs.Common.{◌≡◌, ℕ, List, [], ◌∷◌, ◌&&◌, Boo
 use Rattle.std.specs.Cmp.Lexicographic.{slice_cmp}
 use Rattle.std.specs.Ordering.{match_ordering}
 use Rattle.std.proofs.lemmas.Option.{cond_some}
-use Rattle.aas_lemmas.proofs.Truth.{Less-from_is_lt}
+use Rattle.aas_lemmas.proofs.Truth.{and_left, and_right, Less-from_is_lt}
 use Rattle.serde_json.specs.Data.{Data, object, Members, no_members, member}
 use Rattle.serde_json.specs.Find.{get_member}
 use Rattle.aas_json_table.specs.Table.{Sort, MemberType, one, Row}
@@ -14,7 +14,7 @@ use Rattle.aas_json_table.specs.Canonical.{canonical, canonical_member, canonica
 use Rattle.aas_json_table.specs.Spelled.{Attributes, attribute, spelled}
 use Rattle.aas_json_spelling.specs.Values.{IsOrdered, AreAbove, HasOrder}
 use Rattle.aas_json_spelling.specs.Good.{Good}
-use Rattle.aas_json_spelling.proofs.Rows.{and_left, and_right, is_below, rising, itself, other, other_back, AllNamed, named}
+use Rattle.aas_json_spelling.proofs.Rows.{is_below, rising, itself, other, other_back, AllNamed, named}
 use Rattle.aas_json_spelling.proofs.Fits.{first_none, map_none}
 
 -- ---- what stands under a name

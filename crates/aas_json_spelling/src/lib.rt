@@ -16,7 +16,9 @@ ghost use Rattle.serde_json.specs.View.{view};
 ghost use Rattle.serde_json.specs.declared.value.Value.{Value};
 ghost use Rattle.aas_json_table.specs.Table.{Sort, MemberType, one, kept};
 ghost use Rattle.aas_json_table.specs.Conforms.{Conforms};
+ghost use Rattle.aas_json_table.specs.Departs.{Departs};
 ghost use Rattle.aas_json_table.specs.Misfit.{misfit};
+ghost use Rattle.aas_json_table.specs.Rows.{Pointer};
 ghost use Rattle.aas_json_table.specs.TooDeep.{Levels, too_deep};
 ghost use Rattle.aas_json_table.specs.Canonical.{canonical};
 ghost use Rattle.aas_model.specs.declared.plain.Plain.{Plain};
@@ -31,6 +33,12 @@ ghost use Rattle.aas_json_spelling.specs.Reading.{reading};
 pub fn what_conforms_has_no_fault()
     ensures { (left : Levels) (f : MemberType) (j : Data) →
         Conforms left f j ↔ ((misfit f j ≡ None) × (too_deep f j left ≡ None)) }
+{}
+
+/// The pointer that is named as the first mapping fault leads to a place that departs from the table.
+#[tactic(auto, using(crate::proofs::Departs::departs))]
+pub fn what_is_named_departs()
+    ensures { (f : MemberType) (j : Data) (p : Pointer) → misfit f j ≡ Some p → Departs f j p }
 {}
 
 /// An object that fits has a canonical value.
