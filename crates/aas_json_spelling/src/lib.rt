@@ -1,9 +1,9 @@
 //! When a JSON value spells a tree, by the attribute table of the JSON mapping of IDTA-01001-3-0, and what a reader answers.
 //!
-//! The functions here do nothing: their contracts are the laws that hold of every sort of tree, and of kept data. The
-//! crates that have the trees show five facts of each sort (`proofs/Laws.antt`), and have from them that a whole tree
-//! reads as itself, that a value spells one tree at most, and that of each value exactly one holds: it spells one
-//! tree, it has a mapping fault, or it lies too deep.
+//! The functions here do nothing: their contracts are the laws that hold of every sort of tree, of the walks by the
+//! table, and of kept data. A crate that has trees of its own shows five facts of each sort (`proofs/Laws.antt`), and
+//! has from them all the laws of the mapping of that sort (`specs/Mapped.antt`). How one sort is spelled, and which of
+//! its trees are whole, stands in those crates, and so do readers and writers.
 
 #![tactic(auto)]
 
