@@ -4,7 +4,8 @@ use Rattle.std.specs.Prelude.{nat_le}
 use Rattle.std.specs.List.{list_all}
 use Rattle.std.proofs.lemmas.Bool.{and_parts}
 use Rattle.aas_json_table.specs.TooDeep.{limits}
-use Rattle.aas_json_mapping.specs.Whole.{whole_common, whole_payload, has_whole_parts, Placed, placed_over, is_placed, max_of, element_levels, is_member, is_whole_child, is_whole_element, whole_head, whole_semantics, whole_qualifier, is_whole_submodel}
+use Rattle.aas_json_spelling.specs.Lists.{most}
+use Rattle.aas_json_mapping.specs.Whole.{whole_common, whole_payload, has_whole_parts, Placed, placed_over, is_placed, element_levels, is_member, is_whole_child, is_whole_element, whole_head, whole_semantics, whole_qualifier, is_whole_submodel}
 use Rattle.aas_model.specs.declared.common.Common.{Common}
 use Rattle.aas_model.specs.declared.documents.Submodel.{Submodel}
 use Rattle.aas_model.specs.declared.element.Element.{Element, out-Element, roll-Element, out-roll-Element, fold-Element, fold_out-Element, ind-Element}
@@ -102,7 +103,7 @@ module _ {T : Type 0} (f : Element-F T → T) where
 -- ---- places and levels
 
 abbrev levels_over : Element-F ℕ → ℕ
-levels_over e = suc (max_of e.kids)
+levels_over e = suc (most e.kids)
 
 abbrev parts_over : Element-F Bool → Bool
 parts_over e = whole_common limits e.common && whole_payload limits e.payload && list_all (λ b. b) e.kids
