@@ -1,6 +1,6 @@
 mod Adding
+pub mod FirstLaws
 mod Firsts
-pub mod Laws
 mod Lengths
 mod Texts
 mod Values
