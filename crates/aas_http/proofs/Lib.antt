@@ -1,0 +1,6 @@
+mod Adding
+mod Firsts
+pub mod Laws
+mod Lengths
+mod Texts
+mod Values

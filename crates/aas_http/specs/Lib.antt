@@ -1,0 +1,10 @@
+pub mod BodyLength
+pub mod Close
+pub mod FirstRequest
+pub mod Found
+pub mod Gathering
+pub mod Head
+pub mod NotImplemented
+pub mod OnlyValue
+pub mod ReplyText
+pub mod Steps
