@@ -5,3 +5,4 @@ pub mod Kept
 pub mod Object
 pub mod Ordered
 pub mod Said
+pub mod Writes

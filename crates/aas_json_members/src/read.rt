@@ -8,11 +8,11 @@ ghost use Rattle.aas_json_spelling.specs.Reads.{Reads, ReadsBytes};
 ghost use Rattle.aas_json_members.specs.Said.{said, Checks, GivesValue};
 
 use crate::parts::Part;
-use aas_model::ReadFault;
 use aas_json_table::misfit::misfit;
 use aas_json_table::pointer::pointer;
 use aas_json_table::table::{MemberType, Sort};
 use aas_json_table::too_deep::{Levels, too_deep};
+use aas_model::ReadFault;
 use serde_json::Value;
 use std::alloc::Global;
 

@@ -9,9 +9,9 @@ use crate::{
     list_value, one_member, optional_value, optional_word, read_bytes, read_value, string_member,
     text_value, word_member, word_value,
 };
-use aas_model::{Direction, Key, NoMemory, ReadFault};
 use aas_json_table::table::Sort;
 use aas_json_table::too_deep::Levels;
+use aas_model::{Direction, Key, NoMemory, ReadFault};
 use serde_json::{Map, Value};
 use std::alloc::Global;
 

@@ -34,14 +34,14 @@ all_there ms all (r ∷ rs) named e each = row_there r.required (is_there (get_m
 
 -- ---- the induction
 
-abbrev no_fault : Option Pointer
+abbrev pub no_fault : Option Pointer
 no_fault = None
 
 word_fits : (b : Bool) (s : List ℕ) → (if b then no_fault else Some []) ≡ no_fault → is_some (if b then Some (string s) else None) ≡ true
 word_fits true s e = refl
 word_fits false s e = cc
 
-one_there : (s : Sort) (d : Data) → misfit (one s) d ≡ None → is_there (Some d) ≡ true
+pub one_there : (s : Sort) (d : Data) → misfit (one s) d ≡ None → is_there (Some d) ≡ true
 one_there s (object ms) e = refl
 one_there s null e = cc
 one_there s (boolean b) e = cc

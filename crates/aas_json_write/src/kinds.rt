@@ -10,7 +10,9 @@ ghost use Rattle.aas_json_write.specs.Rows.{with_own};
 ghost use Rattle.aas_model.specs.declared.payload.Payload.TheVariants as p;
 
 use crate::sorts::{LangTexts, SpecificAssetIds};
-use aas_json_members::{Flags, Object, Texts, list_value, optional_value, optional_word, word_value};
+use aas_json_members::{
+    Flags, Object, Texts, list_value, optional_value, optional_word, word_value,
+};
 use aas_model::{
     Direction, ElementName, EntityType, LangText, Many, NoMemory, Payload, Reference,
     SpecificAssetId, StateOfEvent, Text, ValueType,

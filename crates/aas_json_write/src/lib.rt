@@ -18,7 +18,7 @@ mod sorts;
 mod write;
 
 pub use elements::element_value;
-pub use laws::whole_trees_are_in_order;
+pub use laws::{forms_are_in_order, whole_trees_are_in_order};
 pub use sorts::SpecificAssetIds;
 pub use write::{
     write_asset_information, write_concept, write_element, write_environment, write_shell,

@@ -4,8 +4,11 @@ ghost use Rattle.aas_outside.specs.Faults.{HasCause};
 ghost use Rattle.aas_outside.specs.Link.{Takes, Gives};
 ghost use Rattle.aas_outside.specs.Surroundings.{Surroundings, no_surroundings};
 
+use thiserror::Error;
+
 /// A call on an end failed. The end's count of faults says so too.
-#[derive(Clone, Copy, Debug, PartialEq, Eq)]
+#[derive(Clone, Copy, Debug, PartialEq, Eq, Error)]
+#[error("the end failed")]
 pub struct Failed;
 
 /// One connection: bytes are taken from its peer and given to it.

@@ -1,6 +1,6 @@
 ghost use Rattle.std.specs.Prelude.{◌≡◌, ◌<◌, ◌↔◌, [], ◌∷◌, ◌++◌, length, Some, None, Ok, Err, IfOk, IfErr, OnOk, OnErr, IfSome, MatchOption, true, false};
 ghost use Rattle.aas_path_trees.specs.ElementAt.{element_at, depth_found};
-ghost use Rattle.aas_path_trees.specs.Edits.{fits_role, inserted, is_data, replaced, role_under, role_within, with_last};
+ghost use Rattle.aas_path_trees.specs.Edits.{fits_role, inserted, replaced, role_under, role_within, with_last};
 ghost use Rattle.aas_path_trees.specs.Children.{role_of, with_role};
 ghost use Rattle.aas_model.specs.declared.path.Missing.{Missing};
 ghost use Rattle.aas_path.specs.Refusals.{IsMissing, IsNoContainer, IsUnfit};
@@ -8,30 +8,20 @@ ghost use Rattle.aas_path.specs.Refusals.{IsMissing, IsNoContainer, IsUnfit};
 use crate::lending::at_mut;
 use aas_model::{Element, Many, Missing, NoMemory, Path, Payload, Role, Submodel};
 use std::mem;
+use thiserror::Error;
 
 /// Why an element is not inserted.
-#[derive(Debug, Drop)]
+#[derive(Debug, Drop, Error)]
 pub enum InsertFault {
     /// The path leads to no element.
+    #[error(transparent)]
     Missing(Missing),
     /// The path leads to an element that has no children, or to an annotated relationship, and what is to be its annotation is no data
     /// element.
+    #[error("the element does not take this one as a child")]
     NotAContainer,
+    #[error("memory was refused")]
     NoMemory,
-}
-
-fn is_data(payload: &Payload) -> bool
-    ensures { result ≡ is_data payload.now }
-{
-    match payload {
-        Payload::Property { .. }
-        | Payload::MultiLanguageProperty { .. }
-        | Payload::Range { .. }
-        | Payload::File { .. }
-        | Payload::Blob { .. }
-        | Payload::ReferenceElement { .. } => true,
-        _ => false,
-    }
 }
 
 fn role_within(payload: &Payload) -> Option<Role>
@@ -52,7 +42,7 @@ fn fits_role(element: &Element, role: Role) -> bool
     ensures { result ≡ fits_role element.now role }
 {
     match role {
-        Role::Annotation => is_data(&element.payload),
+        Role::Annotation => element.payload.kind().is_data_element(),
         _ => true,
     }
 }
@@ -114,11 +104,13 @@ pub fn insert(submodel: &mut Submodel, path: &Path, element: Element) -> Result<
 }
 
 /// Why an element is not replaced.
-#[derive(Debug, Drop)]
+#[derive(Debug, Drop, Error)]
 pub enum ReplaceFault {
     /// The path leads to no element.
+    #[error(transparent)]
     Missing(Missing),
     /// The path leads to an annotation, and what is to take its place is no data element.
+    #[error("an annotation is a data element")]
     NotAContainer,
 }
 

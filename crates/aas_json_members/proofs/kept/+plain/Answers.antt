@@ -5,7 +5,7 @@ use Rattle.serde_json.proofs.Views.{view-Object}
 use Rattle.aas_json_table.specs.Table.{plain}
 use Rattle.aas_json_table.specs.Canonical.{canonical, canonical_all}
 use Rattle.aas_json_members.proofs.Pairs.{spell_map}
-use Rattle.aas_json_members.proofs.kept.+canonical.Goals as goal
+use Rattle.aas_json_members.proofs.kept.+plain.Goals as goal
 
 pub plain_of-returns-in_ok-pairs_in-in-Object : goal.plain_of-returns-in_ok-pairs_in-in-Object
 plain_of-returns-in_ok-pairs_in-in-Object t c =

@@ -5,7 +5,7 @@ use Rattle.aas_json_table.specs.Canonical.{canonical_items, canonical_all}
 use Rattle.aas_json_table.specs.Spelled.{onto}
 use Rattle.aas_json_spelling.specs.Kept.{spell_plain}
 use Rattle.aas_json_members.specs.Kept.{pairs_onto}
-use Rattle.aas_json_members.proofs.kept.+canonical.Given as goal
+use Rattle.aas_json_members.proofs.kept.+plain.Given as goal
 
 -- what was found, before what is left, is what all says
 abbrev pub invariant-plains_in-loop-item : goal.invariant-plains_in-loop-item
