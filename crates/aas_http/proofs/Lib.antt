@@ -1,4 +1,5 @@
 mod Adding
+mod Awaiting
 mod Firsts
 pub mod Laws
 mod Lengths

@@ -6,10 +6,12 @@
 
 mod fields;
 mod gathering;
+mod length;
 mod replies;
 mod request;
 mod send;
 
+pub use length::whole_length;
 pub use replies::Reply;
 pub use request::{Request, Step, is_blank, next_request};
 pub use send::reply;
