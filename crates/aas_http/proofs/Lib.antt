@@ -1,5 +1,6 @@
 mod Adding
 pub mod FirstLaws
+mod Awaiting
 mod Firsts
 mod Lengths
 mod Texts
