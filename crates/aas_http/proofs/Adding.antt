@@ -1,10 +1,10 @@
 -- What bytes added one after another do to what is sent.
-use Rattle.std.proofs.Common.{◌≡◌, ◌≤◌, ℕ, ◌+◌, Bool, true, false, List, [], ◌∷◌, ◌++◌, length, take, drop, Option, Some, None, refl, sym, ◌∙◌, ap, arith, append_assoc, length-append, subst, Result, Ok, Err}
+use Rattle.std.proofs.Common.{◌≡◌, ◌≤◌, ℕ, ◌+◌, Bool, true, false, List, [], ◌++◌, length, take, Option, Some, None, refl, sym, ◌∙◌, ap, arith, append_assoc, length-append, subst, Result, Ok, Err}
 use Rattle.std.proofs.Math.Seq.{take-append-add}
 use Rattle.std.proofs.lemmas.List.{take-append-le, append-nil}
 use Rattle.std.specs.Prelude.{OnOk, OnErr}
 use Rattle.std.specs.Io.KnownBytes.{append_known}
-use Rattle.aas_outside.specs.Faults.{Rose, HasCause}
+use Rattle.aas_outside.specs.Faults.{HasCause}
 use Rattle.aas_outside.specs.Link.{GivesFront}
 use Rattle.aas_outside.proofs.KnownBytes.{append_known-more}
 use Rattle.aas_http.specs.Gathering.{GatheringState, IsUnderWay, AddsBy, Adds, Gives, FinishesBy}

@@ -1,5 +1,5 @@
 -- What bytes begin with, by their head.
-use Rattle.std.proofs.Common.{◌≡◌, if◌then◌else◌, ◌⊎◌, inl, inr, ⊎_elim, ℕ, ◌+◌, ◌-◌, ◌<◌, ◌≤◌, min, Bool, true, false, cond, List, [], ◌∷◌, ◌++◌, length, take, drop, map, Option, Some, None, refl, sym, ap, ◌∙◌, subst, arith, append_assoc, length-append, take-append-drop, length-drop}
+use Rattle.std.proofs.Common.{◌≡◌, if◌then◌else◌, inl, inr, ⊎_elim, ℕ, ◌+◌, ◌<◌, ◌≤◌, min, Bool, true, false, List, [], ◌∷◌, ◌++◌, length, take, drop, map, Option, Some, None, refl, sym, ap, ◌∙◌, subst, arith, append_assoc, length-append, take-append-drop}
 use Rattle.std.specs.Prelude.{nat_lt, nat_le, ◌==◌, ◌||◌}
 use Rattle.http1.specs.Fields.{Header, known_fields}
 use Rattle.http1.specs.declared.fields.KnownFields.{KnownFields}
@@ -17,7 +17,7 @@ use Rattle.aas_http.specs.BodyLength.{body_limit, body_length}
 use Rattle.aas_http.specs.Close.{asks_to_close}
 use Rattle.aas_http.specs.Head.{head_limit, Admits, AdmitsNone, fields_of}
 use Rattle.aas_http.specs.NotImplemented.{is_not_implemented}
-use Rattle.aas_http.specs.FirstRequest.{Message, FirstRequest, Nothing, Bad, TooLarge, NotImplemented, Whole, ends_line, IsBlank, message, first_with_body, first_by_length, first_of_head, IsFirstRequest}
+use Rattle.aas_http.specs.FirstRequest.{Message, FirstRequest, Bad, TooLarge, NotImplemented, Whole, ends_line, IsBlank, message, first_with_body, first_by_length, first_of_head, IsFirstRequest}
 use Rattle.aas_http.specs.Steps.{AwaitsBody}
 use Rattle.aas_http.specs.Found.{IsFound}
 use Rattle.std.specs.Str.{IsUtf8}
@@ -59,7 +59,7 @@ module _ (b front : List ℕ) (spans : RequestSpans) (fields : List HeaderSpan) 
   module _ (n : ℕ) (said : Some n ≡ body_length (fields_of F.head)) where
     pub too_large : body_limit < n → (more : List ℕ) → IsFirstRequest (b ++ more) TooLarge
     too_large over more = by_head b F.head rest F.some F.admits more TooLarge (
-      sym (cond-true _ _ _ (lt-ltb body_limit n over)) ∙ ap (λ r. first_by_length F.head r (rest ++ more)) said)
+        sym (cond-true _ _ _ (lt-ltb body_limit n over)) ∙ ap (λ r. first_by_length F.head r (rest ++ more)) said)
 
     not_over : n ≤ body_limit → nat_lt body_limit n ≡ false
     not_over within = le-ltb body_limit n within
@@ -89,9 +89,9 @@ module _ (b front : List ℕ) (spans : RequestSpans) (fields : List HeaderSpan) 
         let behind : drop n (rest ++ more) ≡ drop (spans.len + n) b ++ more = drop-append-le n rest more enough ∙ ap (λ (l : List ℕ). l ++ more) (drop-drop n spans.len b) in
         let long : nat_le n (length (rest ++ more)) ≡ true = grind (arith, nat_tests, length-append rest more, enough) in
         by_head b F.head rest F.some F.admits more (Whole m (drop (spans.len + n) b ++ more)) (
-          ap (λ (l : List ℕ). Whole m l) (sym behind)
-          ∙ ap (λ (k : Message). Whole k (drop n (rest ++ more))) (is ∙ ap (λ (l : List ℕ). message F.head l) (sym all))
-          ∙ sym (cond-true _ _ _ long) ∙ sym (cond-false _ _ _ (sym kept)) ∙ by_rest within more)
+        ap (λ (l : List ℕ). Whole m l) (sym behind)
+        ∙ ap (λ (k : Message). Whole k (drop n (rest ++ more))) (is ∙ ap (λ (l : List ℕ). message F.head l) (sym all))
+        ∙ sym (cond-true _ _ _ long) ∙ sym (cond-false _ _ _ (sym kept)) ∙ by_rest within more)
 
   pub message_is : (method target body : List ℕ) (close : Bool) (n : ℕ) → method ≡ span_bytes front spans.method → target ≡ span_bytes front spans.path → body ≡ take n rest
       → close ≡ asks_to_close spans.version (map (header_bytes front) fields) → (let m : Message = record { method = method; target = target; body = body; close = close } in m) ≡ message F.head (take n rest)
@@ -131,8 +131,8 @@ module _ (b front : List ℕ) (is_front : front ≡ take (min (length b) head_li
       let reads : front ++ (drop (min (length b) head_limit) b ++ more) ≡ p ++ rest = all_joined more ∙ a.reads.1 in
       let within : length p ≤ length front = omega (arith, a.size, size) in
       let cut : take (length p) front ≡ p =
-          sym (take-append-le (length p) front (drop (min (length b) head_limit) b ++ more) within)
-          ∙ ap (λ (l : List ℕ). take (length p) l) reads ∙ take-append-le (length p) p rest (omega arith) ∙ take_all (length p) p (omega arith) in
+      sym (take-append-le (length p) front (drop (min (length b) head_limit) b ++ more) within)
+      ∙ ap (λ (l : List ℕ). take (length p) l) reads ∙ take-append-le (length p) p rest (omega arith) ∙ take_all (length p) p (omega arith) in
       none h (drop (length p) front) (a.reads.0, sym (take-append-drop (length p) front) ∙ ap (λ (l : List ℕ). l ++ drop (length p) front) cut)
 
   pub none_yet : length b < head_limit → HasNoRequest front → AdmitsNone b

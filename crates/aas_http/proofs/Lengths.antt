@@ -1,10 +1,10 @@
 -- Lengths of bodies, in digits.
-use Rattle.std.proofs.Common.{◌≡◌, if◌then◌else◌, ℕ, ◌^◌, ◌<◌, ◌≤◌, true, false, Bool, cond, ◌&&◌, List, [], ◌∷◌, length, Option, Some, None, refl, sym, ap, ◌∙◌, arith, subst}
+use Rattle.std.proofs.Common.{◌≡◌, if◌then◌else◌, ℕ, ◌^◌, ◌<◌, ◌≤◌, true, false, Bool, ◌&&◌, List, [], ◌∷◌, length, Some, None, refl, sym, ap, ◌∙◌, arith}
 use Rattle.std.specs.Prelude.{nat_le, nat_lt, codes}
 use Rattle.std.specs.List.{list_all}
 use Rattle.std.specs.Char.{is_ascii_digit, digit_value}
 use Rattle.std.specs.Str.Parse.{digits_value, AllDigits}
-use Rattle.std.proofs.lemmas.Bool.{and_left, and_right, and_from, le-ltb, lt-ltb, cond-true, cond-false}
+use Rattle.std.proofs.lemmas.Bool.{lt-ltb, cond-false}
 use Rattle.std.proofs.lemmas.Bool.Decides.{nat_tests}
 use Rattle.std.proofs.lemmas.Int.Digits.{digits_value-lt}
 use Rattle.std.proofs.Math.Nat.{pow-le-pow_right}
@@ -43,6 +43,7 @@ same_test cs short =
     same_by : (some all le lt : Bool) → le ≡ true → (all ≡ true → lt ≡ true) → (some && (le && all)) ≡ (some && (all && lt))
     same_by some true le lt l h = ap (λ b. some && (b && true)) l ∙ sym (ap (λ b. some && (true && b)) (h refl))
     same_by some false le lt l h = ap (λ b. some && (b && false)) l
+
     le : (n : ℕ) → n ≤ 19 → nat_le n 19 ≡ true
     le n h = grind (arith, nat_tests)
 
@@ -57,6 +58,7 @@ long_number cs long = sym (cond-false _ _ _ (long_by (nat_lt 0 (length cs)) (lis
     long_by : (some all le : Bool) → le ≡ false → (some && (le && all)) ≡ false
     long_by true all le l = ap (λ b. b && all) l
     long_by false all le l = refl
+
     not_le : (n : ℕ) → 19 < n → nat_le n 19 ≡ false
     not_le n h = grind (arith, nat_tests)
 

@@ -1,7 +1,7 @@
 mod Adding
+pub mod FirstLaws
 mod Awaiting
 mod Firsts
-pub mod Laws
 mod Lengths
 mod Texts
 mod Values

@@ -1,5 +1,5 @@
 -- The text of a reply from its parts.
-use Rattle.std.proofs.Common.{◌≡◌, ℕ, Bool, true, false, List, [], ◌∷◌, ◌++◌, length, refl, sym, ◌∙◌, ap, append_assoc, if◌then◌else◌}
+use Rattle.std.proofs.Common.{◌≡◌, ℕ, Bool, true, false, List, [], ◌++◌, length, refl, ◌∙◌, ap, append_assoc, if◌then◌else◌}
 use Rattle.std.specs.Prelude.{not, codes, decimal, unwrap_or, ◌==◌}
 use Rattle.std.specs.Str.{encode_utf8_all}
 use Rattle.std.proofs.lemmas.List.{append-nil}
@@ -28,9 +28,9 @@ by_tests none named close line type size allow methods last body =
 
 pub text_is : (r : Reply)
     → codes "HTTP/1.1 " ++ decimal r.status ++ codes " " ++ unwrap_or (phrase r.status) [] ++ crlf
-        ++ when (not (r.status == 204)) (codes "Content-Type: application/json\r\nContent-Length: ") ++ when (not (r.status == 204)) (decimal (length r.body)) ++ when (not (r.status == 204)) crlf
-        ++ when (r.status == 405) (codes "Allow: ") ++ when (r.status == 405) (encode_utf8_all r.allow) ++ when (r.status == 405) crlf
-        ++ when r.close (codes "Connection: close\r\n") ++ crlf ++ when (not (r.status == 204)) r.body
+    ++ when (not (r.status == 204)) (codes "Content-Type: application/json\r\nContent-Length: ") ++ when (not (r.status == 204)) (decimal (length r.body)) ++ when (not (r.status == 204)) crlf
+    ++ when (r.status == 405) (codes "Allow: ") ++ when (r.status == 405) (encode_utf8_all r.allow) ++ when (r.status == 405) crlf
+    ++ when r.close (codes "Connection: close\r\n") ++ crlf ++ when (not (r.status == 204)) r.body
     ≡ reply_text r
 unfolding reply_text
 text_is r = by_tests

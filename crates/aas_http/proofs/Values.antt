@@ -1,7 +1,6 @@
 -- What is found of the values of one name.
-use Rattle.std.proofs.Common.{◌≡◌, ◌<◌, ℕ, Bool, true, false, ◌||◌, List, [], ◌∷◌, length, Option, Some, None, refl, sym, ap, ◌∙◌, arith}
+use Rattle.std.proofs.Common.{◌≡◌, ◌<◌, ℕ, Bool, true, false, ◌||◌, List, [], ◌∷◌, length, Option, None, refl, ap, ◌∙◌, arith}
 use Rattle.std.specs.Prelude.{nat_lt, bytes_eq, codes}
-use Rattle.std.proofs.lemmas.Bool.{lt-ltb}
 use Rattle.http1.specs.Fields.{Header, values_named}
 use Rattle.aas_http.specs.BodyLength.{length_of_values, body_length}
 use Rattle.aas_http.specs.NotImplemented.{is_not_implemented}

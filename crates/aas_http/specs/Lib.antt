@@ -4,6 +4,7 @@ pub mod FirstRequest
 pub mod Found
 pub mod Gathering
 pub mod Head
+pub mod Laws
 pub mod NotImplemented
 pub mod OnlyValue
 pub mod ReplyText

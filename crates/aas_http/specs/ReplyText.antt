@@ -1,5 +1,5 @@
 -- The text of a reply. HTTP/1.1 (RFC 9112), in the form of this profile.
-use Rattle.std.specs.Prelude.{◌≡◌, ◌≢◌, ◌==◌, ℕ, Bool, List, [], ◌++◌, length, decimal, codes, if◌then◌else◌, Option, Some, None, IsSome, unwrap_or}
+use Rattle.std.specs.Prelude.{◌==◌, ℕ, Bool, List, [], ◌++◌, length, decimal, codes, if◌then◌else◌, Option, Some, None, unwrap_or}
 use Rattle.std.specs.Str.{encode_utf8_all}
 use Rattle.aas_http.specs.declared.replies.Reply.{Reply}
 
@@ -18,11 +18,6 @@ phrase status =
     if status == 501 then Some (codes "Not Implemented") else (
     if status == 503 then Some (codes "Service Unavailable") else (
     if status == 507 then Some (codes "Insufficient Storage") else None)))))))))))
-
--- The status has a phrase, and methods are named on 405 alone.
-pub record IsReply (reply : Reply) : Type 0 where
-  pub status : IsSome (phrase reply.status)
-  pub allow : reply.status ≢ 405 → reply.allow ≡ []
 
 abbrev pub crlf : List ℕ
 crlf = codes "\r\n"

@@ -2,7 +2,7 @@
 ghost use Rattle.std.specs.Prelude.{◌≡◌, [], IsSome, unwrap_or, if◌then◌else◌, OnOk, OnErr};
 ghost use Rattle.std.specs.Io.KnownBytes.{append_known};
 ghost use Rattle.aas_http.specs.Gathering.{Adds};
-ghost use Rattle.aas_http.specs.ReplyText.{phrase, IsReply, reply_text};
+ghost use Rattle.aas_http.specs.ReplyText.{phrase, reply_text};
 ghost use Rattle.aas_outside.specs.Faults.{HasCause};
 ghost use Rattle.aas_outside.specs.Link.{GivesFront};
 
@@ -12,9 +12,9 @@ use aas_outside::{Failed, Link};
 use itoa::Buffer;
 
 /// Gives the text of a reply, up to 4,096 bytes of it at once. Where the link fails a front of the
-/// text was given. It takes no memory.
+/// text was given. The status is one of those with a phrase. It takes no memory.
 pub fn reply<L: Link>(reply: &Reply, link: &mut L) -> Result<(), Failed>
-    requires { IsReply reply.now }
+    requires { IsSome (phrase reply.now.status) }
     ensures given { OnOk result (L.sent link.new ≡ append_known (L.sent link.old) (reply_text reply.now)) }
     ensures front { OnErr result (GivesFront (L.sent link.old) (L.sent link.new) (reply_text reply.now)) }
     ensures surroundings { L.surroundings link.new ≡ L.surroundings link.old }
@@ -28,7 +28,7 @@ pub fn reply<L: Link>(reply: &Reply, link: &mut L) -> Result<(), Failed>
 
 /// Adds the text of a reply.
 fn put_reply<L: Link>(text: &mut Gathering, link: &mut L, reply: &Reply)
-    requires { IsReply reply.now }
+    requires { IsSome (phrase reply.now.status) }
     ensures adds { Adds text.old text.new (L.sent link.old) (L.sent link.new) (L.faults link.old) (L.faults link.new) (reply_text reply.now) }
     ensures surroundings { L.surroundings link.new ≡ L.surroundings link.old }
     ensures left { L.left link.new ≡ L.left link.old }
@@ -42,8 +42,17 @@ fn put_reply<L: Link>(text: &mut Gathering, link: &mut L, reply: &Reply)
     text.put(link, b" ");
     text.put(link, phrase(reply.status));
     text.put(link, b"\r\n");
-    text.put(link, when(has_body, b"Content-Type: application/json\r\nContent-Length: "));
-    text.put(link, when(has_body, size.format(reply.body.len()).as_bytes()));
+    text.put(
+        link,
+        when(
+            has_body,
+            b"Content-Type: application/json\r\nContent-Length: ",
+        ),
+    );
+    text.put(
+        link,
+        when(has_body, size.format(reply.body.len()).as_bytes()),
+    );
     text.put(link, when(has_body, b"\r\n"));
     text.put(link, when(has_allow, b"Allow: "));
     text.put(link, when(has_allow, reply.allow.as_str().as_bytes()));

@@ -1,4 +1,4 @@
-use Rattle.std.proofs.Common.{◌≡◌, [], ◌∷◌, Some, None, refl, sym, ap, ◌∙◌, map, arith}
+use Rattle.std.proofs.Common.{[], ◌∷◌, Some, None, refl, sym, ◌∙◌, map, arith}
 use Rattle.std.specs.Prelude.{codes}
 use Rattle.httparse.specs.Spans.{header_bytes}
 use Rattle.http1.specs.Fields.{values_named}

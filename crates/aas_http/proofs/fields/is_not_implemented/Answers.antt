@@ -1,4 +1,4 @@
-use Rattle.std.proofs.Common.{◌≡◌, map, sym, ◌∙◌, refl, rules}
+use Rattle.std.proofs.Common.{◌≡◌, map, refl, rules}
 use Rattle.std.specs.Prelude.{bytes_eq, codes}
 use Rattle.httparse.specs.Spans.{header_bytes}
 use Rattle.http1.specs.Fields.{values_named}

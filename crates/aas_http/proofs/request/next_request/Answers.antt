@@ -1,11 +1,11 @@
-use Rattle.std.proofs.Common.{◌≡◌, ◌≤◌, ℕ, List, length, drop, take, map, min, Some, None, inl, inr, true, false, refl, sym, ap, ◌∙◌, arith, rules}
+use Rattle.std.proofs.Common.{◌≡◌, ◌≤◌, ℕ, length, take, min, inl, true, ap, arith, rules}
 use Rattle.std.proofs.lemmas.List.{length-take}
 use Rattle.std.proofs.lemmas.List.Elements.{All-weaker}
 use Rattle.httparse.specs.Spans.{IsRequestOf, IsRequestWithin, IsHeaderWithin, RequestOverflows}
 use Rattle.httparse.specs.Grammar.{HasNoRequest}
 use Rattle.aas_http.specs.Head.{head_limit}
 use Rattle.aas_http.specs.FirstRequest.{IsBlank}
-use Rattle.aas_http.proofs.Firsts.{by_none, none_over, none_past, none_yet, admits, blank_none}
+use Rattle.aas_http.proofs.Firsts.{by_none, none_over, none_past, admits, blank_none}
 use Rattle.aas_http.proofs.request.next_request.Goals as goal
 
 pub returns-then-is_blank : goal.returns-then-is_blank

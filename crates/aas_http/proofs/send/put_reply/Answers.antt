@@ -1,4 +1,4 @@
-use Rattle.std.proofs.Common.{◌≡◌, refl, ap, ◌∙◌, subst, List, ℕ, length}
+use Rattle.std.proofs.Common.{refl, ap, ◌∙◌, subst, List, ℕ}
 use Rattle.std.specs.Prelude.{decimal, not, ◌==◌}
 use Rattle.aas_http.specs.Gathering.{Adds}
 use Rattle.aas_http.proofs.Adding.{adds_then}

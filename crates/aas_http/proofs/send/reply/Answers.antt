@@ -1,5 +1,5 @@
-use Rattle.std.proofs.Common.{ap, Bool, List, ℕ}
-use Rattle.aas_http.specs.Gathering.{GatheringState, Gives}
+use Rattle.std.proofs.Common.{ap}
+use Rattle.aas_http.specs.Gathering.{GatheringState}
 use Rattle.aas_http.specs.ReplyText.{reply_text}
 use Rattle.aas_http.proofs.Adding.{finished, given_of, front_of, cause_of}
 use Rattle.aas_http.proofs.send.reply.Goals as goal

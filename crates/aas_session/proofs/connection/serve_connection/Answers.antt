@@ -3,7 +3,7 @@ use Rattle.std.proofs.lemmas.List.{append-nil}
 use Rattle.aas_http.specs.FirstRequest.{IsBlank, Nothing, Bad, TooLarge, NotImplemented, Whole, IsFirstRequest}
 use Rattle.aas_http.specs.Steps.{message_of}
 use Rattle.aas_session.specs.Refusals.{bad_request, too_large, not_implemented}
-use Rattle.aas_http.proofs.Laws.{blank_first, unfinished}
+use Rattle.aas_http.proofs.FirstLaws.{blank_first, unfinished}
 use Rattle.aas_outside.proofs.Turns.{passes_none, passes_on}
 use Rattle.aas_outside.specs.Faults.{Rose}
 use Rattle.aas_session.specs.Intake.{ReceivesMore}
