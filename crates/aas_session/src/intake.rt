@@ -73,7 +73,11 @@ impl Intake {
     }
 
     /// Receives pieces until there are `count` bytes. False where the input ends before.
-    pub(crate) fn receive_until<L: Link>(&mut self, link: &mut L, count: usize) -> Result<bool, Failed>
+    pub(crate) fn receive_until<L: Link>(
+        &mut self,
+        link: &mut L,
+        count: usize,
+    ) -> Result<bool, Failed>
         requires { count ≤ intake_size }
         ensures received { IfOk result (λ enough.
             ReceivesUntil count self.old.unread self.new.unread (L.left link.old) (L.left link.new) enough) }
