@@ -1,5 +1,5 @@
 -- Texts that are equal but for the case of ASCII letters, by bytes and by characters.
-use Rattle.std.proofs.Common.{◌≡◌, ◌↔◌, ◌<◌, nat_lt, ℕ, suc, List, [], ◌∷◌, map, Bool, true, IsTrue, codes, bytes_eq, refl, sym, ap, ◌∙◌, subst, arith}
+use Rattle.std.proofs.Common.{◌≡◌, ◌↔◌, ◌<◌, nat_lt, ℕ, suc, List, [], ◌∷◌, map, Bool, true, IsTrue, codes, refl, sym, ap, ◌∙◌, subst, arith}
 use Rattle.std.specs.Char.{to_ascii_lowercase}
 use Rattle.std.specs.List.{list_all}
 use Rattle.std.specs.Str.{chars, encode_utf8_all, IsAscii}
