@@ -2,6 +2,7 @@
 use Rattle.std.proofs.Common.{◌≡◌, ℕ, zero, suc, ◌<◌, ◌≤◌, Bool, true, false, cond, ◌&&◌, T, List, [], ◌∷◌, length, slice_get, slice_set, Some, None, refl, sym, ap, ◌∙◌, subst, arith}
 use Rattle.std.specs.List.{insert, remove}
 use Rattle.std.specs.FinMap.{find, put, is_sorted, nat_cmp-IsAntisymmetric, slice_cmp-IsAntisymmetric}
+use Rattle.std.specs.FinMap.Entries.{below_all}
 use Rattle.std.specs.Ordering.{nat_cmp, is_lt, is_eq, eq_by_cmp, ordering_reverse, ordering_index}
 use Rattle.std.specs.declared.cmp.Ordering.{Ordering}
 use Rattle.std.specs.declared.cmp.Ordering.TheVariants.{Less, Equal, Greater}
@@ -13,11 +14,6 @@ order = slice_cmp nat_cmp
 
 abbrev Entries : Type 0 → Type 0
 Entries X = List (List ℕ × X)
-
--- the identifier is below each of the entries
-abbrev below : {X : Type 0} → List ℕ → Entries X → Bool
-below q [] = true
-below q (e ∷ es) = is_lt (order q e.0) && below q es
 
 both : (a b : Bool) → T a → T b → T (a && b)
 both true b p q = q
@@ -63,18 +59,18 @@ comparisons_rise p q a e = by (order q a) refl
 
 -- of a list of two and more in order: the first is below the second and below the rest, and the list from the second
 -- on is in order
-in_order : {X : Type 0} (x e : List ℕ × X) (es : Entries X) → T (is_sorted order (x ∷ e ∷ es)) → (order x.0 e.0 ≡ Less) × T (below x.0 es) × T (is_sorted order (e ∷ es))
+in_order : {X : Type 0} (x e : List ℕ × X) (es : Entries X) → T (is_sorted order (x ∷ e ∷ es)) → (order x.0 e.0 ≡ Less) × T (below_all order x.0 es) × T (is_sorted order (e ∷ es))
 in_order x e es h =
-    let outer = parts (below x.0 (e ∷ es)) (is_sorted order (e ∷ es)) h in
-    let inner = parts (is_lt (order x.0 e.0)) (below x.0 es) outer.0 in
+    let outer = parts (below_all order x.0 (e ∷ es)) (is_sorted order (e ∷ es)) h in
+    let inner = parts (is_lt (order x.0 e.0)) (below_all order x.0 es) outer.0 in
     (less (order x.0 e.0) inner.0, inner.1, outer.1)
 
 pub tail : {X : Type 0} (e : List ℕ × X) (es : Entries X) → T (is_sorted order (e ∷ es)) → T (is_sorted order es)
-tail e es h = (parts (below e.0 es) (is_sorted order es) h).1
+tail e es h = (parts (below_all order e.0 es) (is_sorted order es) h).1
 
 -- without its second entry a list is still in order
 skip : {X : Type 0} (x e : List ℕ × X) (es : Entries X) → T (is_sorted order (x ∷ e ∷ es)) → T (is_sorted order (x ∷ es))
-skip x e es h = both (below x.0 es) (is_sorted order es) (in_order x e es h).1 (tail e es (in_order x e es h).2)
+skip x e es h = both (below_all order x.0 es) (is_sorted order es) (in_order x e es h).1 (tail e es (in_order x e es h).2)
 
 -- the first is below each other
 pub head_below : {X : Type 0} (x y : List ℕ × X) (es : Entries X) (j : ℕ) → T (is_sorted order (x ∷ es)) → slice_get es j ≡ Some y → order x.0 y.0 ≡ Less
@@ -94,8 +90,8 @@ sorted_rest x [] zero h = h
 sorted_rest x [] (suc i) h = h
 sorted_rest x (e ∷ es) zero h = skip x e es h
 sorted_rest x (e ∷ es) (suc i) h =
-    let rest = parts (below x.0 (remove es i)) (is_sorted order (remove es i)) (sorted_rest x es i (skip x e es h)) in
-    both (below x.0 (e ∷ remove es i)) (is_sorted order (e ∷ remove es i)) (both (is_lt (order x.0 e.0)) (below x.0 (remove es i)) (is_below (order x.0 e.0) (in_order x e es h).0) rest.0) (sorted_rest e es i (tail x (e ∷ es) h))
+    let rest = parts (below_all order x.0 (remove es i)) (is_sorted order (remove es i)) (sorted_rest x es i (skip x e es h)) in
+    both (below_all order x.0 (e ∷ remove es i)) (is_sorted order (e ∷ remove es i)) (both (is_lt (order x.0 e.0)) (below_all order x.0 (remove es i)) (is_below (order x.0 e.0) (in_order x e es h).0) rest.0) (sorted_rest e es i (tail x (e ∷ es) h))
 
 pub sorted_removed : {X : Type 0} (es : Entries X) (i : ℕ) → T (is_sorted order es) → T (is_sorted order (remove es i))
 sorted_removed [] zero h = tt
