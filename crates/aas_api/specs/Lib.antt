@@ -1,0 +1,4 @@
+pub mod Asked
+pub mod Interfaces
+pub mod Replies
+pub mod Routes
