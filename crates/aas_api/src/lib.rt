@@ -3,9 +3,10 @@
 #![tactic(auto)]
 
 mod ask;
+mod documents;
 mod replies;
 mod routes;
 
-pub use ask::Ask;
+pub use ask::{Ask, read_ask};
 pub use replies::refused;
 pub use routes::Resource;

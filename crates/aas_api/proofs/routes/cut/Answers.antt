@@ -1,4 +1,4 @@
-use Rattle.std.proofs.Common.{◌≡◌, ◌∷◌, ℕ, suc, ◌+◌, ◌<◌, length, take, drop, ap, sym, ◌∙◌, arith, rules}
+use Rattle.std.proofs.Common.{◌≡◌, ◌∷◌, suc, ◌+◌, take, drop, ap, sym, ◌∙◌, arith, rules}
 use Rattle.std.proofs.lemmas.List.{take_rest}
 use Rattle.form_urlencoded.specs.Form.{split}
 use Rattle.aas_api.proofs.Paths.{split_at, split_nowhere}
