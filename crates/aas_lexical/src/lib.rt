@@ -20,6 +20,3 @@ pub use name::{is_id_short, is_identifier, is_language, is_name, is_string, is_v
 pub use natives::Native;
 pub use time::is_utc_date_time;
 pub use value::{fits, native};
-
-#[cfg(test)]
-mod tests;
