@@ -3,7 +3,7 @@ ghost use Rattle.std.specs.Prelude.{◌<◌, length};
 
 use crate::document::Document;
 use crate::forms::Valued;
-use crate::text::{text, text_of};
+use crate::text::{done, text, text_of};
 use aas_command::Refusal;
 use aas_model::{
     Common, Element, Extent, Many, Missing, Patch, PatchRow, Path, Payload, Role, Semantics,
@@ -94,50 +94,35 @@ fn inserted(alloc: Global, submodel: &mut Submodel, path: &Path) -> Result<Strin
 fn replaced(alloc: Global, submodel: &mut Submodel, path: &Path) -> Result<String, Refusal>
     requires { 0 < length path.now.steps }
 {
-    match put(submodel, path, new_element(alloc)?) {
+    match done(replace(submodel, path, new_element(alloc)?)) {
         Ok(()) => changed(alloc, submodel),
         Err(ReplaceFault::Missing(lack)) => missing(alloc, &lack),
         Err(ReplaceFault::NotAContainer) => Err(Refusal::NotAContainer),
     }
 }
 
-fn put(submodel: &mut Submodel, path: &Path, element: Element) -> Result<(), ReplaceFault>
-    requires { 0 < length path.now.steps }
-{
-    replace(submodel, path, element)?;
-    Ok(())
-}
-
 fn removed(alloc: Global, submodel: &mut Submodel, path: &Path) -> Result<String, Refusal>
     requires { 0 < length path.now.steps }
 {
-    match take(submodel, path) {
+    match done(remove(submodel, path)) {
         Ok(()) => changed(alloc, submodel),
         Err(lack) => missing(alloc, &lack),
     }
-}
-
-fn take(submodel: &mut Submodel, path: &Path) -> Result<(), Missing>
-    requires { 0 < length path.now.steps }
-{
-    remove(submodel, path)?;
-    Ok(())
 }
 
 fn lent(alloc: Global, submodel: &mut Submodel, path: &Path) -> Result<String, Refusal>
     requires { 0 < length path.now.steps }
 {
-    match lay(submodel, path, new_payload(alloc)?) {
-        Ok(()) => changed(alloc, submodel),
-        Err(lack) => missing(alloc, &lack),
+    match at_mut(submodel, path) {
+        Ok(element) => put(&mut element.payload, new_payload(alloc)?),
+        Err(lack) => return missing(alloc, &lack),
     }
+    changed(alloc, submodel)
 }
 
-fn lay(submodel: &mut Submodel, path: &Path, payload: Payload) -> Result<(), Missing>
-    requires { 0 < length path.now.steps }
-{
-    at_mut(submodel, path)?.payload = payload;
-    Ok(())
+// Generic, so that no proof looks into what is let go.
+fn put<T: Drop>(place: &mut T, value: T) {
+    *place = value;
 }
 
 fn new_payload(alloc: Global) -> Result<Payload, NoMemory> {
@@ -202,7 +187,11 @@ impl Patchable for Element {
 }
 
 /// The value form with a new payload for the element of a rank.
-pub(crate) fn patched<D: Patchable>(alloc: Global, rank: u64, json: &str) -> Result<String, Refusal> {
+pub(crate) fn patched<D: Patchable>(
+    alloc: Global,
+    rank: u64,
+    json: &str,
+) -> Result<String, Refusal> {
     let mut document = D::read(alloc, json)?;
     if document.patch(patch_at(alloc, rank)?) {
         document.form(alloc, Extent::WithBlobValue)

@@ -1,7 +1,7 @@
 // Documents, and elements, as examples read and write them. What is done with one is generic, so that it is proved once for all of them.
 ghost use Rattle.std.specs.Prelude.{◌≡◌, Bool, true, IfOk};
 
-use crate::text::{text, text_of};
+use crate::text::{done, text, text_of};
 use aas_command::Refusal;
 use aas_json_members::read_value;
 use aas_json_read::{
@@ -148,10 +148,6 @@ pub(crate) fn as_sent(alloc: Global, json: &str, written: Vec<u8>) -> Result<Str
 /// Reads an element that stands at this level.
 pub(crate) fn read_at_level(alloc: Global, level: &str, json: &str) -> Result<String, Refusal> {
     let level = level.parse().unwrap_or(u32::MAX);
-    told(alloc, read_element(alloc, json.as_bytes(), level))
-}
-
-fn told<T: Drop>(alloc: Global, read: Result<T, ReadFault>) -> Result<String, Refusal> {
-    read?;
+    done(read_element(alloc, json.as_bytes(), level))?;
     Ok(text(alloc, "read")?)
 }

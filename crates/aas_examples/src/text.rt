@@ -13,3 +13,9 @@ pub(crate) fn text_of(alloc: Global, bytes: Vec<u8>) -> Result<String, NoMemory>
         Err(_) => text(alloc, "not UTF-8"),
     }
 }
+
+/// The outcome without what it gives. Generic, so that no proof looks into what is let go.
+pub(crate) fn done<T: Drop, E>(outcome: Result<T, E>) -> Result<(), E> {
+    outcome?;
+    Ok(())
+}
