@@ -10,7 +10,3 @@ form_out x e = ap (λ c. c.form) (fold_out-Element Child (as_child x) e)
 
 pub name_out : (x : Extent) (e : Element) → (child_of x e).name ≡ (out-Element e).common.id_short
 name_out x e = ap (λ c. c.name) (fold_out-Element Child (as_child x) e)
-
--- an item at the end is the first of what follows
-pub one_more : {X : Type 0} (xs : List X) (x : X) (rest : List X) → (xs ++ x ∷ []) ++ rest ≡ xs ++ x ∷ rest
-one_more xs x rest = append_assoc xs (x ∷ []) rest
