@@ -50,7 +50,7 @@ impl Intake {
     }
 
     /// Forgets what was received.
-    pub fn clear(&mut self)
+    pub(crate) fn clear(&mut self)
         ensures { self.new.unread ≡ [] }
     {
         self.start = 0;
@@ -58,14 +58,14 @@ impl Intake {
     }
 
     /// What was received and not yet taken as requests.
-    pub fn unread(&self) -> &[u8]
+    pub(crate) fn unread(&self) -> &[u8]
         ensures { result.now ≡ self.now.unread }
     {
         &self.bytes[self.start..self.end]
     }
 
     /// Counts the first bytes as taken.
-    pub fn skip(&mut self, count: usize)
+    pub(crate) fn skip(&mut self, count: usize)
         requires { count ≤ length self.old.unread }
         ensures { self.new.unread ≡ drop count self.old.unread }
     {
@@ -73,7 +73,11 @@ impl Intake {
     }
 
     /// Receives pieces until there are `count` bytes. False where the input ends before.
-    pub fn receive_until<L: Link>(&mut self, link: &mut L, count: usize) -> Result<bool, Failed>
+    pub(crate) fn receive_until<L: Link>(
+        &mut self,
+        link: &mut L,
+        count: usize,
+    ) -> Result<bool, Failed>
         requires { count ≤ intake_size }
         ensures received { IfOk result (λ enough.
             ReceivesUntil count self.old.unread self.new.unread (L.left link.old) (L.left link.new) enough) }

@@ -1,6 +1,6 @@
 // What takes the requests: a repository over a keeper.
-ghost use Rattle.std.specs.Prelude.{◌≡◌, ◌≢◌, ◌≤◌, List, ℕ, Bool, false, Err, IfOk};
-ghost use Rattle.aas_http.specs.ReplyText.{IsReply};
+ghost use Rattle.std.specs.Prelude.{◌≡◌, ◌≢◌, ◌≤◌, List, ℕ, Bool, false, Err, IfOk, IsSome};
+ghost use Rattle.aas_http.specs.ReplyText.{phrase};
 ghost use Rattle.aas_http.specs.Steps.{message_of};
 ghost use Rattle.aas_outside.specs.Faults.{Rose};
 ghost use Rattle.aas_rule.specs.Rule.{Room};
@@ -53,7 +53,7 @@ pub trait Machine {
             IsSettledState stands_for (state self.old) records →
             Answers (rule (room self.old)) stands_for (repository_of (state self.old) records)
             (message_of request.now) (state self.old).moment (state self.new) result }
-        ensures reply { IfOk result IsReply }
+        ensures reply { IfOk result (λ reply. IsSome (phrase reply.status)) }
         ensures room { room self.new ≡ room self.old }
         ensures past { PassesTo (state self.old) (state self.new) }
         ensures stopped { result ≢ Err StorageFault → stopped self.new ≡ false }
