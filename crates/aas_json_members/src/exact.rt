@@ -14,9 +14,9 @@ pub struct Exact {
 }
 
 impl Exact {
-    ghost use Rattle.std.specs.Prelude.{◌++◌, OnOk, OnErr};
     ghost use Rattle.serde_json.specs.Written.{compact_text};
     ghost use Rattle.aas_json_members.specs.Exact.{data_of};
+    ghost use Rattle.aas_json_members.specs.Writes.{Writes};
 
     /// The value, which has no float.
     pub fn new(value: Value) -> Exact
@@ -46,8 +46,7 @@ impl Exact {
     /// Appends the compact text of the value to `out`: JSON (RFC 8259) without white space. Where memory is refused, `out` is
     /// as it was.
     pub fn append_to(&self, alloc: Global, out: &mut Vec<u8>) -> Result<(), NoMemory>
-        ensures ok { OnOk result (out.new.items ≡ out.old.items ++ compact_text (data_of self.now)) }
-        ensures err { OnErr result (out.new.items ≡ out.old.items) }
+        ensures { Writes (compact_text (data_of self.now)) result out.old.items out.new.items }
     {
         let text = self.value.to_vec(alloc)?;
         match out.extend_from_slice(&text) {

@@ -4,9 +4,8 @@ ghost use Rattle.aas_json_table.specs.Canonical.{canonical_member};
 ghost use Rattle.aas_json_table.specs.Table.{text};
 ghost use Rattle.aas_json_read.specs.Found.{FindsCommon, FindsHead};
 
-use crate::semantics::semantics_in;
-use crate::sorts::{Administrations, Extensions, LangTexts, Qualifiers};
 use aas_json_members::{kept_member, list_member, one_member, string_member};
+use aas_json_parts::{Administrations, Extensions, LangTexts, Qualifiers, semantics_in};
 use aas_model::{Common, Head, NoMemory};
 use serde_json::{Map, Value};
 use std::alloc::Global;

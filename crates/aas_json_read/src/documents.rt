@@ -12,9 +12,9 @@ ghost use Rattle.aas_json_mapping.specs.Shape.{IsShapedSubmodel, IsShapedEnviron
 use crate::common::head_in;
 use crate::elements::members_in;
 use crate::found::add_found;
-use crate::semantics::semantics_in;
-use crate::sorts::{AssetInformations, Concepts, Qualifiers, Shells};
+use crate::sorts::{Concepts, Shells};
 use aas_json_members::{Part, list_member, member, one_member, text_member, word_member};
+use aas_json_parts::{AssetInformations, Qualifiers, semantics_in};
 use aas_model::{Concept, Environment, Many, NoMemory, Shell, Submodel};
 use aas_reference::References;
 use serde_json::{Map, Value};

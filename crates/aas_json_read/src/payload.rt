@@ -1,11 +1,13 @@
 ghost use Rattle.std.specs.Prelude.{◌≡◌, IfOk, IfSome, Some, option_map};
+ghost use Rattle.serde_json.specs.Data.{boolean};
 ghost use Rattle.serde_json.specs.View.{members_view};
 ghost use Rattle.aas_json_table.specs.Canonical.{canonical_member};
+ghost use Rattle.aas_json_table.specs.Table.{flag};
 ghost use Rattle.aas_model.specs.Payload.{kind_of};
 ghost use Rattle.aas_json_read.specs.Own.{spell_own, canonical_own};
 
-use crate::sorts::{LangTexts, SpecificAssetIds};
-use aas_json_members::{flag_member, list_member, one_member, string_member, word_member};
+use aas_json_members::{list_member, member, one_member, string_member, word_member};
+use aas_json_parts::{LangTexts, SpecificAssetIds};
 use aas_model::{Kind, NoMemory, Payload};
 use aas_reference::References;
 use serde_json::{Map, Value};
@@ -206,4 +208,14 @@ fn element_list_in(alloc: Global, members: &Map<String, Value>) -> Result<Option
         type_value_list_element,
         value_type_list_element: word_member(members, "valueTypeListElement"),
     }))
+}
+
+/// The truth value under a name, or `None` where the object has none there.
+fn flag_member(members: &Map<String, Value>, name: &str) -> Option<bool>
+    ensures { option_map boolean result ≡ canonical_member (members_view members.now.entries) name.now flag }
+{
+    match member(members, name) {
+        Some(Value::Bool(flag)) => Some(*flag),
+        _ => None,
+    }
 }

@@ -32,7 +32,7 @@ kept_of_whole l ps e = and_left (kept_in_order ps) _ e
 
 -- ---- elements
 
-abbrev made : Role → Common → Payload → List Element → Element
+abbrev pub made : Role → Common → Payload → List Element → Element
 made r c x ks = roll-Element (record { common = c; payload = x; role = r; kids = ks })
 
 abbrev Ordered : Levels → Element → Type 0
@@ -52,7 +52,7 @@ level_in_order l r c x ks h e =
     fold-roll-Element Bool (λ y. kept_in_order y.common.embedded_data_specifications && each_true y.kids) (record { common = c; payload = x; role = r; kids = ks })
     ∙ both (kept_in_order c.embedded_data_specifications) _ kept kids
 
-each_within : (P : Element → Type 0) (ks : List ((e : Element) × P e)) → Each P (map (λ k. k.0) ks)
+pub each_within : (P : Element → Type 0) (ks : List ((e : Element) × P e)) → Each P (map (λ k. k.0) ks)
 each_within P [] = tt
 each_within P (k ∷ ks) = (k.1, each_within P ks)
 

@@ -1,3 +1,4 @@
+pub mod Forms
 pub mod InOrder
 pub mod InWhole
 pub mod Levels

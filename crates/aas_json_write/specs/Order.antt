@@ -1,9 +1,11 @@
 -- Trees whose kept data is in order: the names of each map are distinct and rise in byte order, as they do in each whole tree. This profile's own rule.
-use Rattle.std.specs.Prelude.{◌&&◌, Bool, true, List, map, Option, Some, None}
+use Rattle.std.specs.Prelude.{◌&&◌, Bool, true, List, ◌∷◌, map, Option, Some, None}
+use Rattle.std.specs.List.{flat_map}
 use Rattle.aas_json_spelling.specs.Lists.{each_true}
 use Rattle.aas_json_spelling.specs.Kept.{is_ordered}
 use Rattle.aas_model.specs.declared.plain.Plain.{Plain}
 use Rattle.aas_model.specs.declared.parts.Administration.{Administration}
+use Rattle.aas_model.specs.declared.common.Common.{Common}
 use Rattle.aas_model.specs.declared.common.Head.{Head}
 use Rattle.aas_model.specs.declared.element.Element.{Element, fold-Element}
 use Rattle.aas_model.specs.declared.documents.Submodel.{Submodel}
@@ -16,6 +18,10 @@ kept_in_order ps = each_true (map is_ordered ps)
 
 abbrev pub element_in_order : Element → Bool
 element_in_order = fold-Element Bool (λ e. kept_in_order e.common.embedded_data_specifications && each_true e.kids)
+
+-- what an element and each one below it say beside their kinds, in preorder
+abbrev pub commons : Element → List Common
+commons = fold-Element (List Common) (λ e. e.common ∷ flat_map (λ cs. cs) e.kids)
 
 abbrev pub elements_in_order : List Element → Bool
 elements_in_order ks = each_true (map element_in_order ks)

@@ -7,7 +7,7 @@ ghost use Rattle.aas_json_members.specs.Exact.{data_of};
 ghost use Rattle.aas_json_members.specs.Object.{members_of};
 ghost use Rattle.aas_json_write.specs.Order.{kept_in_order};
 ghost use Rattle.aas_json_write.specs.Rows.{childless};
-ghost use Rattle.aas_json_write.specs.Variables.{is_variable};
+ghost use Rattle.aas_json_write.specs.Variables.{is_variable_of};
 
 use crate::common::put_common;
 use crate::kinds::put_own;
@@ -75,8 +75,8 @@ pub(crate) fn push_some(array: &mut Array, value: Option<Exact>) -> Result<(), N
 }
 
 /// Whether a child that has the second role is a variable of the first, one of `Input`, `Output` and `Inoutput`.
-pub(crate) fn is_variable(role: Role, of_child: Role) -> bool
-    ensures { result ≡ is_variable role of_child }
+pub(crate) fn is_variable_of(role: Role, of_child: Role) -> bool
+    ensures { result ≡ is_variable_of role of_child }
 {
     match role {
         Role::Input => matches!(of_child, Role::Input),

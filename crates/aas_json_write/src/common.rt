@@ -1,29 +1,19 @@
-ghost use Rattle.std.specs.Prelude.{◌≡◌, true, IfOk, OnOk, option_map};
+ghost use Rattle.std.specs.Prelude.{◌≡◌, true, OnOk};
 ghost use Rattle.aas_json_table.specs.Spelled.{attribute};
 ghost use Rattle.aas_json_table.specs.Table.{has_semantics};
-ghost use Rattle.aas_json_spelling.specs.Kept.{spell_kept};
 ghost use Rattle.aas_json_members.specs.Building.{built};
-ghost use Rattle.aas_json_members.specs.Exact.{data_of};
 ghost use Rattle.aas_json_members.specs.Object.{members_of};
 ghost use Rattle.aas_json_mapping.specs.Elements.{common_attributes};
 ghost use Rattle.aas_json_mapping.specs.Parts.{semantics_attributes};
 ghost use Rattle.aas_json_write.specs.Order.{kept_in_order};
 ghost use Rattle.aas_json_write.specs.Rows.{common_rows, shared_rows};
 
-use crate::sorts::{Extensions, LangTexts, Qualifiers};
-use aas_json_members::{Exact, Object, Texts, kept_value, list_value, optional_value};
-use aas_model::{Common, Many, NoMemory, Plain, Semantics};
+use crate::kept::kept_json;
+use aas_json_members::{Object, Texts, list_value, optional_value};
+use aas_json_parts::{Extensions, LangTexts, Qualifiers};
+use aas_model::{Common, NoMemory, Semantics};
 use aas_reference::References;
 use std::alloc::Global;
-
-/// The array of kept data, as it is, or `None` where there is none.
-#[tactic(auto, using(crate::proofs::InOrder::ordered_kept))]
-pub(crate) fn kept_as_it_is(alloc: Global, plains: &Many<Plain>) -> Result<Option<Exact>, NoMemory>
-    requires { kept_in_order plains.now ≡ true }
-    ensures { IfOk result (λ exact. option_map data_of exact ≡ spell_kept plains.now) }
-{
-    Ok(kept_value(alloc, plains)?)
-}
 
 /// Puts what all elements have, beside their `modelType`.
 pub(crate) fn put_common(
@@ -77,7 +67,7 @@ fn put_shared(object: &mut Object, alloc: Global, common: &Common) -> Result<(),
     object.put(
         alloc,
         "embeddedDataSpecifications",
-        kept_as_it_is(alloc, &common.embedded_data_specifications)?,
+        kept_json(alloc, &common.embedded_data_specifications)?,
     )?;
     Ok(())
 }

@@ -9,19 +9,20 @@ ghost use Rattle.aas_json_mapping.specs.Parts.{spell_administration};
 ghost use Rattle.aas_json_write.specs.Order.{kept_in_order, administration_in_order, head_in_order, shell_in_order, submodel_in_order, concept_in_order};
 ghost use Rattle.aas_json_write.specs.Rows.{head_rows, shared_rows, with_model_type};
 
-use crate::common::{kept_as_it_is, put_semantics};
-use crate::elements::children_value;
-use crate::sorts::{AssetInformations, Extensions, LangTexts, Qualifiers};
+use crate::common::put_semantics;
+use crate::elements::children_json;
+use crate::kept::kept_json;
 use aas_json_members::{
     Exact, Object, Texts, Written, list_value, optional_value, optional_word, string_value,
     text_value,
 };
+use aas_json_parts::{AssetInformations, Extensions, LangTexts, Qualifiers};
 use aas_model::{Administration, Concept, Head, NoMemory, Shell, Submodel};
 use aas_reference::References;
 use std::alloc::Global;
 
 /// The value that spells a shell. The kept data in it is in order.
-pub(crate) fn shell_value(alloc: Global, shell: &Shell) -> Result<Exact, NoMemory>
+pub(crate) fn shell_json(alloc: Global, shell: &Shell) -> Result<Exact, NoMemory>
     requires { shell_in_order shell.now ≡ true }
     ensures { IfOk result (λ exact. data_of exact ≡ spell_shell shell.now) }
 {
@@ -46,7 +47,7 @@ pub(crate) fn shell_value(alloc: Global, shell: &Shell) -> Result<Exact, NoMemor
 }
 
 /// The value that spells a submodel. The kept data in it is in order.
-pub(crate) fn submodel_value(alloc: Global, submodel: &Submodel) -> Result<Exact, NoMemory>
+pub(crate) fn submodel_json(alloc: Global, submodel: &Submodel) -> Result<Exact, NoMemory>
     requires { submodel_in_order submodel.now ≡ true }
     ensures { IfOk result (λ exact. data_of exact ≡ spell_submodel submodel.now) }
 {
@@ -62,13 +63,13 @@ pub(crate) fn submodel_value(alloc: Global, submodel: &Submodel) -> Result<Exact
     object.put(
         alloc,
         "submodelElements",
-        children_value(alloc, &submodel.kids)?,
+        children_json(alloc, &submodel.kids)?,
     )?;
     Ok(object.close())
 }
 
 /// The value that spells a concept description. The kept data in it is in order.
-pub(crate) fn concept_value(alloc: Global, concept: &Concept) -> Result<Exact, NoMemory>
+pub(crate) fn concept_json(alloc: Global, concept: &Concept) -> Result<Exact, NoMemory>
     requires { concept_in_order concept.now ≡ true }
     ensures { IfOk result (λ exact. data_of exact ≡ spell_concept concept.now) }
 {
@@ -148,7 +149,7 @@ fn put_shared(object: &mut Object, alloc: Global, head: &Head) -> Result<(), NoM
     object.put(
         alloc,
         "embeddedDataSpecifications",
-        kept_as_it_is(alloc, &head.embedded_data_specifications)?,
+        kept_json(alloc, &head.embedded_data_specifications)?,
     )?;
     Ok(())
 }
@@ -161,12 +162,12 @@ fn administration_if_there(
     ensures { IfOk result (λ exact. option_map data_of exact ≡ option_map spell_administration administration.now) }
 {
     match administration {
-        Some(administration) => Ok(Some(administration_value(alloc, administration)?)),
+        Some(administration) => Ok(Some(administration_json(alloc, administration)?)),
         None => Ok(None),
     }
 }
 
-fn administration_value(alloc: Global, administration: &Administration) -> Result<Exact, NoMemory>
+fn administration_json(alloc: Global, administration: &Administration) -> Result<Exact, NoMemory>
     requires { kept_in_order administration.now.embedded_data_specifications ≡ true }
     ensures { IfOk result (λ exact. data_of exact ≡ spell_administration administration.now) }
 {
@@ -179,7 +180,7 @@ fn administration_value(alloc: Global, administration: &Administration) -> Resul
     object.put(
         alloc,
         "embeddedDataSpecifications",
-        kept_as_it_is(alloc, &administration.embedded_data_specifications)?,
+        kept_json(alloc, &administration.embedded_data_specifications)?,
     )?;
     object.put(
         alloc,

@@ -1,5 +1,5 @@
 ghost use Rattle.std.specs.Prelude.{◌≡◌, [], codes, Some, OnOk, option_map};
-ghost use Rattle.serde_json.specs.Data.{string};
+ghost use Rattle.serde_json.specs.Data.{boolean, string};
 ghost use Rattle.aas_model_names.specs.DirectionNames as direction_names;
 ghost use Rattle.aas_model_names.specs.StateOfEventNames as state_names;
 ghost use Rattle.aas_json_table.specs.Spelled.{text_of};
@@ -9,14 +9,29 @@ ghost use Rattle.aas_reference.specs.Spelling.{spell_reference};
 ghost use Rattle.aas_json_write.specs.Rows.{with_own};
 ghost use Rattle.aas_model.specs.declared.payload.Payload.TheVariants as p;
 
-use crate::sorts::{LangTexts, SpecificAssetIds};
-use aas_json_members::{Flags, Object, Texts, list_value, optional_value, optional_word, word_value};
+use aas_json_members::{
+    Exact, Object, Texts, Written, flag_value, list_value, optional_value, optional_word, word_value,
+};
+use aas_json_parts::{LangTexts, SpecificAssetIds};
 use aas_model::{
     Direction, ElementName, EntityType, LangText, Many, NoMemory, Payload, Reference,
     SpecificAssetId, StateOfEvent, Text, ValueType,
 };
 use aas_reference::References;
 use std::alloc::Global;
+
+/// Truth values.
+struct Flags;
+
+impl Written for Flags {
+    type Tree = bool;
+
+    ghost spell = { boolean };
+
+    fn value(_alloc: Global, flag: &bool) -> Result<Exact, NoMemory> {
+        Ok(flag_value(*flag))
+    }
+}
 
 /// Puts the attributes of a kind's own, without children.
 pub(crate) fn put_own(object: &mut Object, alloc: Global, payload: &Payload) -> Result<(), NoMemory>

@@ -10,7 +10,8 @@ ghost use Rattle.aas_reference.specs.Spelling.{spell_key, spell_reference};
 ghost use Rattle.aas_reference.specs.Trees.{references};
 
 use crate::sorts::{Keys, References};
-use aas_json_members::{Part, list_member, member, read_part, string_member, word_member};
+use aas_json_input::read_part;
+use aas_json_members::{Part, list_member, member, string_member, word_member};
 use aas_model::{Boxed, Key, Many, NoMemory, ReadFault, Reference};
 use aas_json_table::table::Sort;
 use aas_json_table::too_deep::Levels;

@@ -1,6 +1,7 @@
-ghost use Rattle.std.specs.Prelude.{◌≡◌, ◌++◌, IfOk, OnOk, OnErr, option_map};
+ghost use Rattle.std.specs.Prelude.{◌≡◌, IfOk, option_map};
 ghost use Rattle.serde_json.specs.Written.{compact_text};
 ghost use Rattle.aas_json_members.specs.Exact.{data_of};
+ghost use Rattle.aas_json_members.specs.Writes.{Writes};
 ghost use Rattle.aas_reference.specs.Spelling.{spell_key, spell_reference};
 
 use crate::sorts::{Keys, References};
@@ -15,8 +16,7 @@ pub fn write_reference(
     reference: &Reference,
     out: &mut Vec<u8>,
 ) -> Result<(), NoMemory>
-    ensures ok { OnOk result (out.new.items ≡ out.old.items ++ compact_text (spell_reference reference.now)) }
-    ensures err { OnErr result (out.new.items ≡ out.old.items) }
+    ensures { Writes (compact_text (spell_reference reference.now)) result out.old.items out.new.items }
 {
     reference_value(alloc, reference)?.append_to(alloc, out)
 }

@@ -14,7 +14,7 @@ use aas_json_members::Exact;
 use aas_model::{Element, Extent, Fault, ReadFault};
 use aas_path::print_fault_path;
 use aas_model_text::{NoMemory, Text};
-use aas_value::element_value;
+use aas_value::value_form;
 use itoa::Buffer;
 use std::alloc::Global;
 
@@ -50,7 +50,7 @@ fn refusal_at(alloc: Global, code: u8, text: &[u8], pointer: &Text) -> Result<An
 fn answer_element(alloc: Global, element: &Element) -> Result<Answered, NoMemory>
     ensures { IfOk result (λ answered. answer_of answered ≡ element_answer element.now) }
 {
-    let Some(form) = element_value(alloc, element, Extent::WithBlobValue)? else {
+    let Some(form) = value_form(alloc, element, Extent::WithBlobValue)? else {
         return refusal(alloc, 16, b"no value form");
     };
     match check_element(alloc, element)? {

@@ -22,7 +22,7 @@ pub fn value_of(alloc: Global, element: &Element, extent: Extent) -> Result<Opti
     ensures form { IfOk result (λ found. option_map view found ≡ value_form extent element.now) }
     ensures no_float { IfOk result (λ found. IfSome found (λ value. has_float (view value) ≡ false)) }
 {
-    match element_value(alloc, element, extent)? {
+    match value_form(alloc, element, extent)? {
         Some(exact) => Ok(Some(exact.into_value())),
         None => Ok(None),
     }
@@ -43,7 +43,7 @@ pub fn value_of_submodel(
 /// The value form of an element, as a value whose text is known.
 #[cycle(value)]
 #[tactic(auto, using(crate::proofs::Forms::form_out))]
-pub fn element_value(
+pub fn value_form(
     alloc: Global,
     element: &Element,
     extent: Extent,
@@ -110,7 +110,7 @@ pub fn element_value(
 fn annotation(alloc: Global, kid: &Element, extent: Extent) -> Result<Option<Exact>, NoMemory>
     ensures { IfOk result (λ found. option_map data_of found ≡ (annotation_value (child_of extent kid.now)).form) }
 {
-    match element_value(alloc, kid, extent)? {
+    match value_form(alloc, kid, extent)? {
         Some(value) => {
             let mut object = Object::new(alloc);
             put_child(&mut object, alloc, &kid.common.id_short, Some(value))?;
@@ -128,7 +128,7 @@ fn named_values(alloc: Global, kids: &Many<Element>, extent: Extent) -> Result<E
 {
     let mut object = Object::new(alloc);
     for kid in kids.as_slice() {
-        let value = element_value(alloc, kid, extent)?;
+        let value = value_form(alloc, kid, extent)?;
         put_child(&mut object, alloc, &kid.common.id_short, value)?;
     }
     Ok(object.close())
@@ -141,7 +141,7 @@ fn ordered_values(alloc: Global, kids: &Many<Element>, extent: Extent) -> Result
 {
     let mut array = Array::new(alloc);
     for kid in kids.as_slice() {
-        push_child(&mut array, element_value(alloc, kid, extent)?)?;
+        push_child(&mut array, value_form(alloc, kid, extent)?)?;
     }
     Ok(array.close())
 }

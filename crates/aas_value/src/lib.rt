@@ -7,4 +7,4 @@ mod form;
 mod kinds;
 mod single;
 
-pub use form::{element_value, value_of, value_of_submodel};
+pub use form::{value_form, value_of, value_of_submodel};
