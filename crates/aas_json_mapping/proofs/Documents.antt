@@ -1,5 +1,6 @@
 -- Shells, submodels and concept descriptions: what is whole spells what is good, what spells what is good is whole, and what spells the same is the same.
 use Rattle.std.proofs.Common.{◌≡◌, ℕ, ◌&&◌, List, [], ◌∷◌, ◌++◌, true, Option, Some, option_map, codes, refl, sym, ◌∙◌, subst}
+use Rattle.std.proofs.lemmas.Bool.{and_from}
 use Rattle.std.specs.List.{list_all}
 use Rattle.serde_json.specs.Data.{Data, string}
 use Rattle.aas_model_names.specs.ModellingKindNames as modelling_kind
@@ -26,7 +27,7 @@ use Rattle.aas_json_mapping.specs.Elements.{spell_element}
 use Rattle.aas_json_mapping.specs.Parts.{semantics_attributes, spell_qualifier, spell_asset_information}
 use Rattle.aas_json_mapping.specs.Shape.{IsShaped, IsShapedSubmodel}
 use Rattle.aas_json_mapping.specs.Whole.{whole_kept, whole_extension, whole_administration_if_there, whole_head, whole_semantics, whole_qualifier, whole_asset_information, is_whole_element, is_whole_shell, is_whole_submodel, is_whole_concept}
-use Rattle.aas_json_mapping.proofs.Rows.{both, good_before, good_with, agree_before, object_made, object_within, same_rows, model_rows, model_rise, found_again}
+use Rattle.aas_json_mapping.proofs.Rows.{good_before, good_with, agree_before, object_made, object_within, same_rows, model_rows, model_rise, found_again}
 use Rattle.aas_json_mapping.proofs.Facts.{Facts, all_good, all_back, all_same, if_same, reference_facts, reference_if_good, reference_if_back}
 use Rattle.aas_json_mapping.proofs.Parts.{administration_facts, administration_if_good, administration_if_back, asset_information_facts, qualifier_facts, semantics_good, semantics_back, same_semantics}
 use Rattle.aas_json_mapping.proofs.Referable.{Referable, referable_good, referable_back, same_referable}
@@ -101,7 +102,7 @@ head_back l n h rows own good =
     let a = whole_administration_if_there l h.administration in
     let e = list_all (whole_extension l) h.extensions in
     let k = whole_kept l h.embedded_data_specifications in
-    (both (a && e) k (both a e (administration_if_back l h.administration split.1.1.0) first.0) first.1, split.1.1.1)
+    (and_from (a && e) k (and_from a e (administration_if_back l h.administration split.1.1.0) first.0) first.1, split.1.1.1)
 
 same_head : (n : List ℕ) (h k : Head) (rows : List Row) (a b : Attributes) → Agree (referable ++ (identifiable ++ rows)) (attribute (typed n (head_attributes h ++ a))) (attribute (typed n (head_attributes k ++ b)))
     → (h ≡ k) × Agree rows (attribute (typed n (head_attributes h ++ a))) (attribute (typed n (head_attributes k ++ b)))
@@ -159,8 +160,8 @@ shell_back l s good =
     let h = whole_head l s.head in
     let d = whole_if_there l s.derived_from in
     let a = whole_asset_information l s.asset in
-    both (h && d && a) (list_all (is_whole l) s.submodels)
-    (both (h && d) a (both h d head.0 (reference_if_back l s.derived_from head.1.1.0)) (asset_information_facts.back l s.asset head.1.0))
+    and_from (h && d && a) (list_all (is_whole l) s.submodels)
+    (and_from (h && d) a (and_from h d head.0 (reference_if_back l s.derived_from head.1.1.0)) (asset_information_facts.back l s.asset head.1.0))
     (all_back reference_facts l s.submodels head.1.1.1.0)
 
 same_shell : (s t : Shell) → spell_shell s ≡ spell_shell t → s ≡ t
@@ -203,7 +204,7 @@ concept_back : (l : Levels) (c : Concept) → Good l (one concept) (Some (spell_
 concept_back l c good =
     let inside = document_back concept concept_name (identifiable ++ concept_rows) concept_model l (head_attributes c.head ++ own_concept c) refl good in
     let head = head_back l concept_name c.head concept_rows (own_concept c) inside in
-    both (whole_head l c.head) (list_all (is_whole l) c.is_case_of) head.0 (all_back reference_facts l c.is_case_of head.1.0)
+    and_from (whole_head l c.head) (list_all (is_whole l) c.is_case_of) head.0 (all_back reference_facts l c.is_case_of head.1.0)
 
 same_concept : (c d : Concept) → spell_concept c ≡ spell_concept d → c ≡ d
 same_concept c d e =
@@ -241,7 +242,7 @@ kids_good l (k ∷ ks) w = (whole_good l k (and_left (is_whole_element l k) _ w)
 
 kids_back : (l : Levels) (ks : List Element) → Each IsShaped ks → EachGood l (one element) spell_element ks → list_all (is_whole_element l) ks ≡ true
 kids_back l [] s good = refl
-kids_back l (k ∷ ks) s good = both (is_whole_element l k) (list_all (is_whole_element l) ks) (whole_back l k s.0 good.0) (kids_back l ks s.1 good.1)
+kids_back l (k ∷ ks) s good = and_from (is_whole_element l k) (list_all (is_whole_element l) ks) (whole_back l k s.0 good.0) (kids_back l ks s.1 good.1)
 
 kids_alone : (ks : List Element) → Each IsShaped ks → Each (λ x. (y : Element) → IsShaped y → spell_element x ≡ spell_element y → x ≡ y) ks
 kids_alone [] s = tt
@@ -272,8 +273,8 @@ submodel_back l s shape good =
     let h = whole_head l s.head in
     let m = whole_semantics l s.semantics in
     let q = list_all (whole_qualifier l) s.qualifiers in
-    both (h && m && q) (list_all (is_whole_element l) s.kids)
-    (both (h && m) q (both h m head.0 (semantics_back l s.semantics semantics.0)) (all_back qualifier_facts l s.qualifiers semantics.1.0))
+    and_from (h && m && q) (list_all (is_whole_element l) s.kids)
+    (and_from (h && m) q (and_from h m head.0 (semantics_back l s.semantics semantics.0)) (all_back qualifier_facts l s.qualifiers semantics.1.0))
     (kids_back l s.kids shape (list_back l spell_element element s.kids semantics.1.1.0))
 
 pub same_submodel : (s t : Submodel) → IsShapedSubmodel s → IsShapedSubmodel t → spell_submodel s ≡ spell_submodel t → s ≡ t

@@ -1,5 +1,6 @@
 -- Elements by levels: induction over their children, what is said of one level, and where children stand.
 use Rattle.std.proofs.Common.{◌≡◌, ℕ, zero, suc, ◌≤◌, ◌&&◌, List, [], ◌∷◌, map, Bool, true, false, Some, option_map, refl, sym, ap, ap₂, ◌∙◌, subst, true≢false, arith}
+use Rattle.std.proofs.lemmas.Bool.{and_from}
 use Rattle.std.specs.List.{list_all}
 use Rattle.aas_json_table.specs.Table.{element}
 use Rattle.aas_json_table.specs.TooDeep.{Levels, enter, spend}
@@ -9,11 +10,10 @@ use Rattle.aas_model.specs.declared.element.Element.{Element, roll-Element, out-
 use Rattle.aas_model.specs.declared.element.Element.TheFolds.{ind-Element, fold-roll-Element}
 use Rattle.aas_model.specs.declared.element.Role.{Role}
 use Rattle.aas_model.specs.declared.payload.Payload.{Payload}
-use Rattle.aas_json_spelling.specs.Lists.{Each}
+use Rattle.aas_json_spelling.specs.Lists.{Each, most}
 use Rattle.aas_json_spelling.proofs.Rows.{and_left, and_right}
 use Rattle.aas_json_mapping.specs.Elements.{Child, element_attributes, rows_for, model_type_of, spell_over, spelled_child, spell_element}
-use Rattle.aas_json_mapping.specs.Whole.{whole_common, whole_payload, has_whole_parts, is_data_element, Placed, admits, rank, in_order, placed_over, is_placed, max_of, element_levels}
-use Rattle.aas_json_mapping.proofs.Rows.{both}
+use Rattle.aas_json_mapping.specs.Whole.{whole_common, whole_payload, has_whole_parts, is_data_element, Placed, admits, rank, in_order, placed_over, is_placed, element_levels}
 
 -- an element, made of its parts
 abbrev pub made : Role → Common → Payload → List Element → Element
@@ -56,8 +56,8 @@ pub parts_at : (l : Levels) (r : Role) (c : Common) (p : Payload) (ks : List Ele
 parts_at l r c p ks =
     fold-roll-Element Bool (λ e. whole_common l e.common && whole_payload l e.payload && list_all (λ b. b) e.kids) (record { common = c; payload = p; role = r; kids = ks })
 
-pub levels_at : (r : Role) (c : Common) (p : Payload) (ks : List Element) → element_levels (made r c p ks) ≡ suc (max_of (map element_levels ks))
-levels_at r c p ks = fold-roll-Element ℕ (λ e. suc (max_of e.kids)) (record { common = c; payload = p; role = r; kids = ks })
+pub levels_at : (r : Role) (c : Common) (p : Payload) (ks : List Element) → element_levels (made r c p ks) ≡ suc (most (map element_levels ks))
+levels_at r c p ks = fold-roll-Element ℕ (λ e. suc (most e.kids)) (record { common = c; payload = p; role = r; kids = ks })
 
 -- what a parent sees of an element
 abbrev pub seen : Element → Placed
@@ -80,15 +80,7 @@ each_mapped t f (x ∷ xs) e = (and_left (t (f x)) _ e, each_mapped t f xs (and_
 
 pub mapped_each : {X Y : Type 0} (t : Y → Bool) (f : X → Y) (xs : List X) → Each (λ x. t (f x) ≡ true) xs → list_all t (map f xs) ≡ true
 mapped_each t f [] each = refl
-mapped_each t f (x ∷ xs) each = both (t (f x)) (list_all t (map f xs)) each.0 (mapped_each t f xs each.1)
-
-pub each_low : (n : ℕ) (ks : List Element) → max_of (map element_levels ks) ≤ n → Each (λ k. element_levels k ≤ n) ks
-each_low n [] h = tt
-each_low n (k ∷ ks) h = (omega (arith, h), each_low n ks (omega (arith, h)))
-
-pub low_each : (n : ℕ) (ks : List Element) → Each (λ k. element_levels k ≤ n) ks → max_of (map element_levels ks) ≤ n
-low_each n [] each = omega arith
-low_each n (k ∷ ks) each = let first = each.0 in let rest = low_each n ks each.1 in omega (arith, first, rest)
+mapped_each t f (x ∷ xs) each = and_from (t (f x)) (list_all t (map f xs)) each.0 (mapped_each t f xs each.1)
 
 -- ---- where children stand
 
@@ -135,8 +127,8 @@ placed_made r c p ks s =
     let admitted = list_all (admits p) (map seen ks) in
     let order = in_order (map (λ (c : Placed). rank c.role) (map seen ks)) in
     let below = list_all (λ (c : Placed). c.placed) (map seen ks) in
-    let first = both admitted order (mapped_each (admits p) seen ks (each_admitted ks s.each)) (ap in_order (ranks_seen ks) ∙ s.order) in
-    placed_at r c p ks ∙ both (admitted && order) below first (mapped_each (λ (c : Placed). c.placed) seen ks (each_placed ks s.each))
+    let first = and_from admitted order (mapped_each (admits p) seen ks (each_admitted ks s.each)) (ap in_order (ranks_seen ks) ∙ s.order) in
+    placed_at r c p ks ∙ and_from (admitted && order) below first (mapped_each (λ (c : Placed). c.placed) seen ks (each_placed ks s.each))
   where
     each_admitted : (ks : List Element) → Each (Stands p) ks → Each (λ k. admits p (seen k) ≡ true) ks
     each_admitted [] s = tt

@@ -1,5 +1,6 @@
 -- An element whose children are placed, and whose spelling is good, is whole.
 use Rattle.std.proofs.Common.{◌≡◌, ℕ, suc, ◌≤◌, ◌&&◌, List, [], ◌∷◌, ◌++◌, map, true, false, is_some, Option, Some, None, option_map, refl, sym, ap, ◌∙◌, subst, true≢false, arith}
+use Rattle.std.proofs.lemmas.Bool.{and_from}
 use Rattle.std.specs.List.{list_all}
 use Rattle.serde_json.specs.Data.{Data}
 use Rattle.aas_json_table.specs.Table.{element, data_element, one, reference, referable, has_semantics, qualifiable}
@@ -11,20 +12,21 @@ use Rattle.aas_model.specs.declared.common.Common.{Common}
 use Rattle.aas_model.specs.declared.element.Element.{Element}
 use Rattle.aas_model.specs.declared.payload.Payload.{Payload}
 use Rattle.aas_model.specs.declared.payload.Payload.TheVariants as p
-use Rattle.aas_json_spelling.specs.Lists.{Each}
+use Rattle.aas_json_spelling.specs.Lists.{Each, most}
 use Rattle.aas_json_spelling.specs.Good.{Good}
+use Rattle.aas_json_spelling.proofs.Lists.{most_from_each}
 use Rattle.aas_json_spelling.proofs.Rows.{and_left, and_right}
 use Rattle.aas_json_spelling.proofs.Objects.{AreGood}
 use Rattle.aas_json_spelling.proofs.MemberTypes.{EachGood}
 use Rattle.aas_reference.specs.Whole.{whole_if_there, whole_and_there}
 use Rattle.aas_reference.specs.Spelling.{spell_reference}
 use Rattle.aas_json_mapping.specs.Elements.{is_input, is_output, is_inoutput, model_type_of, spell_element}
-use Rattle.aas_json_mapping.specs.Whole.{whole_kept, whole_semantics, whole_extension, whole_qualifier, whole_specific_asset_id, whole_common, whole_payload, has_whole_parts, Placed, admits, is_annotation, is_variable, is_placed, max_of, element_levels}
-use Rattle.aas_json_mapping.proofs.Rows.{both, good_before, object_within}
+use Rattle.aas_json_mapping.specs.Whole.{whole_kept, whole_semantics, whole_extension, whole_qualifier, whole_specific_asset_id, whole_common, whole_payload, has_whole_parts, Placed, admits, is_annotation, is_variable, is_placed, element_levels}
+use Rattle.aas_json_mapping.proofs.Rows.{good_before, object_within}
 use Rattle.aas_json_mapping.proofs.Facts.{all_back, reference_facts, reference_if_back}
 use Rattle.aas_json_mapping.proofs.Parts.{semantics_back, qualifier_facts, specific_asset_id_facts}
 use Rattle.aas_json_mapping.proofs.Referable.{referable_back}
-use Rattle.aas_json_mapping.proofs.Elements.{by_children, attributes_at, role_of, seen, seen_role, parts_at, levels_at, mapped_each, low_each, Stands, AreStanding, standing, no_kids, level_spent}
+use Rattle.aas_json_mapping.proofs.Elements.{by_children, attributes_at, role_of, seen, seen_role, parts_at, levels_at, mapped_each, Stands, AreStanding, standing, no_kids, level_spent}
 use Rattle.aas_json_mapping.proofs.Kids.{children_back, variables_back, of_role, in_three, each_append}
 use Rattle.aas_json_mapping.proofs.ElementRows.{own_rows, all_rows, spell_at, rows_at, as_element}
 use Rattle.aas_json_mapping.proofs.ElementsGood.{referable_of}
@@ -64,21 +66,21 @@ own_back l c (p.ReferenceElement v) ks s e good = (reference_if_back l v good.0,
 own_back l c (p.RelationshipElement first second) ks s e good =
     let a = is_some (option_map spell_reference first) in
     let b = is_some (option_map spell_reference second) in (
-      both (whole_and_there l first) (whole_and_there l second) (there_back l first (and_left a (b && true) e) good.0) (there_back l second (and_left b true (and_right a (b && true) e)) good.1.0),
+      and_from (whole_and_there l first) (whole_and_there l second) (there_back l first (and_left a (b && true) e) good.0) (there_back l second (and_left b true (and_right a (b && true) e)) good.1.0),
       none_good l (p.RelationshipElement first second) (λ k. refl) ks s.each,
     )
 own_back l c (p.AnnotatedRelationshipElement first second) ks s e good =
     let a = is_some (option_map spell_reference first) in
     let b = is_some (option_map spell_reference second) in (
-      both (whole_and_there l first) (whole_and_there l second) (there_back l first (and_left a (b && true) e) good.0) (there_back l second (and_left b true (and_right a (b && true) e)) good.1.0),
+      and_from (whole_and_there l first) (whole_and_there l second) (there_back l first (and_left a (b && true) e) good.0) (there_back l second (and_left b true (and_right a (b && true) e)) good.1.0),
       annotations_back l first second ks (children_back l data_element ks good.1.1.0) s.each,
     )
 own_back l c (p.Entity t g ids) ks s e good = (
-  both (is_some t) (list_all (whole_specific_asset_id l) ids) (there_something _ t (and_left _ true e)) (all_back specific_asset_id_facts l ids good.1.1.0),
+  and_from (is_some t) (list_all (whole_specific_asset_id l) ids) (there_something _ t (and_left _ true e)) (all_back specific_asset_id_facts l ids good.1.1.0),
   children_back l element ks good.1.1.1.0,
 )
 own_back l c (p.BasicEventElement observed d s topic broker last min max) ks stands e good = (
-  both (whole_and_there l observed) (whole_if_there l broker) (there_back l observed (and_left (is_some (option_map spell_reference observed)) true e) good.0) (reference_if_back l broker good.1.1.1.1.0),
+  and_from (whole_and_there l observed) (whole_if_there l broker) (there_back l observed (and_left (is_some (option_map spell_reference observed)) true e) good.0) (reference_if_back l broker good.1.1.1.1.0),
   none_good l (p.BasicEventElement observed d s topic broker last min max) (λ k. refl) ks stands.each,
 )
 own_back l c p.Capability ks s e good = (refl, none_good l p.Capability (λ k. refl) ks s.each)
@@ -116,20 +118,20 @@ common_back l c x ks good =
     let k = whole_kept l c.embedded_data_specifications in
     let s = whole_semantics l c.semantics in
     let q = list_all (whole_qualifier l) c.qualifiers in (
-      both (e && k && s) q (both (e && k) s (both e k head.0 head.1) (semantics_back l c.semantics second.0)) (all_back qualifier_facts l c.qualifiers second.1.0),
+      and_from (e && k && s) q (and_from (e && k) s (and_from e k head.0 head.1) (semantics_back l c.semantics second.0)) (all_back qualifier_facts l c.qualifiers second.1.0),
       second.1.1,
     )
 
 level_back : (l : Levels) (m : ℕ) (c : Common) (x : Payload) (ks : List Element) → Each IsBack ks → AreStanding x ks → l.elements ≡ suc m → are_there (own_rows x) (attribute (attributes_at c x ks)) ≡ true
     → AreGood (record l { elements = m }) (all_rows x) (attribute (attributes_at c x ks))
-    → (whole_common l c && whole_payload l x && list_all (λ b. b) (map (has_whole_parts l) ks) ≡ true) × (suc (max_of (map element_levels ks)) ≤ l.elements)
+    → (whole_common l c && whole_payload l x && list_all (λ b. b) (map (has_whole_parts l) ks) ≡ true) × (suc (most (map element_levels ks)) ≤ l.elements)
 level_back l m c x ks h s spent there good =
     let inner : Levels = record l { elements = m } in
     let common = common_back inner c x ks good in
     let own = own_back inner c x ks s there common.1 in
     let kids = kids_back inner x ks h s.each own.1 in
-    let low = low_each m ks kids.1 in (
-      both (whole_common l c && whole_payload l x) (list_all (λ b. b) (map (has_whole_parts l) ks)) (both (whole_common l c) (whole_payload l x) common.0 own.0) (mapped_each (λ b. b) (has_whole_parts l) ks kids.0),
+    let low = most_from_each element_levels m ks kids.1 in (
+      and_from (whole_common l c && whole_payload l x) (list_all (λ b. b) (map (has_whole_parts l) ks)) (and_from (whole_common l c) (whole_payload l x) common.0 own.0) (mapped_each (λ b. b) (has_whole_parts l) ks kids.0),
       omega (arith, low, spent),
     )
 

@@ -1,5 +1,6 @@
 -- What a value says as an element is spelled by one whose children are placed: kind by kind.
 use Rattle.std.proofs.Common.{◌≡◌, ℕ, ◌&&◌, List, [], ◌∷◌, ◌++◌, map, Bool, true, false, Option, Some, unwrap_or, is_some, codes, refl, sym, ap, ◌∙◌, subst}
+use Rattle.std.proofs.lemmas.Bool.{and_from}
 use Rattle.serde_json.specs.Data.{Data, string, object, Members}
 use Rattle.aas_model_names.specs.DirectionNames as direction
 use Rattle.aas_model_names.specs.ElementNameNames as element_name
@@ -32,7 +33,7 @@ use Rattle.aas_reference.proofs.Exists.{some_reference}
 use Rattle.aas_json_mapping.specs.Parts.{spell_lang_text, spell_extension, spell_qualifier, spell_specific_asset_id}
 use Rattle.aas_json_mapping.specs.Elements.{model_type_of, children_attribute, spelled_child, spell_element}
 use Rattle.aas_json_mapping.specs.Whole.{is_data_element, is_annotation, is_member, is_statement, Placed, admits, is_placed}
-use Rattle.aas_json_mapping.proofs.Rows.{both, Made, object_of, models_tree, agree_with}
+use Rattle.aas_json_mapping.proofs.Rows.{Made, object_of, models_tree, agree_with}
 use Rattle.aas_json_mapping.proofs.PartsFound.{semantics_found, some_lang_text, some_extension, some_qualifier, some_specific_asset_id}
 use Rattle.aas_json_mapping.proofs.Referable.{FoundReferable, referable_found}
 use Rattle.aas_json_mapping.proofs.Elements.{made, seen, seen_at, seen_role, attributes_at, AreStanding, placed_made}
@@ -275,7 +276,7 @@ annotations_admitted : (first second : Option Reference) (ts : List PlacedData) 
 annotations_admitted first second [] = tt
 annotations_admitted first second (t ∷ ts) =
     let k = with_role role.Annotation t.element in (
-      both (is_annotation (seen k).role) (seen k).is_data (ap is_annotation (seen_role k ∙ (in_with_role role.Annotation t.element t.placed).1)) (data_with_role role.Annotation t.element t.is_data),
+      and_from (is_annotation (seen k).role) (seen k).is_data (ap is_annotation (seen_role k ∙ (in_with_role role.Annotation t.element t.placed).1)) (data_with_role role.Annotation t.element t.is_data),
       annotations_admitted first second ts,
     )
 

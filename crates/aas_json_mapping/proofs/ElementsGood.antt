@@ -16,20 +16,21 @@ use Rattle.aas_model.specs.declared.common.Common.{Common}
 use Rattle.aas_model.specs.declared.element.Element.{Element}
 use Rattle.aas_model.specs.declared.payload.Payload.{Payload}
 use Rattle.aas_model.specs.declared.payload.Payload.TheVariants as p
-use Rattle.aas_json_spelling.specs.Lists.{Each}
+use Rattle.aas_json_spelling.specs.Lists.{Each, most}
 use Rattle.aas_json_spelling.specs.Good.{Good}
+use Rattle.aas_json_spelling.proofs.Lists.{each_from_most}
 use Rattle.aas_json_spelling.proofs.Rows.{and_left, and_right}
 use Rattle.aas_json_spelling.proofs.Objects.{AreGood}
 use Rattle.aas_json_spelling.proofs.MemberTypes.{EachGood, none_good, text_good, flag_good, named_good, named_if_good}
 use Rattle.aas_reference.specs.Whole.{whole_and_there}
 use Rattle.aas_reference.specs.Spelling.{spell_reference}
 use Rattle.aas_json_mapping.specs.Elements.{is_input, is_output, is_inoutput, model_type_of, spell_element}
-use Rattle.aas_json_mapping.specs.Whole.{whole_kept, whole_semantics, whole_extension, whole_qualifier, whole_common, whole_payload, has_whole_parts, is_annotation, is_placed, max_of, element_levels}
+use Rattle.aas_json_mapping.specs.Whole.{whole_kept, whole_semantics, whole_extension, whole_qualifier, whole_common, whole_payload, has_whole_parts, is_annotation, is_placed, element_levels}
 use Rattle.aas_json_mapping.proofs.Rows.{good_with, object_made}
 use Rattle.aas_json_mapping.proofs.Facts.{all_good, reference_facts, reference_if_good}
 use Rattle.aas_json_mapping.proofs.Parts.{semantics_good, qualifier_facts, specific_asset_id_facts, lang_texts_good}
 use Rattle.aas_json_mapping.proofs.Referable.{Referable, referable_good}
-use Rattle.aas_json_mapping.proofs.Elements.{by_children, attributes_at, seen, parts_at, levels_at, each_mapped, each_low, Stands, standing, level_left}
+use Rattle.aas_json_mapping.proofs.Elements.{by_children, attributes_at, seen, parts_at, levels_at, each_mapped, Stands, standing, level_left}
 use Rattle.aas_json_mapping.proofs.Kids.{children_good, variables_good}
 use Rattle.aas_json_mapping.proofs.ElementRows.{own_rows, all_rows, spell_at, rows_at, as_data}
 
@@ -166,7 +167,7 @@ kids_good l x (k ∷ ks) h w s low = (h.0 l w.0 s.0.placed low.0, kids_good l x 
 -- What a whole element spells is good, where there are levels for it.
 pub element_good : (e : Element) → IsGood e
 element_good = by_children IsGood (λ r c x ks h l w placed low.
-    let left = level_left l (max_of (map element_levels ks)) (subst (λ n. n ≤ l.elements) (levels_at r c x ks) low) in
+    let left = level_left l (most (map element_levels ks)) (subst (λ n. n ≤ l.elements) (levels_at r c x ks) low) in
     let inner : Levels = record l { elements = left.0 } in
     let s = (standing r c x ks placed).each in
     let common = whole_common l c in
@@ -177,4 +178,4 @@ element_good = by_children IsGood (λ r c x ks h l w placed low.
     let below = each_mapped (λ b. b) (has_whole_parts l) ks (and_right (common && payload) kids all) in
     subst (λ d. Good l (one element) (Some d)) (sym (spell_at r c x ks))
     (level_good l inner c x ks left.1 (whole_parts inner c (and_left common payload own)) (and_right common payload own)
-    (kids_good inner x ks h below s (each_low left.0 ks left.2)) s))
+    (kids_good inner x ks h below s (each_from_most element_levels left.0 ks left.2)) s))

@@ -1,6 +1,6 @@
 -- The laws of elements: the five facts from which all others follow.
 use Rattle.std.proofs.Common.{◌≡◌, ◌&&◌, nat_le, true, Option, Some, None, option_map, sym, ap, ◌∙◌}
-use Rattle.std.proofs.lemmas.Bool.{leb-true, le-leb}
+use Rattle.std.proofs.lemmas.Bool.{leb-true, le-leb, and_from}
 use Rattle.serde_json.specs.Data.{Data}
 use Rattle.aas_json_table.specs.Table.{one, element}
 use Rattle.aas_json_table.specs.TooDeep.{Levels}
@@ -16,7 +16,6 @@ use Rattle.aas_json_mapping.specs.Elements.{spell_element}
 use Rattle.aas_json_mapping.specs.Shape.{IsShaped}
 use Rattle.aas_json_mapping.specs.Trees.{elements}
 use Rattle.aas_json_mapping.specs.Whole.{has_whole_parts, is_member, is_placed, element_levels, is_whole_child, is_whole_element}
-use Rattle.aas_json_mapping.proofs.Rows.{both}
 use Rattle.aas_json_mapping.proofs.Elements.{role_of}
 use Rattle.aas_json_mapping.proofs.ElementsGood.{element_good}
 use Rattle.aas_json_mapping.proofs.ElementsBack.{element_back}
@@ -49,8 +48,8 @@ whole_good l e w = let whole = whole_parts l e w in element_good e l whole.parts
 pub whole_back : (l : Levels) (e : Element) → IsShaped e → Good l (one element) (Some (spell_element e)) → is_whole_element l e ≡ true
 whole_back l e shape good =
     let back = element_back e l shape.placed good in
-    both (is_member (role_of e)) (is_whole_child l e) shape.role
-    (both (has_whole_parts l e && is_placed e) (nat_le (element_levels e) l.elements) (both (has_whole_parts l e) (is_placed e) back.0 shape.placed) (le-leb (element_levels e) l.elements back.1))
+    and_from (is_member (role_of e)) (is_whole_child l e) shape.role
+    (and_from (has_whole_parts l e && is_placed e) (nat_le (element_levels e) l.elements) (and_from (has_whole_parts l e) (is_placed e) back.0 shape.placed) (le-leb (element_levels e) l.elements back.1))
 
 pub same_shaped : (e f : Element) → IsShaped e → IsShaped f → spell_element e ≡ spell_element f → e ≡ f
 same_shaped e f s t same = same_element e f s.placed t.placed (only_member (role_of e) s.role ∙ sym (only_member (role_of f) t.role)) same

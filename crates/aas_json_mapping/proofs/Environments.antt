@@ -1,5 +1,6 @@
 -- Environments: what is whole spells what is good, what spells what is good is whole, and what spells the same is the same.
 use Rattle.std.proofs.Common.{◌≡◌, ◌&&◌, List, [], ◌∷◌, true, Some, codes, refl}
+use Rattle.std.proofs.lemmas.Bool.{and_from}
 use Rattle.std.specs.List.{list_all}
 use Rattle.aas_json_table.specs.Table.{one, parts, environment, submodel}
 use Rattle.aas_json_table.specs.TooDeep.{Levels}
@@ -13,7 +14,7 @@ use Rattle.aas_json_spelling.proofs.MemberTypes.{EachGood, list_good, list_back,
 use Rattle.aas_json_mapping.specs.Documents.{spell_shell, spell_submodel, spell_concept, spell_environment}
 use Rattle.aas_json_mapping.specs.Shape.{IsShapedSubmodel, IsShapedEnvironment}
 use Rattle.aas_json_mapping.specs.Whole.{is_whole_shell, is_whole_submodel, is_whole_concept, is_whole_environment}
-use Rattle.aas_json_mapping.proofs.Rows.{both, same_rows}
+use Rattle.aas_json_mapping.proofs.Rows.{same_rows}
 use Rattle.aas_json_mapping.proofs.Facts.{all_good, all_back, all_same, part_good, part_back}
 use Rattle.aas_json_mapping.proofs.Documents.{shell_facts, concept_facts, submodel_good, submodel_back, same_submodel}
 
@@ -30,7 +31,7 @@ submodels_good l (s ∷ ss) w = (submodel_good l s (and_left (is_whole_submodel 
 
 submodels_back : (l : Levels) (ss : List Submodel) → Each IsShapedSubmodel ss → EachGood l (one submodel) spell_submodel ss → list_all (is_whole_submodel l) ss ≡ true
 submodels_back l [] shape good = refl
-submodels_back l (s ∷ ss) shape good = both (is_whole_submodel l s) (list_all (is_whole_submodel l) ss) (submodel_back l s shape.0 good.0) (submodels_back l ss shape.1 good.1)
+submodels_back l (s ∷ ss) shape good = and_from (is_whole_submodel l s) (list_all (is_whole_submodel l) ss) (submodel_back l s shape.0 good.0) (submodels_back l ss shape.1 good.1)
 
 submodels_alone : (ss : List Submodel) → Each IsShapedSubmodel ss → Each (λ x. (y : Submodel) → IsShapedSubmodel y → spell_submodel x ≡ spell_submodel y → x ≡ y) ss
 submodels_alone [] shape = tt
@@ -52,8 +53,8 @@ environment_back l e shape g =
     let good = part_back environment l (environment_attributes e) refl refl g in
     let a = list_all (is_whole_shell l) e.shells in
     let b = list_all (is_whole_submodel l) e.submodels in
-    both (a && b) (list_all (is_whole_concept l) e.concepts)
-    (both a b (all_back shell_facts l e.shells good.0) (submodels_back l e.submodels shape (list_back l spell_submodel submodel e.submodels good.1.0)))
+    and_from (a && b) (list_all (is_whole_concept l) e.concepts)
+    (and_from a b (all_back shell_facts l e.shells good.0) (submodels_back l e.submodels shape (list_back l spell_submodel submodel e.submodels good.1.0)))
     (all_back concept_facts l e.concepts good.1.1.0)
 
 pub same_environment : (e f : Environment) → IsShapedEnvironment e → IsShapedEnvironment f → spell_environment e ≡ spell_environment f → e ≡ f

@@ -1,11 +1,11 @@
 -- What is shown of the trees of a sort whose spelling shows all of them, and what follows for lists and options of them. References have it from their own crate.
 use Rattle.std.proofs.Common.{◌≡◌, nat_le, List, [], ◌∷◌, Bool, true, Option, Some, None, option_map, map, refl, sym, ◌∙◌, subst}
 use Rattle.std.specs.List.{list_all}
-use Rattle.std.proofs.lemmas.Bool.{leb-true, le-leb}
+use Rattle.std.proofs.lemmas.Bool.{leb-true, le-leb, and_from}
 use Rattle.serde_json.specs.Data.{Data}
 use Rattle.aas_json_table.specs.Table.{Sort, reference, one, many, kept, parts, model_types}
-use Rattle.aas_json_table.specs.TooDeep.{Levels, enter, too_deep}
-use Rattle.aas_json_table.specs.Canonical.{are_there, canonical}
+use Rattle.aas_json_table.specs.TooDeep.{Levels, enter}
+use Rattle.aas_json_table.specs.Canonical.{are_there}
 use Rattle.aas_json_table.specs.Spelled.{Attributes, attribute, spelled, list_of}
 use Rattle.aas_model.specs.declared.plain.Plain.{Plain}
 use Rattle.aas_model.specs.declared.reference.Reference.{Reference}
@@ -19,12 +19,8 @@ use Rattle.aas_json_spelling.proofs.Kept as kept_data
 use Rattle.aas_reference.specs.Spelling.{spell_reference}
 use Rattle.aas_reference.specs.Whole.{is_whole, whole_if_there}
 use Rattle.aas_reference.proofs.Facts as references
-use Rattle.aas_json_spelling.specs.Spells.{Trees}
-use Rattle.aas_json_spelling.specs.Values.{IsOrdered}
-use Rattle.aas_json_spelling.proofs.Laws.{Laws}
-use Rattle.aas_json_spelling.proofs.Canonicals.{canonical_good}
 use Rattle.aas_json_mapping.specs.Whole.{whole_kept}
-use Rattle.aas_json_mapping.proofs.Rows.{both, object_made, object_within, part_rows}
+use Rattle.aas_json_mapping.proofs.Rows.{object_made, object_within, part_rows}
 
 pub record Facts {A : Type 0} (s : Sort) (spell : A → Data) (whole : Levels → A → Bool) : Type 0 where
   -- what is whole spells what is good
@@ -41,7 +37,7 @@ module _ {A : Type 0} {s : Sort} {spell : A → Data} {whole : Levels → A → 
 
   each_back : (l : Levels) (xs : List A) → EachGood l (one s) spell xs → list_all (whole l) xs ≡ true
   each_back l [] g = refl
-  each_back l (x ∷ xs) g = both (whole l x) (list_all (whole l) xs) (facts.back l x g.0) (each_back l xs g.1)
+  each_back l (x ∷ xs) g = and_from (whole l x) (list_all (whole l) xs) (facts.back l x g.0) (each_back l xs g.1)
 
   pub all_good : (l : Levels) (xs : List A) → list_all (whole l) xs ≡ true → Good l (many s) (list_of spell xs)
   all_good l xs e = list_good l spell s xs (each_good l xs e)
@@ -93,11 +89,4 @@ kept_good l ps w = kept_data.whole_good ps l (record {
 
 pub kept_back : (l : Levels) (ps : List Plain) → Good l kept (spell_kept ps) → whole_kept l ps ≡ true
 kept_back l ps g =
-    let whole = kept_data.whole_back ps l g in both (each_true (map is_ordered ps)) (nat_le (kept_depth ps) l.kept) whole.order (le-leb (kept_depth ps) l.kept whole.low)
-
--- ---- what a value says
-
--- A tree that a value says is whole, where nothing in the value is too deep.
-pub said_whole : {A : Type 0} (trees : Trees A) (Shape : A → Type 0) → Laws trees Shape → (l : Levels) (j : Data) (t : A) → IsOrdered j → Shape t → too_deep (one trees.sort) j l ≡ None
-    → canonical (one trees.sort) j ≡ Some (trees.spell t) → trees.IsWhole l t
-said_whole trees Shape laws l j t order shape low says = laws.back l t shape (subst (λ x. Good l (one trees.sort) x) says (canonical_good j (one trees.sort) l order low))
+    let whole = kept_data.whole_back ps l g in and_from (each_true (map is_ordered ps)) (nat_le (kept_depth ps) l.kept) whole.order (le-leb (kept_depth ps) l.kept whole.low)

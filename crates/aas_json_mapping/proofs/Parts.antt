@@ -1,5 +1,6 @@
 -- Parts of documents and elements: what is whole spells what is good, what spells what is good is whole, and what spells the same is the same.
 use Rattle.std.proofs.Common.{◌≡◌, List, [], ◌∷◌, Bool, true, Option, Some, None, option_map, refl}
+use Rattle.std.proofs.lemmas.Bool.{and_from}
 use Rattle.std.specs.List.{list_all}
 use Rattle.aas_model_names.specs.AssetKindNames as asset_kind
 use Rattle.aas_model_names.specs.QualifierKindNames as qualifier_kind
@@ -23,7 +24,7 @@ use Rattle.aas_json_spelling.proofs.Kept.{same_kept}
 use Rattle.aas_reference.specs.Whole.{is_whole, whole_if_there}
 use Rattle.aas_json_mapping.specs.Parts.{semantics_attributes, spell_lang_text, lang_text_attributes, spell_extension, extension_attributes, spell_qualifier, qualifier_attributes, spell_specific_asset_id, specific_asset_id_attributes, spell_administration, administration_attributes, spell_resource, resource_attributes, spell_asset_information, asset_information_attributes}
 use Rattle.aas_json_mapping.specs.Whole.{whole_kept, whole_semantics, whole_extension, whole_qualifier, whole_specific_asset_id, whole_administration, whole_asset_information, whole_administration_if_there}
-use Rattle.aas_json_mapping.proofs.Rows.{both, same_rows}
+use Rattle.aas_json_mapping.proofs.Rows.{same_rows}
 use Rattle.aas_json_mapping.proofs.Facts.{Facts, all_good, all_back, all_same, if_same, part_good, part_back, reference_facts, reference_if_good, reference_if_back, kept_good, kept_back}
 
 -- ---- what several classes have
@@ -35,7 +36,7 @@ semantics_good l s w = (
 )
 
 pub semantics_back : (l : Levels) (s : Semantics) → AreGood l has_semantics (attribute (semantics_attributes s)) → whole_semantics l s ≡ true
-semantics_back l s good = both (whole_if_there l s.semantic_id) (list_all (is_whole l) s.supplemental_semantic_ids) (reference_if_back l s.semantic_id good.0) (all_back reference_facts l s.supplemental_semantic_ids good.1.0)
+semantics_back l s good = and_from (whole_if_there l s.semantic_id) (list_all (is_whole l) s.supplemental_semantic_ids) (reference_if_back l s.semantic_id good.0) (all_back reference_facts l s.supplemental_semantic_ids good.1.0)
 
 pub same_semantics : (s t : Semantics) → Agree has_semantics (attribute (semantics_attributes s)) (attribute (semantics_attributes t)) → s ≡ t
 same_semantics s t agree =
@@ -87,7 +88,7 @@ extension_good l e w =
 extension_back : (l : Levels) (e : Extension) → Good l (one extension) (Some (spell_extension e)) → whole_extension l e ≡ true
 extension_back l e g =
     let good = part_back extension l (extension_attributes e) refl refl g in
-    both (list_all (is_whole l) e.refers_to) (whole_semantics l e.semantics) (all_back reference_facts l e.refers_to good.1.1.1.0) (semantics_back l e.semantics good.1.1.1.1)
+    and_from (list_all (is_whole l) e.refers_to) (whole_semantics l e.semantics) (all_back reference_facts l e.refers_to good.1.1.1.0) (semantics_back l e.semantics good.1.1.1.1)
 
 same_extension : (d e : Extension) → spell_extension d ≡ spell_extension e → d ≡ e
 same_extension d e is =
@@ -123,7 +124,7 @@ qualifier_good l q w =
 qualifier_back : (l : Levels) (q : Qualifier) → Good l (one qualifier) (Some (spell_qualifier q)) → whole_qualifier l q ≡ true
 qualifier_back l q g =
     let good = part_back qualifier l (qualifier_attributes q) refl refl g in
-    both (whole_if_there l q.value_id) (whole_semantics l q.semantics) (reference_if_back l q.value_id good.1.1.1.1.0) (semantics_back l q.semantics good.1.1.1.1.1)
+    and_from (whole_if_there l q.value_id) (whole_semantics l q.semantics) (reference_if_back l q.value_id good.1.1.1.1.0) (semantics_back l q.semantics good.1.1.1.1.1)
 
 same_qualifier : (p q : Qualifier) → spell_qualifier p ≡ spell_qualifier q → p ≡ q
 same_qualifier p q is =
@@ -157,7 +158,7 @@ specific_asset_id_good l a w =
 specific_asset_id_back : (l : Levels) (a : SpecificAssetId) → Good l (one specific_asset_id) (Some (spell_specific_asset_id a)) → whole_specific_asset_id l a ≡ true
 specific_asset_id_back l a g =
     let good = part_back specific_asset_id l (specific_asset_id_attributes a) refl refl g in
-    both (whole_if_there l a.external_subject_id) (whole_semantics l a.semantics) (reference_if_back l a.external_subject_id good.1.1.0) (semantics_back l a.semantics good.1.1.1)
+    and_from (whole_if_there l a.external_subject_id) (whole_semantics l a.semantics) (reference_if_back l a.external_subject_id good.1.1.0) (semantics_back l a.semantics good.1.1.1)
 
 same_specific_asset_id : (a b : SpecificAssetId) → spell_specific_asset_id a ≡ spell_specific_asset_id b → a ≡ b
 same_specific_asset_id a b is =
@@ -189,7 +190,7 @@ administration_good l a w =
 administration_back : (l : Levels) (a : Administration) → Good l (one administration) (Some (spell_administration a)) → whole_administration l a ≡ true
 administration_back l a g =
     let good = part_back administration l (administration_attributes a) refl refl g in
-    both (whole_if_there l a.creator) (whole_kept l a.embedded_data_specifications) (reference_if_back l a.creator good.1.1.0) (kept_back l a.embedded_data_specifications good.1.1.1.1.0)
+    and_from (whole_if_there l a.creator) (whole_kept l a.embedded_data_specifications) (reference_if_back l a.creator good.1.1.0) (kept_back l a.embedded_data_specifications good.1.1.1.1.0)
 
 same_administration : (a b : Administration) → spell_administration a ≡ spell_administration b → a ≡ b
 same_administration a b is =

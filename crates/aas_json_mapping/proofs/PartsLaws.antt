@@ -1,15 +1,12 @@
 -- The laws of the parts that are read by themselves.
 use Rattle.aas_json_table.specs.Table.{one}
 use Rattle.aas_json_table.specs.Canonical.{canonical}
+use Rattle.aas_json_spelling.specs.Mapped.{AnyShape}
 use Rattle.aas_json_spelling.proofs.Exists.{and_nothing}
 use Rattle.aas_json_spelling.proofs.Laws.{Laws}
 use Rattle.aas_json_mapping.specs.Trees.{specific_asset_ids, asset_informations}
 use Rattle.aas_json_mapping.proofs.Parts.{specific_asset_id_facts, asset_information_facts}
 use Rattle.aas_json_mapping.proofs.PartsFound.{some_specific_asset_id, some_asset_information}
-
--- the spelling shows all of the tree
-abbrev pub AnyShape : {A : Type 0} → A → Type 0
-AnyShape t = Unit {0}
 
 pub specific_asset_ids_laws : Laws specific_asset_ids AnyShape
 specific_asset_ids_laws = record {

@@ -1,5 +1,6 @@
 -- Elements that are given a role, and children in their roles.
 use Rattle.std.proofs.Common.{◌≡◌, ℕ, nat_le, List, [], ◌∷◌, ◌++◌, map, cond, Bool, true, false, Option, Some, codes, refl, sym, ap, ap₂, ◌∙◌, append-nil}
+use Rattle.std.proofs.lemmas.Bool.{and_from}
 use Rattle.std.specs.List.{list_all}
 use Rattle.serde_json.specs.Data.{Data, no_items, item}
 use Rattle.aas_json_table.specs.Canonical.{listed}
@@ -14,7 +15,6 @@ use Rattle.aas_model.specs.declared.payload.Payload.{Payload}
 use Rattle.aas_json_spelling.specs.Lists.{Each}
 use Rattle.aas_json_mapping.specs.Elements.{is_input, is_output, is_inoutput, spelled_child, spell_element, children_attribute, variables_attribute}
 use Rattle.aas_json_mapping.specs.Whole.{Placed, admits, is_variable, rank, in_order, is_placed}
-use Rattle.aas_json_mapping.proofs.Rows.{both}
 use Rattle.aas_json_mapping.proofs.Elements.{made, made_out, role_of, seen, seen_at, seen_role, seen_data, ranks, Stands, AreStanding, standing, placed_made, spell_at}
 use Rattle.aas_json_mapping.proofs.ElementsSame.{role_made}
 use Rattle.aas_json_mapping.proofs.Kids.{IsIn, children_are, of_role, spell_as_variable, variables_are, each_append}
@@ -61,12 +61,12 @@ module _ {T : Type 0} (element_of : T → Element) (r : Role) where
 
 low_in : (n : ℕ) (r : Role) → nat_le n (rank r) ≡ true → (ks : List Element) → Each (IsIn r) ks → list_all (nat_le n) (ranks ks) ≡ true
 low_in n r low [] each = refl
-low_in n r low (k ∷ ks) each = both (nat_le n (rank (role_of k))) (list_all (nat_le n) (ranks ks)) (ap (λ q. nat_le n (rank q)) each.0.1 ∙ low) (low_in n r low ks each.1)
+low_in n r low (k ∷ ks) each = and_from (nat_le n (rank (role_of k))) (list_all (nat_le n) (ranks ks)) (ap (λ q. nat_le n (rank q)) each.0.1 ∙ low) (low_in n r low ks each.1)
 
 low_append : (n : ℕ) (xs ys : List Element) → list_all (nat_le n) (ranks xs) ≡ true → list_all (nat_le n) (ranks ys) ≡ true → list_all (nat_le n) (ranks (xs ++ ys)) ≡ true
 low_append n [] ys a b = b
 low_append n (x ∷ xs) ys a b =
-    both (nat_le n (rank (role_of x))) (list_all (nat_le n) (ranks (xs ++ ys))) (and_left (nat_le n (rank (role_of x))) _ a) (low_append n xs ys (and_right (nat_le n (rank (role_of x))) _ a) b)
+    and_from (nat_le n (rank (role_of x))) (list_all (nat_le n) (ranks (xs ++ ys))) (and_left (nat_le n (rank (role_of x))) _ a) (low_append n xs ys (and_right (nat_le n (rank (role_of x))) _ a) b)
 
 itself : (r : Role) → nat_le (rank r) (rank r) ≡ true
 itself role.Member = refl
@@ -79,13 +79,13 @@ itself role.Inoutput = refl
 order_append : (r : Role) (xs ys : List Element) → Each (IsIn r) xs → list_all (nat_le (rank r)) (ranks ys) ≡ true → in_order (ranks ys) ≡ true → in_order (ranks (xs ++ ys)) ≡ true
 order_append r [] ys each low order = order
 order_append r (x ∷ xs) ys each low order =
-    both (list_all (nat_le (rank (role_of x))) (ranks (xs ++ ys))) (in_order (ranks (xs ++ ys)))
+    and_from (list_all (nat_le (rank (role_of x))) (ranks (xs ++ ys))) (in_order (ranks (xs ++ ys)))
     (ap (λ q. list_all (nat_le (rank q)) (ranks (xs ++ ys))) each.0.1 ∙ low_append (rank r) xs ys (low_in (rank r) r (itself r) xs each.1) low) (order_append r xs ys each.1 low order)
 
 order_in : (r : Role) (ks : List Element) → Each (IsIn r) ks → in_order (ranks ks) ≡ true
 order_in r [] each = refl
 order_in r (k ∷ ks) each =
-    both (list_all (nat_le (rank (role_of k))) (ranks ks)) (in_order (ranks ks)) (ap (λ q. list_all (nat_le (rank q)) (ranks ks)) each.0.1 ∙ low_in (rank r) r (itself r) ks each.1) (order_in r ks each.1)
+    and_from (list_all (nat_le (rank (role_of k))) (ranks ks)) (in_order (ranks ks)) (ap (λ q. list_all (nat_le (rank q)) (ranks ks)) each.0.1 ∙ low_in (rank r) r (itself r) ks each.1) (order_in r ks each.1)
 
 -- children in one role, which their parent's kind has a place for
 pub standing_in : (x : Payload) (r : Role) (ks : List Element) → Each (IsIn r) ks → Each (λ k. admits x (seen k) ≡ true) ks → AreStanding x ks

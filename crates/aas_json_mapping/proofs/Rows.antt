@@ -1,25 +1,23 @@
 -- The rows of an object in the order in which the table lists them: what holds of each of them there holds of each as they are sorted, and back.
 use Rattle.std.proofs.Common.{◌≡◌, ℕ, List, [], ◌∷◌, ◌++◌, ◌&&◌, Bool, true, false, Option, Some, None, option_map, is_some, if◌then◌else◌, Ordering, Less, Equal, Greater, nat_cmp, codes, refl, sym, ap, ◌∙◌, true≢false}
+use Rattle.std.proofs.lemmas.Bool.{and_from}
 use Rattle.std.specs.Cmp.Lexicographic.{slice_cmp}
 use Rattle.std.specs.Ordering.{match_ordering}
 use Rattle.serde_json.specs.Data.{Data, null, boolean, number, string, array, object, no_items, item, Members, no_members, member}
 use Rattle.serde_json.specs.Find.{get_member}
 use Rattle.aas_json_table.specs.Table.{Sort, MemberType, text, flag, word, one, many, kept, plain, Row, parts, model_types}
 use Rattle.aas_json_table.specs.Rows.{find, insert_row, sorted, choose, rows_of, is_there}
-use Rattle.aas_json_table.specs.Misfit.{misfit}
 use Rattle.aas_json_table.specs.TooDeep.{Levels, enter}
 use Rattle.aas_json_table.specs.Canonical.{are_there, members_by, canonical, canonical_member}
 use Rattle.aas_json_table.specs.Spelled.{Attributes, attribute, spelled}
 use Rattle.aas_json_spelling.specs.Lists.{Each, is_any}
 use Rattle.aas_json_spelling.specs.Good.{Good}
 use Rattle.aas_json_spelling.proofs.Rows.{and_left, and_right, rising, is_attribute, are_attributes, rows_rise, rows_attributes}
+use Rattle.aas_json_spelling.proofs.Fits.{one_there}
 use Rattle.aas_json_spelling.proofs.Objects.{Agree, AreGood, are_full, finds, same_attributes, same_members, object_good, object_back}
 use Rattle.aas_json_spelling.proofs.Exists.{IsSpelled, Object, Model, model_tree}
 
-pub both : (a b : Bool) → a ≡ true → b ≡ true → a && b ≡ true
-both a b e f = rw (e, f) refl
-
--- ---- each row, in both orders
+-- ---- each row, in and_from orders
 
 insert_each : (P : Row → Type 0) (r : Row) (rows : List Row) → P r → Each P rows → Each P (insert_row r rows)
 insert_each P r [] p each = (p, tt)
@@ -95,7 +93,7 @@ there_first true t rest e = (λ h. and_left t rest e, and_right t rest e)
 there_first false t rest e = (λ h. absurd (true≢false (sym h)), e)
 
 first_there : (b t rest : Bool) → (b ≡ true → t ≡ true) → rest ≡ true → (if b then t && rest else rest) ≡ true
-first_there true t rest h e = both t rest (h refl) e
+first_there true t rest h e = and_from t rest (h refl) e
 first_there false t rest h e = e
 
 each_there : (rows : List Row) (g : List ℕ → MemberType → Option Data) → are_there rows g ≡ true → Each (IsThereAt g) rows
@@ -108,14 +106,6 @@ there_each (r ∷ rs) g each = first_there r.required (is_some (g r.name r.membe
 
 -- ---- no required attribute that is good is an empty list
 
-one_full : (s : Sort) (d : Data) → misfit (one s) d ≡ None → is_there (Some d) ≡ true
-one_full s (object ms) e = refl
-one_full s null e = cc
-one_full s (boolean b) e = cc
-one_full s (number n) e = cc
-one_full s (string x) e = cc
-one_full s (array ds) e = cc
-
 full_value : (l : Levels) (f : MemberType) (d : Data) → is_attribute f ≡ true → Good l f (Some d) → is_there (Some d) ≡ true
 full_value l f null a good = refl
 full_value l f (boolean b) a good = refl
@@ -123,7 +113,7 @@ full_value l f (number n) a good = refl
 full_value l f (string s) a good = refl
 full_value l f (object ms) a good = refl
 full_value l f (array (item d ds)) a good = refl
-full_value l (one s) (array no_items) a good = one_full s (array no_items) good.fits
+full_value l (one s) (array no_items) a good = one_there s (array no_items) good.fits
 full_value l (many s) (array no_items) a good = let e : ◌≡◌ {A = Option Data} None (Some (array no_items)) = good.again in cc
 full_value l kept (array no_items) a good = let e : ◌≡◌ {A = Option Data} None (Some (array no_items)) = good.again in cc
 full_value l text (array no_items) a good = let e : ◌≡◌ {A = Option Data} None (Some (array no_items)) = good.again in cc

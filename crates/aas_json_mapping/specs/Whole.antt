@@ -1,8 +1,9 @@
 -- Whole trees: every member that the table requires is there, children stand only where their parent's kind has a place for them, each in a role of that kind,
 -- and no level passes the limits. The limits are this profile's own rule; the rest restates the metamodel of IDTA-01001-3-0.
-use Rattle.std.specs.Prelude.{ℕ, suc, ◌&&◌, nat_le, max, is_some, Bool, true, false, List, [], ◌∷◌, map, Option, Some, None}
+use Rattle.std.specs.Prelude.{ℕ, suc, ◌&&◌, nat_le, is_some, Bool, true, false, List, [], ◌∷◌, map, Option, Some, None}
 use Rattle.std.specs.List.{list_all}
 use Rattle.aas_json_table.specs.TooDeep.{Levels}
+use Rattle.aas_json_spelling.specs.Lists.{most}
 use Rattle.aas_json_spelling.specs.Kept.{each_true, is_ordered, kept_depth}
 use Rattle.aas_reference.specs.Whole.{is_whole, whole_if_there, whole_and_there}
 use Rattle.aas_model.specs.declared.reference.Semantics.{Semantics}
@@ -143,13 +144,9 @@ placed_over e = record {
 abbrev pub is_placed : Element → Bool
 is_placed e = (fold-Element Placed placed_over e).placed
 
-abbrev pub max_of : List ℕ → ℕ
-max_of [] = 0
-max_of (n ∷ ns) = max n (max_of ns)
-
 -- how many levels of elements an element has, its own among them
 abbrev pub element_levels : Element → ℕ
-element_levels = fold-Element ℕ (λ e. suc (max_of e.kids))
+element_levels = fold-Element ℕ (λ e. suc (most e.kids))
 
 -- an element that stands in a document, in its role
 abbrev pub is_whole_child : Levels → Element → Bool

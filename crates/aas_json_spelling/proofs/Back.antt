@@ -1,11 +1,12 @@
 -- The compact text of a value reads back as the value, where its names rise, its numbers are whole and it nests at most 127 deep.
-use Rattle.std.proofs.Common.{◌≡◌, ℕ, pos, negsuc, suc, ◌<◌, ◌≤◌, max, ◌==◌, ◌&&◌, nat_lt, Bool, true, false, cond, List, [], ◌∷◌, ◌++◌, get_or, Some, option_map, option_and_then, Less, Greater, nat_cmp, IsUtf8, decimal, refl, sym, ap, ap₂, ◌∙◌, arith, append-nil}
+use Rattle.std.proofs.Common.{◌≡◌, ℕ, pos, negsuc, zero, suc, ◌<◌, ◌≤◌, max, ◌==◌, ◌/◌, ◌%◌, if◌then◌else◌, nat_lt, Bool, true, false, cond, List, [], ◌∷◌, ◌++◌, get_or, Some, option_map, option_and_then, Less, Greater, nat_cmp, IsUtf8, decimal, refl, sym, ap, ap₂, ◌∙◌, arith, append-nil}
 use Rattle.std.specs.Cmp.Lexicographic.{slice_cmp}
 use Rattle.std.specs.Ordering.{ordering_reverse}
 use Rattle.std.proofs.lemmas.Cmp.{nat_list_cmp_total}
-use Rattle.std.proofs.lemmas.Str.{IsUtf8-append, IsUtf8-nil, IsUtf8-from_ascii, is_utf8-from_IsUtf8}
-use Rattle.std.proofs.lemmas.Fmt.{first_decimal, IsAscii-decimal}
-use Rattle.std.proofs.lemmas.Bool.{ne_eqb}
+use Rattle.std.specs.Fmt.{digits, digits_onto, digit_glyph}
+use Rattle.std.proofs.lemmas.Str.{IsUtf8-append, IsUtf8-nil}
+use Rattle.std.proofs.lemmas.Fmt.{first_decimal}
+use Rattle.std.proofs.lemmas.Bool.{ne_eqb, and_from}
 use Rattle.json.specs.Json as json
 use Rattle.json.specs.Tree as tree
 use Rattle.json.specs.Lex.{tokens}
@@ -21,7 +22,6 @@ use Rattle.serde_json.specs.Written.{number_text, outline, items_outline, member
 use Rattle.serde_json.proofs.Numbers.{number_of-decimal, number_of-negative}
 use Rattle.serde_json.proofs.Texts.{print-outline}
 use Rattle.aas_json_spelling.specs.Values.{IsText, AreTexts, HasTexts, IsOrdered, AreOrdered, HasOrder, AreAbove, IsWholeNumber, HasWholeNumbers, HaveWholeNumbers, MembersHaveWholeNumbers}
-use Rattle.aas_json_spelling.specs.Reading.{reading}
 
 -- ---- members that go in one after another
 
@@ -161,14 +161,28 @@ read_back d o w shallow =
 
 -- ---- the text is UTF-8
 
-number_utf8 : (n : Num) → IsWholeNumber n → IsUtf8 (number_text n)
-number_utf8 (unsigned n) h = IsUtf8-from_ascii (decimal n) (IsAscii-decimal n h)
-number_utf8 (negative (pos n)) h = absurd h
-number_utf8 (negative (negsuc n)) h = IsUtf8-append (45 ∷ []) (decimal (suc n)) (IsUtf8-are_ascii (45 ∷ []) refl) (IsUtf8-from_ascii (decimal (suc n)) (IsAscii-decimal (suc n) (omega (arith, h))))
-number_utf8 (float x) h = absurd h
+one_byte : (x : ℕ) (xs : List ℕ) → nat_lt x 128 ≡ true → IsUtf8 xs → IsUtf8 (x ∷ xs)
+one_byte x xs small u = IsUtf8-append (x ∷ []) xs (IsUtf8-are_ascii (x ∷ []) (and_from (nat_lt x 128) true small refl)) u
 
-one_byte : (x : ℕ) (xs : List ℕ) → nat_lt x 128 && true ≡ true → IsUtf8 xs → IsUtf8 (x ∷ xs)
-one_byte x xs small u = IsUtf8-append (x ∷ []) xs (IsUtf8-are_ascii (x ∷ []) small) u
+glyph_small : (d : ℕ) → d < 10 → nat_lt (digit_glyph false d) 128 ≡ true
+glyph_small d low = grind arith
+
+digits_utf8 : (k n : ℕ) (later : List ℕ) → IsUtf8 later → IsUtf8 (digits_onto k 10 false n later)
+digits_utf8 zero n later u = u
+digits_utf8 (suc k) n later u =
+    let more = digit_glyph false (n % 10) ∷ later in
+    let here = one_byte (digit_glyph false (n % 10)) later (glyph_small (n % 10) (omega arith)) u in
+    elim (n / 10 == 0) as (λ b. IsUtf8 (if b then more else digits_onto k 10 false (n / 10) more)) [ true ↦ here | false ↦ digits_utf8 k (n / 10) more here ]
+
+decimal_utf8 : (n : ℕ) → IsUtf8 (decimal n)
+unfolding digits
+decimal_utf8 n = digits_utf8 64 n [] IsUtf8-nil
+
+number_utf8 : (n : Num) → IsUtf8 (number_text n)
+number_utf8 (unsigned n) = decimal_utf8 n
+number_utf8 (negative (pos n)) = decimal_utf8 n
+number_utf8 (negative (negsuc n)) = one_byte 45 (decimal (suc n)) refl (decimal_utf8 (suc n))
+number_utf8 (float x) = IsUtf8-nil
 
 comma_utf8 : (b : Bool) → IsUtf8 (comma_if b)
 comma_utf8 true = IsUtf8-are_ascii (44 ∷ []) refl
@@ -176,25 +190,21 @@ comma_utf8 false = IsUtf8-nil
 
 mutual
   -- The compact text is UTF-8.
-  pub text_utf8 : (d : Data) → IsText d → HasWholeNumbers d → IsUtf8 (compact_text d)
-  text_utf8 null u w = IsUtf8-are_ascii (110 ∷ 117 ∷ 108 ∷ 108 ∷ []) refl
-  text_utf8 (boolean b) u w = IsUtf8-boolean b
-  text_utf8 (number n) u w = number_utf8 n w
-  text_utf8 (string s) u w = IsUtf8-quoted s u
-  text_utf8 (array ds) u w = one_byte 91 (items_text false ds) refl (items_utf8 false ds u w)
-  text_utf8 (object ms) u w = one_byte 123 (members_text false ms) refl (members_utf8 false ms u w)
+  pub text_utf8 : (d : Data) → IsText d → IsUtf8 (compact_text d)
+  text_utf8 null u = IsUtf8-are_ascii (110 ∷ 117 ∷ 108 ∷ 108 ∷ []) refl
+  text_utf8 (boolean b) u = IsUtf8-boolean b
+  text_utf8 (number n) u = number_utf8 n
+  text_utf8 (string s) u = IsUtf8-quoted s u
+  text_utf8 (array ds) u = one_byte 91 (items_text false ds) refl (items_utf8 false ds u)
+  text_utf8 (object ms) u = one_byte 123 (members_text false ms) refl (members_utf8 false ms u)
 
-  items_utf8 : (later : Bool) (ds : Items) → AreTexts ds → HaveWholeNumbers ds → IsUtf8 (items_text later ds)
-  items_utf8 later no_items u w = IsUtf8-are_ascii (93 ∷ []) refl
-  items_utf8 later (item d ds) u w = IsUtf8-append (comma_if later) (compact_text d ++ items_text true ds) (comma_utf8 later) (IsUtf8-append (compact_text d) (items_text true ds) (text_utf8 d u.0 w.0) (items_utf8 true ds u.1 w.1))
+  items_utf8 : (later : Bool) (ds : Items) → AreTexts ds → IsUtf8 (items_text later ds)
+  items_utf8 later no_items u = IsUtf8-are_ascii (93 ∷ []) refl
+  items_utf8 later (item d ds) u = IsUtf8-append (comma_if later) (compact_text d ++ items_text true ds) (comma_utf8 later) (IsUtf8-append (compact_text d) (items_text true ds) (text_utf8 d u.0) (items_utf8 true ds u.1))
 
-  members_utf8 : (later : Bool) (ms : Members) → HasTexts ms → MembersHaveWholeNumbers ms → IsUtf8 (members_text later ms)
-  members_utf8 later no_members u w = IsUtf8-are_ascii (125 ∷ []) refl
-  members_utf8 later (member k d ms) u w =
+  members_utf8 : (later : Bool) (ms : Members) → HasTexts ms → IsUtf8 (members_text later ms)
+  members_utf8 later no_members u = IsUtf8-are_ascii (125 ∷ []) refl
+  members_utf8 later (member k d ms) u =
       let rest = compact_text d ++ members_text true ms in
       IsUtf8-append (comma_if later) (quoted k ++ 58 ∷ rest) (comma_utf8 later)
-      (IsUtf8-append (quoted k) (58 ∷ rest) (IsUtf8-quoted k u.0) (one_byte 58 rest refl (IsUtf8-append (compact_text d) (members_text true ms) (text_utf8 d u.1 w.0) (members_utf8 true ms u.2 w.1))))
-
--- The bytes of the compact text are read as the value.
-pub reading_back : (d : Data) → IsText d → IsOrdered d → HasWholeNumbers d → depth d ≤ max_depth → reading (compact_text d) ≡ Some d
-reading_back d u o w shallow = rw (is_utf8-from_IsUtf8 (compact_text d) (text_utf8 d u w)) (read_back d o w shallow)
+      (IsUtf8-append (quoted k) (58 ∷ rest) (IsUtf8-quoted k u.0) (one_byte 58 rest refl (IsUtf8-append (compact_text d) (members_text true ms) (text_utf8 d u.1) (members_utf8 true ms u.2))))

@@ -41,7 +41,7 @@ word_fits : (b : Bool) (s : List ℕ) → (if b then no_fault else Some []) ≡ 
 word_fits true s e = refl
 word_fits false s e = cc
 
-one_there : (s : Sort) (d : Data) → misfit (one s) d ≡ None → is_there (Some d) ≡ true
+pub one_there : (s : Sort) (d : Data) → misfit (one s) d ≡ None → is_there (Some d) ≡ true
 one_there s (object ms) e = refl
 one_there s null e = cc
 one_there s (boolean b) e = cc

@@ -1,8 +1,9 @@
 -- Kept data: what is whole spells what is good, what spells what is good is whole, and what is spelled is spelled from one thing.
-use Rattle.std.proofs.Common.{◌≡◌, ℕ, zero, suc, ◌≤◌, ◌&&◌, List, [], ◌∷◌, Bool, true, map, Some, None, option_map, Ordering, Less, nat_cmp, is_lt, refl, sym, ap, ap₂, ◌∙◌, subst, true≢false, arith}
+use Rattle.std.proofs.Common.{◌≡◌, ℕ, zero, suc, ◌≤◌, ◌&&◌, List, [], ◌∷◌, Bool, true, map, Some, None, option_map, nat_cmp, is_lt, refl, sym, ap, ap₂, ◌∙◌, subst, arith}
 use Rattle.std.specs.Cmp.Lexicographic.{slice_cmp}
 use Rattle.std.specs.Str.{encode_utf8_all}
 use Rattle.std.proofs.lemmas.Str.{encodes_same}
+use Rattle.aas_lemmas.proofs.Truth.{Less-from_is_lt}
 use Rattle.serde_json.specs.Data.{Data, null, boolean, array, object, no_items, Members, no_members, member}
 use Rattle.aas_json_table.specs.Table.{plain, kept}
 use Rattle.aas_json_table.specs.TooDeep.{Levels, within, enter_kept, spend}
@@ -141,14 +142,9 @@ list_each : (l : Levels) (ps : List Plain) → Each IsGood ps → each_true (map
 list_each l [] h o n = tt
 list_each l (p ∷ ps) h o n = (h.0 l (and_left _ _ o) (omega (arith, n)), list_each l ps h.1 (and_right (is_ordered p) _ o) (omega (arith, n)))
 
-lesser : (o : Ordering) → is_lt o ≡ true → o ≡ Less
-lesser Ordering.Less e = refl
-lesser Ordering.Equal e = absurd (true≢false (sym e))
-lesser Ordering.Greater e = absurd (true≢false (sym e))
-
 names_above : (n : List ℕ) (ms : List PlainPair) → is_below n (map name_of ms) ≡ true → AreAbove n (spell_members ms)
 names_above n [] e = tt
-names_above n (m ∷ ms) e = (lesser (slice_cmp nat_cmp n (name_of m)) (and_left _ _ e), names_above n ms (and_right (is_lt (slice_cmp nat_cmp n (name_of m))) _ e))
+names_above n (m ∷ ms) e = (Less-from_is_lt (slice_cmp nat_cmp n (name_of m)) (and_left _ _ e), names_above n ms (and_right (is_lt (slice_cmp nat_cmp n (name_of m))) _ e))
 
 map_each : (l : Levels) (ms : List PlainPair) → Each (λ m. IsGood m.value) ms → are_rising (map name_of ms) ≡ true → each_true (map (λ m. is_ordered m.value) ms) ≡ true
     → most (map (λ m. plain_depth m.value) ms) ≤ l.kept → GoodMembers l (spell_members ms)

@@ -1,6 +1,9 @@
 -- The laws of spelling of the trees of a sort, from five facts about them.
-use Rattle.std.proofs.Common.{◌≡◌, ◌⊎◌, ℕ, List, Option, Some, None, IsSome, Result, Ok, Err, inl, inr, refl, sym, ap, subst}
+use Rattle.std.proofs.Common.{◌≡◌, ◌⊎◌, ℕ, List, Option, Some, None, IsSome, Result, Ok, Err, IsUtf8, inl, inr, refl, sym, ap, subst}
+use Rattle.std.proofs.lemmas.Str.{is_utf8-from_IsUtf8}
 use Rattle.serde_json.specs.Data.{Data}
+use Rattle.serde_json.specs.Read.{read}
+use Rattle.serde_json.specs.Written.{compact_text}
 use Rattle.aas_json_table.specs.Table.{one}
 use Rattle.aas_json_table.specs.Rows.{Pointer}
 use Rattle.aas_json_table.specs.Misfit.{misfit}
@@ -9,7 +12,8 @@ use Rattle.aas_json_table.specs.Canonical.{canonical}
 use Rattle.aas_model.specs.declared.read_fault.ReadFault.{ReadFault}
 use Rattle.aas_model.specs.declared.read_fault.ReadFault.TheVariants.{NotJson, NotMapping, TooDeep, NoMemory}
 use Rattle.aas_json_spelling.specs.Values.{IsText, IsOrdered, IsValue}
-use Rattle.aas_json_spelling.specs.Spells.{Trees, Spells, SpellsOne, ExactlyOne, ReadsBack}
+use Rattle.aas_json_spelling.specs.Mapped.{IsMapped}
+use Rattle.aas_json_spelling.specs.Spells.{Trees, Spells, SpellsOne, ExactlyOne, IsWithinLimits, ReadsBack, canonical_text}
 use Rattle.aas_json_spelling.specs.Good.{Good}
 use Rattle.aas_json_spelling.specs.Reading.{reading}
 use Rattle.aas_json_spelling.specs.Reads.{IsPointer, Reads, ReadsEach, ReadsIf, ReadsEachIf, ReadsBytes, ReadsEachOfBytes}
@@ -44,11 +48,15 @@ module _ {A : Type 0} (trees : Trees A) (Shape : A → Type 0) (laws : Laws tree
   pub one_tree : (l : Levels) (j : Data) (t u : A) → Spells trees l j t → Spells trees l j u → t ≡ u
   one_tree l j t u s r = same_said (canonical (one trees.sort) j) t u (laws.shaped l t s.whole) (laws.shaped l u r.whole) s.says r.says
 
+  -- A tree that a value says is whole, where nothing in the value is too deep.
+  said_whole : (l : Levels) (j : Data) (t : A) → IsOrdered j → Shape t → too_deep (one trees.sort) j l ≡ None → canonical (one trees.sort) j ≡ Some (trees.spell t) → trees.IsWhole l t
+  said_whole l j t o s low says = laws.back l t s (subst (λ x. Good l (one trees.sort) x) says (canonical_good j (one trees.sort) l o low))
+
   -- What a value says spells it, where the value fits and is not too deep.
   pub spells_said : (l : Levels) (j : Data) (t : A) → IsOrdered j → Shape t → misfit (one trees.sort) j ≡ None → too_deep (one trees.sort) j l ≡ None → canonical (one trees.sort) j ≡ Some (trees.spell t)
       → Spells trees l j t
   spells_said l j t o s fits low says =
-      record { fits = fits; shallow = low; says = says; whole = laws.back l t s (subst (λ x. Good l (one trees.sort) x) says (canonical_good j (one trees.sort) l o low)) }
+      record { fits = fits; shallow = low; says = says; whole = said_whole l j t o s low says }
 
   -- A value that fits, and is not too deep, spells one tree.
   pub spells_one : (l : Levels) (j : Data) → IsValue j → misfit (one trees.sort) j ≡ None → too_deep (one trees.sort) j l ≡ None → SpellsOne trees l j
@@ -67,10 +75,11 @@ module _ {A : Type 0} (trees : Trees A) (Shape : A → Type 0) (laws : Laws tree
 
   -- The canonical text of a whole tree reads back.
   pub reads_back : ReadsBack trees
-  reads_back l t h w =
+  reads_back l t h w u =
       let g = laws.good l t w in
       let d = trees.spell t in
-      (d, read_back d g.order (fits_whole d (one trees.sort) g.fits) (nests d trees.sort l h.elements h.references h.kept g.fits g.low), spells_itself l t w)
+      let back : read (compact_text d) ≡ Some d = read_back d g.order (fits_whole d (one trees.sort) g.fits) (nests d trees.sort l h.elements h.references h.kept g.fits g.low) in
+      (d, rw (is_utf8-from_IsUtf8 (compact_text d) u) back, spells_itself l t w)
 
   -- ---- readers
 
@@ -92,6 +101,15 @@ module _ {A : Type 0} (trees : Trees A) (Shape : A → Type 0) (laws : Laws tree
   -- The same of bytes.
   pub reads_each_of_bytes : (l : Levels) (result : Result A ReadFault) (bytes : List ℕ) → ReadsBytes trees l result bytes → ReadsEachOfBytes trees l result bytes
   reads_each_of_bytes l result bytes r = reads_each_if l result (reading bytes) r
+
+  -- A reader of bytes answers the tree whose canonical text it is given.
+  answered : (l : Levels) (t : A) (result : Result A ReadFault) → IsWithinLimits l → trees.IsWhole l t → IsUtf8 (canonical_text trees t) → ReadsEachOfBytes trees l result (canonical_text trees t)
+      → (result ≡ Ok t) ⊎ (result ≡ Err NoMemory)
+  answered l t result h w u each = let back = reads_back l t h w u in (subst (λ o. ReadsEachIf trees l result o) back.1 each) t back.2
+
+  -- All the laws of a mapping.
+  pub mapped : IsMapped trees Shape
+  mapped = record { spells_itself = spells_itself; reads_back = reads_back; answered = answered; said_once = laws.same; said_whole = said_whole; exactly_one = exactly_one }
 
 -- what is read of a value is read of its bytes
 pub reads_value : {A : Type 0} (trees : Trees A) (l : Levels) (result : Result A ReadFault) (bytes : List ℕ) (j : Data) → reading bytes ≡ Some j → Reads trees l result j → ReadsBytes trees l result bytes

@@ -1,12 +1,12 @@
 -- What is spelled as each type of member is good, and spelled from one thing.
-use Rattle.std.proofs.Common.{◌≡◌, ℕ, ◌+◌, List, [], ◌∷◌, Bool, true, false, Option, Some, None, option_map, if◌then◌else◌, map, refl, sym, ap, ap₂, ◌∙◌, subst, bytes_eq, is_some, true≢false}
+use Rattle.std.proofs.Common.{◌≡◌, ℕ, ◌+◌, List, [], ◌∷◌, Bool, true, Option, Some, None, option_map, if◌then◌else◌, map, refl, sym, ap, ap₂, ◌∙◌, subst, bytes_eq, is_some, true≢false}
 use Rattle.std.specs.List.{find}
 use Rattle.std.specs.Str.{encode_utf8_all}
 use Rattle.std.proofs.lemmas.Str.{encodes_same}
-use Rattle.std.proofs.lemmas.Slice.Eq.{bytes_eq-Decides}
 use Rattle.serde_json.specs.Data.{Data, boolean, string, array, Items, no_items, item}
 use Rattle.aas_model_names.specs.Names.{names_of}
 use Rattle.aas_json_table.specs.Names.{has}
+use Rattle.aas_json_table.proofs.NameLemmas.{has_found}
 use Rattle.aas_json_table.specs.Table.{Sort, MemberType, text, flag, word, one, many, kept, plain}
 use Rattle.aas_json_table.specs.Rows.{in_item, first_of}
 use Rattle.aas_json_table.specs.Misfit.{misfit, misfit_items}
@@ -47,29 +47,12 @@ option_back l f spell o g x is = subst (λ p. Good l f (option_map spell p)) is 
 abbrev pub Found : {V : Type 0} → (V → List ℕ) → List V → Type 0
 Found {V = V} name all = (v : V) → find (λ u. bytes_eq (name u) (name v)) all ≡ Some v
 
-bytes_same : (a b : List ℕ) → bytes_eq a b ≡ true → bytes_eq b a ≡ true
-bytes_same a b e = (bytes_eq-Decides b a).1 (sym ((bytes_eq-Decides a b).0 e))
-
-named_first : {V : Type 0} (name : V → List ℕ) (u v : V) (b rest : Bool) (later : Option V) → bytes_eq (name u) (name v) ≡ b → (if b then Some u else later) ≡ Some v → (later ≡ Some v → rest ≡ true)
-    → (if bytes_eq (name v) (name u) then true else rest) ≡ true
-named_first name u v true rest later d e h = ap (λ b. if b then true else rest) (bytes_same (name u) (name v) d)
-named_first name u v false rest later d e h = by_test (bytes_eq (name v) (name u))
-  where
-    by_test : (b : Bool) → (if b then true else rest) ≡ true
-    by_test true = refl
-    by_test false = h e
-
-has_named : {V : Type 0} (name : V → List ℕ) (all : List V) (v : V) → find (λ u. bytes_eq (name u) (name v)) all ≡ Some v → has (names_of name all) (name v) ≡ true
-has_named name [] v e = cc
-has_named name (u ∷ us) v e =
-    named_first name u v (bytes_eq (name u) (name v)) (has (names_of name us) (name v)) (find (λ u. bytes_eq (name u) (name v)) us) refl e (has_named name us v)
-
 pub word_good : (l : Levels) (ws : List (List ℕ)) (s : List ℕ) → has ws s ≡ true → Good l (word ws) (Some (string s))
 word_good l ws s e = record { again = ap (λ b. if b then Some (string s) else None) e; fits = ap (λ b. if b then None else Some []) e; low = refl; order = tt }
 
 -- The name of a value of an enumeration is good.
 pub named_good : {V : Type 0} (l : Levels) (name : V → List ℕ) (all : List V) → Found name all → (v : V) → Good l (word (names_of name all)) (Some (string (name v)))
-named_good l name all found v = word_good l (names_of name all) (name v) (has_named name all v (found v))
+named_good l name all found v = word_good l (names_of name all) (name v) (has_found name (name v) v all (found v))
 
 pub named_if_good : {V : Type 0} (l : Levels) (name : V → List ℕ) (all : List V) → Found name all → (o : Option V) → Good l (word (names_of name all)) (option_map (λ v. string (name v)) o)
 named_if_good l name all found None = none_good l (word (names_of name all))

@@ -2,6 +2,8 @@
 use Rattle.std.proofs.Common.{◌≡◌, ℕ, List, [], ◌∷◌, ◌&&◌, Bool, true, false, IfSome, Option, Some, None, option_map, option_and_then, is_some, if◌then◌else◌, Ordering, Less, Equal, Greater, nat_cmp, is_eq, is_lt, not, refl, sym, ap, ap₂, ◌∙◌, true≢false}
 use Rattle.std.specs.Cmp.Lexicographic.{slice_cmp}
 use Rattle.std.specs.Ordering.{match_ordering}
+use Rattle.aas_lemmas.proofs.Options.{some_if}
+use Rattle.aas_lemmas.proofs.Truth.{Less-from_is_lt}
 use Rattle.serde_json.specs.Data.{Data, object, Members, no_members, member}
 use Rattle.serde_json.specs.Find.{get_member}
 use Rattle.aas_json_table.specs.Table.{Sort, MemberType, one, Row}
@@ -110,14 +112,9 @@ members_clear : (all : List Row) (l : Levels) (rows : List Row) (g : List ℕ �
 members_clear all l [] g n a = (refl, refl)
 members_clear all l (r ∷ rs) g n a = add_clear all l r (g r.name r.member_type) (members_by rs g) n.0 a.0 (members_clear all l rs g n.1 a.1)
 
-lesser : (o : Ordering) → is_lt o ≡ true → o ≡ Less
-lesser Less e = refl
-lesser Equal e = absurd (true≢false (sym e))
-lesser Greater e = absurd (true≢false (sym e))
-
 add_above : (n l : List ℕ) (o : Option Data) (ms : Members) → is_lt (slice_cmp nat_cmp n l) ≡ true → AreAbove n ms → AreAbove n (add l o ms)
 add_above n l None ms e a = a
-add_above n l (Some d) ms e a = (lesser (slice_cmp nat_cmp n l) e, a)
+add_above n l (Some d) ms e a = (Less-from_is_lt (slice_cmp nat_cmp n l) e, a)
 
 members_above : (n : List ℕ) (rows : List Row) (g : List ℕ → MemberType → Option Data) → is_below n rows ≡ true → AreAbove n (members_by rows g)
 members_above n [] g e = tt
@@ -211,12 +208,12 @@ agree_canonical : (rows : List Row) (g : List ℕ → MemberType → Option Data
 agree_canonical [] g ms a = tt
 agree_canonical (r ∷ rs) g ms a = (canonical_member_is r.name r.member_type ms ∙ ap (option_and_then (canonical r.member_type)) a.0, agree_canonical rs g ms a.1)
 
-there_or_not : (b : Bool) (ms ns : Members) → (if b then Some (object ms) else None) ≡ Some (object ns) → (b ≡ true) × (ms ≡ ns)
-there_or_not false ms ns e = cc
-there_or_not true ms ns e = (refl, same_inside)
+-- what is required is there, and the members are those that are said
+pub there_and_same : (b : Bool) (ms ns : Members) → (if b then Some (object ms) else None) ≡ Some (object ns) → (b ≡ true) × (ms ≡ ns)
+there_and_same b ms ns e = let both = some_if b (object ms) (object ns) e in (both.0, same_inside both.1)
   where
-    same_inside : ms ≡ ns
-    same_inside = cc
+    same_inside : object ms ≡ object ns → ms ≡ ns
+    same_inside is = cc
 
 -- what is known of a good object
 pub record Inside (s : Sort) (l : Levels) (rows : List Row) (g : List ℕ → MemberType → Option Data) : Type 0 where
@@ -237,7 +234,7 @@ pub object_back : (s : Sort) (l : Levels) (rows : List Row) (g : List ℕ → Me
 object_back s l rows g r d good =
     let ms = members_by rows g in
     let found = agree_canonical rows g ms (finds rows g d) in
-    let said = there_or_not (are_there rows (canonical_member ms)) (members_by rows (canonical_member ms)) ms (sym (ap (λ x. canonical_object x (canonical_member ms)) r) ∙ good.again) in
+    let said = there_and_same (are_there rows (canonical_member ms)) (members_by rows (canonical_member ms)) ms (sym (ap (λ x. canonical_object x (canonical_member ms)) r) ∙ good.again) in
     let same = same_under rows (canonical_member ms) g d said.1 in
     let fit = first_none (misfit_members ms rows) (missing rows ms) (sym (ap (λ x. misfit_object x (misfit_members ms) ms) r) ∙ good.fits) in
     let low : within (enter s l) (too_deep_object (Some rows) (too_deep_members ms)) ≡ None = sym (ap (λ x. within (enter s l) (too_deep_object x (too_deep_members ms))) r) ∙ good.low in

@@ -1,12 +1,13 @@
 -- That a JSON value spells a tree (the JSON mapping of IDTA-01001-3-0, by the attribute table): it has no fault, and says what spells the tree.
 use Rattle.std.specs.Prelude.{◌≡◌, ◌⊎◌, ◌≤◌, ℕ, List, Some, None, IsSome}
+use Rattle.std.specs.Str.{IsUtf8}
 use Rattle.serde_json.specs.Data.{Data}
-use Rattle.serde_json.specs.Read.{read}
 use Rattle.serde_json.specs.Written.{compact_text}
 use Rattle.aas_json_table.specs.Table.{Sort, one}
 use Rattle.aas_json_table.specs.Misfit.{misfit}
 use Rattle.aas_json_table.specs.TooDeep.{Levels, limits, too_deep}
 use Rattle.aas_json_table.specs.Canonical.{canonical}
+use Rattle.aas_json_spelling.specs.Reading.{reading}
 use Rattle.aas_json_spelling.specs.Values.{IsValue}
 
 -- The trees of a sort: how they are spelled, and which are whole where so many levels are left.
@@ -45,6 +46,7 @@ pub record IsWithinLimits (levels : Levels) : Type 0 where
   pub references : levels.references ≤ limits.references
   pub kept : levels.kept ≤ limits.kept
 
--- The canonical text of a whole tree is read as a value that spells the tree.
+-- The canonical text of a whole tree, where it is UTF-8, is read as a value that spells the tree. It is UTF-8 where the texts of the tree are.
 abbrev pub ReadsBack : {A : Type 0} → Trees A → Type 0
-ReadsBack {A = A} trees = (levels : Levels) (t : A) → IsWithinLimits levels → trees.IsWhole levels t → (j : Data) × (read (canonical_text trees t) ≡ Some j) × Spells trees levels j t
+ReadsBack {A = A} trees = (levels : Levels) (t : A) → IsWithinLimits levels → trees.IsWhole levels t → IsUtf8 (canonical_text trees t)
+    → (j : Data) × (reading (canonical_text trees t) ≡ Some j) × Spells trees levels j t

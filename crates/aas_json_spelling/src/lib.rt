@@ -8,6 +8,7 @@
 #![tactic(auto)]
 
 ghost use Rattle.std.specs.Prelude.{◌≡◌, ◌≤◌, ℕ, List, Some, None, is_some, true};
+ghost use Rattle.std.specs.Str.{IsUtf8};
 ghost use Rattle.serde_json.specs.Data.{Data, depth};
 ghost use Rattle.serde_json.specs.Read.{read, max_depth};
 ghost use Rattle.serde_json.specs.Written.{compact_text};
@@ -57,6 +58,12 @@ pub fn what_is_read_is_a_value()
 pub fn compact_text_reads_back()
     ensures { (j : Data) → IsOrdered j → HasWholeNumbers j → depth j ≤ max_depth →
         read (compact_text j) ≡ Some j }
+{}
+
+/// The compact text of a value whose strings and names are UTF-8 is UTF-8.
+#[tactic(auto, using(crate::proofs::Back::text_utf8))]
+pub fn compact_text_is_utf8()
+    ensures { (j : Data) → IsText j → IsUtf8 (compact_text j) }
 {}
 
 /// A list of kept data is whole exactly where its spelling is good.

@@ -1,21 +1,16 @@
 -- Whether a text is one of the names of an enumeration.
 use Rattle.std.proofs.Common.{◌≡◌, ◌↔◌, ℕ, List, [], ◌∷◌, Bool, true, false, cond, map, Option, Some, None, is_some, bytes_eq, sym, ap, ◌∙◌, refl}
 use Rattle.std.specs.List.{find}
+use Rattle.std.proofs.lemmas.Bool.{false_from_ne_true}
 use Rattle.std.proofs.lemmas.Slice.Eq.{bytes_eq-Decides}
+use Rattle.aas_lemmas.proofs.Truth.{bytes_eq-turned}
 use Rattle.aas_json_table.specs.Names.{has}
 use Rattle.aas_json_table.specs.Rows as rows
 
-is_false : (b : Bool) → (b ≡ true → ⊥) → b ≡ false
-is_false true h = absurd (h refl)
-is_false false h = refl
-
 bytes_differ : (s t : List ℕ) → (s ≡ t → ⊥) → bytes_eq s t ≡ false
-bytes_differ s t differ = is_false (bytes_eq s t) (λ e. differ ((bytes_eq-Decides s t).0 e))
+bytes_differ s t differ = false_from_ne_true (bytes_eq s t) (λ e. differ ((bytes_eq-Decides s t).0 e))
 
-bytes_same : (s t : List ℕ) → bytes_eq s t ≡ true → bytes_eq t s ≡ true
-bytes_same s t e = (bytes_eq-Decides t s).1 (sym ((bytes_eq-Decides s t).0 e))
-
-has_later : (b x : Bool) → x ≡ true → cond b true x ≡ true
+pub has_later : (b x : Bool) → x ≡ true → cond b true x ≡ true
 has_later true x e = refl
 has_later false x e = e
 
@@ -26,11 +21,11 @@ has_none f s none (v ∷ vs) = ap (λ b. cond b true (has (map f vs) s)) (bytes_
 
 has_by_cases : {V : Type 0} (f : V → List ℕ) (s : List ℕ) (u v : V) (vs : List V) (b : Bool) → bytes_eq (f u) s ≡ b → (find (λ w. bytes_eq (f w) s) vs ≡ Some v → has (map f vs) s ≡ true)
     → cond b (Some u) (find (λ w. bytes_eq (f w) s) vs) ≡ Some v → has (map f (u ∷ vs)) s ≡ true
-has_by_cases f s u v vs true is later e = ap (λ b. cond b true (has (map f vs) s)) (bytes_same (f u) s is)
+has_by_cases f s u v vs true is later e = ap (λ b. cond b true (has (map f vs) s)) (bytes_eq-turned (f u) s is)
 has_by_cases f s u v vs false is later e = has_later (bytes_eq s (f u)) (has (map f vs) s) (later e)
 
 -- a text by which a value is found
-has_found : {V : Type 0} (f : V → List ℕ) (s : List ℕ) (v : V) (vs : List V) → find (λ w. bytes_eq (f w) s) vs ≡ Some v → has (map f vs) s ≡ true
+pub has_found : {V : Type 0} (f : V → List ℕ) (s : List ℕ) (v : V) (vs : List V) → find (λ w. bytes_eq (f w) s) vs ≡ Some v → has (map f vs) s ≡ true
 has_found f s v [] e = cc
 has_found f s v (u ∷ vs) e = has_by_cases f s u v vs (bytes_eq (f u) s) refl (has_found f s v vs) e
 

@@ -1,6 +1,7 @@
 -- The attribute table: the members that an object of each sort may have in JSON. It restates the class tables of the metamodel and the JSON mapping of
 -- IDTA-01001-3-0; the comment of each sort names its class. A member that a sort lacks is refused. Which members have class V is this profile's own rule.
 use Rattle.std.specs.Prelude.{ℕ, List, [], ◌∷◌, ◌++◌, Bool, true, false, codes, map, filter}
+use Rattle.aas_model_names.specs.KindNames as kind
 use Rattle.aas_json_table.specs.Names.{reference_types, key_types, value_types, element_names, modelling_kinds, asset_kinds, qualifier_kinds, entity_types, directions, states_of_event, has}
 
 -- the sorts of object
@@ -264,8 +265,7 @@ kinds = (
 
 -- the subclasses of DataElement
 abbrev pub data_elements : List (List ℕ)
-data_elements =
-    codes "Property" ∷ codes "MultiLanguageProperty" ∷ codes "Range" ∷ codes "File" ∷ codes "Blob" ∷ codes "ReferenceElement" ∷ []
+data_elements = map kind.name_of (filter kind.is_data_element kind.all)
 
 -- the members of any SubmodelElement, and those of the kind's own
 abbrev pub submodel_element : List ℕ × List Row → List ℕ × List Row

@@ -16,7 +16,11 @@ use std::alloc::Global;
 /// The first mapping fault of a JSON value as a member of a type: where it first departs from the attribute
 /// table. `None` where it does not.
 #[cycle(misfit)]
-pub fn misfit(alloc: Global, member_type: MemberType, value: &Value) -> Result<Option<Trail>, NoMemory>
+pub fn misfit(
+    alloc: Global,
+    member_type: MemberType,
+    value: &Value,
+) -> Result<Option<Trail>, NoMemory>
     ensures { IfOk result (λ fault. fault ≡ misfit (member_type_of member_type) (view value.now)) }
 {
     match (member_type, value) {
@@ -24,8 +28,16 @@ pub fn misfit(alloc: Global, member_type: MemberType, value: &Value) -> Result<O
         (MemberType::Flag, Value::Bool(_)) => Ok(None),
         (MemberType::Word(names), Value::String(text)) if names.contain(text.as_str()) => Ok(None),
         (MemberType::One(sort), Value::Object(members)) => misfit_object(alloc, sort, members),
-        (MemberType::Many(sort), Value::Array(items)) => misfit_items(alloc, MemberType::One(sort), items),
-        (MemberType::Kept | MemberType::Plain, Value::Array(items)) => misfit_items(alloc, MemberType::Plain, items),
+        (MemberType::Many(sort), Value::Array(items)) => misfit_items(
+            alloc,
+            MemberType::One(sort),
+            items,
+        ),
+        (MemberType::Kept | MemberType::Plain, Value::Array(items)) => misfit_items(
+            alloc,
+            MemberType::Plain,
+            items,
+        ),
         (MemberType::Plain, Value::Null | Value::Bool(_) | Value::String(_)) => Ok(None),
         (MemberType::Plain, Value::Object(members)) => misfit_all(alloc, members),
         _ => Ok(Some(Trail::here(alloc))),
@@ -51,7 +63,11 @@ fn misfit_object(
 }
 
 #[cycle(misfit)]
-fn misfit_items(alloc: Global, member_type: MemberType, items: &Vec<Value>) -> Result<Option<Trail>, NoMemory>
+fn misfit_items(
+    alloc: Global,
+    member_type: MemberType,
+    items: &Vec<Value>,
+) -> Result<Option<Trail>, NoMemory>
     ensures { IfOk result (λ fault. fault
         ≡ misfit_items (items_view items.now.items) (member_type_of member_type) 0) }
 {

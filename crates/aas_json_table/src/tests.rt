@@ -86,7 +86,11 @@ fn first_places_that_lie_too_deep(rt: HostRuntime) {
         ),
     ] {
         let value = Value::from_slice(alloc, json.as_bytes()).expect(&rt, "JSON");
-        assert!(rt; misfit(alloc, member_type, &value).expect(&rt, "memory").is_none());
+        assert!(rt;
+            misfit(alloc, member_type, &value)
+                .expect(&rt, "memory")
+                .is_none()
+        );
         let place = too_deep(alloc, member_type, &value, left)
             .expect(&rt, "memory")
             .expect(&rt, "a place");

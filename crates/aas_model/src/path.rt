@@ -1,4 +1,5 @@
 use crate::{Duplicate, Many, NoMemory, Text};
+use thiserror::Error;
 
 /// One step down from a submodel or an element to one of its children.
 ///
@@ -55,7 +56,8 @@ impl Duplicate for Fault {
 }
 
 /// A path leads to no element.
-#[derive(Clone, Copy, Debug, Drop, PartialEq, Eq)]
+#[derive(Clone, Copy, Debug, Drop, PartialEq, Eq, Error)]
+#[error("the path leads to no element beyond its first {steps} steps")]
 pub struct Missing {
     /// The length of the longest part from the front of the path that leads to an element.
     pub steps: usize,

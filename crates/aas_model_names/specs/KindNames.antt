@@ -1,5 +1,5 @@
--- The names of `Kind`. IDTA-01001-3-0: the classes under SubmodelElement that are not abstract.
-use Rattle.std.specs.Prelude.{◌≡◌, ℕ, List, [], ◌∷◌, Some, codes, bytes_eq, refl}
+-- The names of `Kind`. IDTA-01001-3-0: the classes under SubmodelElement that are not abstract, and which of them are under DataElement.
+use Rattle.std.specs.Prelude.{◌≡◌, ℕ, Bool, true, false, List, [], ◌∷◌, Some, codes, bytes_eq, refl}
 use Rattle.std.specs.List.{find}
 use Rattle.aas_model_names.specs.Names.{names_of}
 use Rattle.aas_model_names.specs.declared.kind.Kind.{Kind}
@@ -58,3 +58,13 @@ found Capability = refl
 found Operation = refl
 found SubmodelElementCollection = refl
 found SubmodelElementList = refl
+
+-- the kinds under DataElement
+abbrev pub is_data_element : Kind → Bool
+is_data_element Property = true
+is_data_element MultiLanguageProperty = true
+is_data_element Range = true
+is_data_element File = true
+is_data_element Blob = true
+is_data_element ReferenceElement = true
+is_data_element k = false

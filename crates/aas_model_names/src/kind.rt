@@ -21,6 +21,26 @@ pub enum Kind {
     SubmodelElementList,
 }
 
+impl Kind {
+    ghost use Rattle.std.specs.Prelude.{◌≡◌};
+    ghost use Rattle.aas_model_names.specs.KindNames.{is_data_element};
+
+    /// Whether the kind is a subclass of DataElement.
+    pub fn is_data_element(self) -> bool
+        ensures { result ≡ is_data_element self }
+    {
+        matches!(
+            self,
+            Kind::Property
+                | Kind::MultiLanguageProperty
+                | Kind::Range
+                | Kind::File
+                | Kind::Blob
+                | Kind::ReferenceElement
+        )
+    }
+}
+
 impl Named for Kind {
     ghost use Rattle.aas_model_names.specs.KindNames.{name_of, all, found};
 

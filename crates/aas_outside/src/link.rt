@@ -3,8 +3,11 @@ ghost use Rattle.std.specs.Prelude.{◌≡◌, List, ℕ, Option};
 ghost use Rattle.aas_outside.specs.Faults.{HasCause};
 ghost use Rattle.aas_outside.specs.Link.{Takes, Gives};
 
+use thiserror::Error;
+
 /// A call on an end failed. The end's count of faults says so too.
-#[derive(Clone, Copy, Debug, PartialEq, Eq)]
+#[derive(Clone, Copy, Debug, PartialEq, Eq, Error)]
+#[error("the end failed")]
 pub struct Failed;
 
 /// One connection: bytes are taken from its peer and given to it.

@@ -8,15 +8,19 @@ ghost use Rattle.aas_path.specs.Refusals.{IsMissing, IsNoContainer, IsUnfit};
 use crate::lending::at_mut;
 use aas_model::{Element, Many, Missing, NoMemory, Path, Payload, Role, Submodel};
 use std::mem;
+use thiserror::Error;
 
 /// Why an element is not inserted.
-#[derive(Debug, Drop)]
+#[derive(Debug, Drop, Error)]
 pub enum InsertFault {
     /// The path leads to no element.
+    #[error(transparent)]
     Missing(Missing),
     /// The path leads to an element that has no children, or to an annotated relationship, and what is to be its annotation is no data
     /// element.
+    #[error("the element does not take this one as a child")]
     NotAContainer,
+    #[error("memory was refused")]
     NoMemory,
 }
 
@@ -114,11 +118,13 @@ pub fn insert(submodel: &mut Submodel, path: &Path, element: Element) -> Result<
 }
 
 /// Why an element is not replaced.
-#[derive(Debug, Drop)]
+#[derive(Debug, Drop, Error)]
 pub enum ReplaceFault {
     /// The path leads to no element.
+    #[error(transparent)]
     Missing(Missing),
     /// The path leads to an annotation, and what is to take its place is no data element.
+    #[error("an annotation is a data element")]
     NotAContainer,
 }
 

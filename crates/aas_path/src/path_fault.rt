@@ -1,13 +1,16 @@
 use aas_model::NoMemory;
+use thiserror::Error;
 
 /// Why a text is not read as a path.
-#[derive(Debug, Drop)]
+#[derive(Debug, Drop, Error)]
 pub enum PathFault {
     /// The text is no path.
+    #[error("the text begins no path beyond its first {at} bytes")]
     BadPath {
         /// The length of its longest part from the front that begins one, in bytes.
         at: usize,
     },
+    #[error("memory was refused")]
     NoMemory,
 }
 

@@ -7,6 +7,7 @@ use Rattle.aas_json_table.specs.TooDeep.{Levels}
 use Rattle.aas_json_table.specs.Canonical.{canonical}
 use Rattle.aas_model.specs.declared.reference.Reference.{Reference}
 use Rattle.aas_json_spelling.proofs.Rows.{and_left, and_right}
+use Rattle.aas_json_spelling.specs.Mapped.{AnyShape}
 use Rattle.aas_json_spelling.proofs.Exists.{IsSpelled}
 use Rattle.aas_json_spelling.proofs.Laws.{Laws}
 use Rattle.aas_reference.specs.Spelling.{spell_reference}
@@ -22,10 +23,6 @@ fits_where_whole l r e = (and_left (has_keys r) (nat_le (reference_levels r) l.r
 
 pub whole_where_fits : (l : Levels) (r : Reference) → Fits l.references r → is_whole l r ≡ true
 whole_where_fits l r f = rw (f.0, le-leb (reference_levels r) l.references f.1) refl
-
--- the spelling of a reference shows all of it
-abbrev pub AnyShape : Reference → Type 0
-AnyShape r = Unit {0}
 
 shaped : (o : Option Data) → IsSpelled spell_reference o → IsSpelled (λ (t : (r : Reference) × AnyShape r). spell_reference t.0) o
 shaped o t = by_tree t.0 t.1

@@ -11,7 +11,8 @@ use Rattle.aas_json_spelling.proofs.Laws.{reads_each}
 use Rattle.aas_json_input.specs.Said.{said}
 use Rattle.aas_reference.specs.Spelling.{spell_reference}
 use Rattle.aas_reference.specs.Trees.{references}
-use Rattle.aas_reference.proofs.Facts.{AnyShape, laws, whole_where_fits}
+use Rattle.aas_json_spelling.specs.Mapped.{AnyShape}
+use Rattle.aas_reference.proofs.Facts.{laws, whole_where_fits}
 use Rattle.aas_reference.proofs.Whole.{said_whole}
 
 -- What is read, whole or not, is whole.

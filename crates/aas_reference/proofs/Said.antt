@@ -1,5 +1,5 @@
 -- What follows of an object from what it says.
-use Rattle.std.proofs.Common.{◌≡◌, ℕ, List, ◌∷◌, Bool, true, false, Option, Some, None, option_and_then, if◌then◌else◌, Ordering, Less, Equal, Greater, nat_cmp, refl, sym, ap, ◌∙◌}
+use Rattle.std.proofs.Common.{◌≡◌, ℕ, List, ◌∷◌, true, Option, Some, None, option_and_then, Ordering, Less, Equal, Greater, nat_cmp, refl, sym, ap, ◌∙◌}
 use Rattle.std.specs.Cmp.Lexicographic.{slice_cmp}
 use Rattle.std.specs.Ordering.{match_ordering}
 use Rattle.serde_json.specs.Data.{Data, object, Members, no_members, member}
@@ -11,7 +11,7 @@ use Rattle.aas_json_table.specs.Canonical.{canonical, canonical_member, canonica
 use Rattle.aas_json_table.specs.Spelled.{Attributes, attribute, spelled}
 use Rattle.aas_json_spelling.proofs.Rows.{rising, same_text}
 use Rattle.aas_json_spelling.proofs.Fits.{first_none, map_none}
-use Rattle.aas_json_spelling.proofs.Objects.{Agree, same_under, canonical_member_is}
+use Rattle.aas_json_spelling.proofs.Objects.{Agree, there_and_same, same_under, canonical_member_is}
 
 -- ---- attributes
 
@@ -20,18 +20,11 @@ pub record Says (rows : List Row) (attributes : Attributes) (ms : Members) : Typ
   pub there : are_there rows (canonical_member ms) ≡ true
   pub agree : Agree rows (canonical_member ms) (attribute attributes)
 
-there_or_not : (b : Bool) (ms ns : Members) → (if b then Some (object ms) else None) ≡ Some (object ns) → (b ≡ true) × (ms ≡ ns)
-there_or_not false ms ns e = cc
-there_or_not true ms ns e = (refl, same_inside)
-  where
-    same_inside : ms ≡ ns
-    same_inside = cc
-
 -- An object that says what attributes spell says each of them.
 pub says : (s : Sort) (rows : List Row) (attributes : Attributes) (ms : Members) → rows_of s ms ≡ Some (sorted rows) → rising (sorted rows) ≡ true → canonical (one s) (object ms) ≡ Some (spelled rows attributes)
     → Says (sorted rows) attributes ms
 says s rows attributes ms r d e =
-    let both = there_or_not (are_there (sorted rows) (canonical_member ms)) (members_by (sorted rows) (canonical_member ms)) (members_by (sorted rows) (attribute attributes))
+    let both = there_and_same (are_there (sorted rows) (canonical_member ms)) (members_by (sorted rows) (canonical_member ms)) (members_by (sorted rows) (attribute attributes))
     (sym (ap (λ x. canonical_object x (canonical_member ms)) r) ∙ e) in
     record { there = both.0; agree = same_under (sorted rows) (canonical_member ms) (attribute attributes) d both.1 }
 

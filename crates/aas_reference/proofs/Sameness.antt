@@ -1,5 +1,6 @@
 -- What the test of sameness tells.
 use Rattle.std.proofs.Common.{◌≡◌, ℕ, ◌&&◌, List, [], ◌∷◌, length, Bool, true, false, bytes_eq, refl, sym, ap, ap₂, true≢false, arith}
+use Rattle.std.proofs.lemmas.Bool.{and_from}
 use Rattle.std.specs.Bool.{Decides}
 use Rattle.std.specs.List.{list_all, zip}
 use Rattle.std.proofs.lemmas.Slice.Eq.{bytes_eq-Decides}
@@ -34,9 +35,6 @@ same_keys_other (a ∷ as_) (b ∷ bs) e = both_false (same_key a b) (same_keys 
 named_same : {V : Type 0} (name : V → List ℕ) (all : List V) → Found name all → (v w : V) → Decides (bytes_eq (name v) (name w)) (v ≡ w)
 named_same name all found v w = (λ e. same_named name all found v w ((bytes_eq-Decides (name v) (name w)).0 e), λ e. (bytes_eq-Decides (name v) (name w)).1 (ap name e))
 
-both : (a b : Bool) → a ≡ true → b ≡ true → a && b ≡ true
-both a b e f = rw (e, f) refl
-
 key_same : (j k : Key) → Decides (same_key j k) (j ≡ k)
 key_same j k =
     let types = named_same key_type.name_of key_type.all key_type.found j.key_type k.key_type in
@@ -45,7 +43,7 @@ key_same j k =
         key_type = types.0 (and_left (bytes_eq (key_type.name_of j.key_type) (key_type.name_of k.key_type)) (bytes_eq j.value k.value) e) i;
         value = values.0 (and_right (bytes_eq (key_type.name_of j.key_type) (key_type.name_of k.key_type)) (bytes_eq j.value k.value) e) i;
       },
-      λ e. both (bytes_eq (key_type.name_of j.key_type) (key_type.name_of k.key_type)) (bytes_eq j.value k.value) (types.1 (ap (λ x. x.key_type) e)) (values.1 (ap (λ x. x.value) e)),
+      λ e. and_from (bytes_eq (key_type.name_of j.key_type) (key_type.name_of k.key_type)) (bytes_eq j.value k.value) (types.1 (ap (λ x. x.key_type) e)) (values.1 (ap (λ x. x.value) e)),
     )
 
 keys_same : (as_ bs : List Key) → Decides (same_keys as_ bs) (as_ ≡ bs)
@@ -63,7 +61,7 @@ keys_same (a ∷ as_) (b ∷ bs) = by_parts (key_same a b) (keys_same as_ bs)
     by_parts : Decides (same_key a b) (a ≡ b) → Decides (same_keys as_ bs) (as_ ≡ bs) → Decides (same_key a b && same_keys as_ bs) (a ∷ as_ ≡ b ∷ bs)
     by_parts first rest = (
       λ e. ap₂ (λ x xs. x ∷ xs) (first.0 (and_left (same_key a b) (same_keys as_ bs) e)) (rest.0 (and_right (same_key a b) (same_keys as_ bs) e)),
-      λ e. both (same_key a b) (same_keys as_ bs) (first.1 (first_same e)) (rest.1 (rest_same e)),
+      λ e. and_from (same_key a b) (same_keys as_ bs) (first.1 (first_same e)) (rest.1 (rest_same e)),
     )
 
 -- The test tells whether two references are the same.
@@ -76,5 +74,5 @@ same_tells a b =
     let types_test = bytes_eq (reference_type.name_of x.ref_type) (reference_type.name_of y.ref_type) in
     let keys_test = same_keys x.keys y.keys in (
       λ e. record { types = types.0 (and_left types_test keys_test e); keys = keys.0 (and_right types_test keys_test e) },
-      λ s. both types_test keys_test (types.1 s.types) (keys.1 s.keys),
+      λ s. and_from types_test keys_test (types.1 s.types) (keys.1 s.keys),
     )

@@ -1,5 +1,6 @@
 -- What a value says is whole, where nothing in it is too deep. The order of names in the value doesn't matter.
-use Rattle.std.proofs.Common.{◌≡◌, ℕ, zero, suc, ◌≤◌, ◌&&◌, List, [], ◌∷◌, Bool, true, Option, Some, None, option_map, unwrap_or, is_some, codes, refl, sym, ap, ◌∙◌, subst, arith}
+use Rattle.std.proofs.Common.{◌≡◌, ℕ, zero, suc, ◌≤◌, ◌&&◌, List, [], ◌∷◌, true, Option, Some, None, option_map, unwrap_or, is_some, codes, refl, sym, ap, ◌∙◌, subst, arith}
+use Rattle.std.proofs.lemmas.Bool.{and_from}
 use Rattle.serde_json.specs.Data.{Data, null, boolean, number, string, array, object, Members}
 use Rattle.aas_model_names.specs.declared.reference_type.ReferenceType.{ReferenceType}
 use Rattle.aas_json_table.specs.Table.{one, many, word, parts, reference, key, optional}
@@ -33,9 +34,6 @@ within_whole (Some r) h l ms low e =
     let inner = found ms (codes "referredSemanticId") (one reference) (spell_reference r) e in
     h r refl l inner.value (member_shallow ms (sorted (parts reference)) l (codes "referredSemanticId") (optional (codes "referredSemanticId") (one reference)) inner.value low refl inner.there) inner.says
 
-both : (a b : Bool) → a ≡ true → b ≡ true → a && b ≡ true
-both a b e f = rw (e, f) refl
-
 level_whole : (t : ReferenceType) (ks : List Key) (o : Option Reference) → Within IsSaidWhole o → (l : Levels) (n : ℕ) (ms : Members)
     → within (option_map (λ k. record l { references = k }) (spend n)) (too_deep_members ms (sorted (parts reference))) ≡ None
     → canonical (one reference) (object ms) ≡ Some (spelled (parts reference) (attributes_at t ks (option_map spell_reference o)))
@@ -47,7 +45,7 @@ level_whole t ks o h l (suc n) ms low e =
     let below = within_whole o h (record l { references = n }) ms low said.agree.1.0 in
     let listed = and_left (is_some (canonical_member ms (codes "keys") (many key))) (is_some (canonical_member ms (codes "type") (word reference_types)) && true) said.there in
     let plain = any_listed ks (ap is_some (sym said.agree.0) ∙ listed) in
-    (both (is_any ks) _ plain below.0, omega (arith, below.1))
+    (and_from (is_any ks) _ plain below.0, omega (arith, below.1))
 
 object_whole : (t : ReferenceType) (ks : List Key) (o : Option Reference) → Within IsSaidWhole o → (l : Levels) (ms : Members) → too_deep (one reference) (object ms) l ≡ None
     → canonical (one reference) (object ms) ≡ Some (spell_reference (made t ks o)) → Fits l.references (made t ks o)

@@ -1,7 +1,8 @@
 use Rattle.std.specs.Prelude.{⊤}
 use Rattle.aas_json_table.specs.TooDeep.{limits}
 use Rattle.aas_json_mapping.specs.Trees.{asset_informations}
-use Rattle.aas_json_mapping.proofs.PartsLaws.{AnyShape, asset_informations_laws}
+use Rattle.aas_json_spelling.specs.Mapped.{AnyShape}
+use Rattle.aas_json_mapping.proofs.PartsLaws.{asset_informations_laws}
 use Rattle.aas_json_spelling.proofs.Laws.{reads_each_of_bytes}
 use Rattle.aas_json_read.proofs.Reading.{reads_whole}
 use Rattle.aas_json_read.proofs.read_asset_information.Goals as goal

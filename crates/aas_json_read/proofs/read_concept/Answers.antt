@@ -1,7 +1,7 @@
 use Rattle.std.specs.Prelude.{⊤}
 use Rattle.aas_json_table.specs.TooDeep.{limits}
 use Rattle.aas_json_mapping.specs.Trees.{concepts}
-use Rattle.aas_json_mapping.proofs.PartsLaws.{AnyShape}
+use Rattle.aas_json_spelling.specs.Mapped.{AnyShape}
 use Rattle.aas_json_mapping.proofs.DocumentsLaws.{concepts_laws}
 use Rattle.aas_json_spelling.proofs.Laws.{reads_each_of_bytes}
 use Rattle.aas_json_read.proofs.Reading.{reads_whole}

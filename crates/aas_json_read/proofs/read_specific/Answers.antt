@@ -1,7 +1,8 @@
 use Rattle.serde_json.specs.View.{view}
 use Rattle.aas_json_table.specs.TooDeep.{limits}
 use Rattle.aas_json_mapping.specs.Trees.{specific_asset_ids}
-use Rattle.aas_json_mapping.proofs.PartsLaws.{AnyShape, specific_asset_ids_laws}
+use Rattle.aas_json_spelling.specs.Mapped.{AnyShape}
+use Rattle.aas_json_mapping.proofs.PartsLaws.{specific_asset_ids_laws}
 use Rattle.aas_json_spelling.proofs.Laws.{reads_each}
 use Rattle.aas_json_read.proofs.Specific.{reads_specific}
 use Rattle.aas_json_read.proofs.read_specific.Goals as goal

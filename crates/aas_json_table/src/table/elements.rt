@@ -3,7 +3,7 @@ ghost use Rattle.aas_model_names.specs.KindNames.{name_of};
 ghost use Rattle.aas_json_table.specs.Names.{has};
 ghost use Rattle.aas_json_table.specs.Rows.{sorted, find};
 ghost use Rattle.aas_json_table.specs.Seen.{row_of, rows_seen};
-ghost use Rattle.aas_json_table.specs.Table.{model_types, data_elements, element, data_element};
+ghost use Rattle.aas_json_table.specs.Table.{model_types, element, data_element};
 
 use super::MemberType::{Flag, Many, One, Text, Word};
 use super::common::{
@@ -292,23 +292,9 @@ fn rows_of_kind(kind: Kind) -> &'static [Row]
 fn data_rows_of_kind(kind: Kind) -> Option<&'static [Row]>
     ensures { rows_seen result ≡ option_map sorted (find (name_of kind) (model_types data_element)) }
 {
-    if is_data_element(kind) {
+    if kind.is_data_element() {
         Some(rows_of_kind(kind))
     } else {
         None
     }
-}
-
-fn is_data_element(kind: Kind) -> bool
-    ensures { result ≡ has data_elements (name_of kind) }
-{
-    matches!(
-        kind,
-        Kind::Property
-            | Kind::MultiLanguageProperty
-            | Kind::Range
-            | Kind::File
-            | Kind::Blob
-            | Kind::ReferenceElement
-    )
 }

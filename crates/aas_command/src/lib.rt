@@ -1,0 +1,8 @@
+//! Why a command or a request is refused: each refusal with its code and its text.
+
+#![tactic(auto)]
+
+mod refusal;
+mod text;
+
+pub use refusal::{Absent, Refusal};

@@ -1,0 +1,18 @@
+-- Truth values, and what tests answer.
+use Rattle.std.proofs.Common.{◌≡◌, ℕ, List, ◌&&◌, Bool, true, bytes_eq, Ordering, Less, Equal, Greater, is_lt, refl, sym, true≢false}
+use Rattle.std.proofs.lemmas.Bool.{and_parts}
+use Rattle.std.proofs.lemmas.Slice.Eq.{bytes_eq-Decides}
+
+pub and_left : (a b : Bool) → a && b ≡ true → a ≡ true
+and_left a b e = (and_parts a b e).0
+
+pub and_right : (a b : Bool) → a && b ≡ true → b ≡ true
+and_right a b e = (and_parts a b e).1
+
+pub Less-from_is_lt : (o : Ordering) → is_lt o ≡ true → o ≡ Less
+Less-from_is_lt Less e = refl
+Less-from_is_lt Equal e = absurd (true≢false (sym e))
+Less-from_is_lt Greater e = absurd (true≢false (sym e))
+
+pub bytes_eq-turned : (a b : List ℕ) → bytes_eq a b ≡ true → bytes_eq b a ≡ true
+bytes_eq-turned a b e = (bytes_eq-Decides b a).1 (sym ((bytes_eq-Decides a b).0 e))
