@@ -11,6 +11,7 @@ use crate::sorts::{
     SpecificAssetIds,
 };
 use aas_json_members::{Part, kept_member, list_member, one_member, string_member, word_member};
+use aas_json_table::name;
 use aas_model::{
     Administration, AssetInformation, Extension, LangText, NoMemory, Qualifier, Resource,
     SpecificAssetId,
@@ -38,10 +39,10 @@ impl Part for LangTexts {
 fn lang_text_in(alloc: Global, members: &Map<String, Value>) -> Result<Option<LangText>, NoMemory>
     ensures { IfOk result (λ found. option_map spell_lang_text found ≡ canonical_object (Some (sorted (parts lang_text))) (canonical_member (members_view members.now.entries))) }
 {
-    let Some(language) = string_member(alloc, members, "language")? else {
+    let Some(language) = string_member(alloc, members, name::LANGUAGE)? else {
         return Ok(None);
     };
-    let Some(text) = string_member(alloc, members, "text")? else {
+    let Some(text) = string_member(alloc, members, name::TEXT)? else {
         return Ok(None);
     };
     Ok(Some(LangText { language, text }))
@@ -66,15 +67,15 @@ impl Part for Extensions {
 fn extension_in(alloc: Global, members: &Map<String, Value>) -> Result<Option<Extension>, NoMemory>
     ensures { IfOk result (λ found. option_map spell_extension found ≡ canonical_object (Some (sorted (parts extension))) (canonical_member (members_view members.now.entries))) }
 {
-    let value_type = word_member(members, "valueType");
-    let Some(name) = string_member(alloc, members, "name")? else {
+    let value_type = word_member(members, name::VALUE_TYPE);
+    let Some(name) = string_member(alloc, members, name::NAME)? else {
         return Ok(None);
     };
     Ok(Some(Extension {
         name,
         value_type,
-        value: string_member(alloc, members, "value")?,
-        refers_to: list_member::<References>(alloc, members, "refersTo")?,
+        value: string_member(alloc, members, name::VALUE)?,
+        refers_to: list_member::<References>(alloc, members, name::REFERS_TO)?,
         semantics: semantics_in(alloc, members)?,
     }))
 }
@@ -98,19 +99,19 @@ impl Part for Qualifiers {
 fn qualifier_in(alloc: Global, members: &Map<String, Value>) -> Result<Option<Qualifier>, NoMemory>
     ensures { IfOk result (λ found. option_map spell_qualifier found ≡ canonical_object (Some (sorted (parts qualifier))) (canonical_member (members_view members.now.entries))) }
 {
-    let kind = word_member(members, "kind");
-    let Some(value_type) = word_member(members, "valueType") else {
+    let kind = word_member(members, name::KIND);
+    let Some(value_type) = word_member(members, name::VALUE_TYPE) else {
         return Ok(None);
     };
-    let Some(qualifier_type) = string_member(alloc, members, "type")? else {
+    let Some(qualifier_type) = string_member(alloc, members, name::TYPE)? else {
         return Ok(None);
     };
     Ok(Some(Qualifier {
         kind,
         qualifier_type,
         value_type,
-        value: string_member(alloc, members, "value")?,
-        value_id: one_member::<References>(alloc, members, "valueId")?,
+        value: string_member(alloc, members, name::VALUE)?,
+        value_id: one_member::<References>(alloc, members, name::VALUE_ID)?,
         semantics: semantics_in(alloc, members)?,
     }))
 }
@@ -137,13 +138,13 @@ fn specific_asset_id_in(
 ) -> Result<Option<SpecificAssetId>, NoMemory>
     ensures { IfOk result (λ found. option_map spell_specific_asset_id found ≡ canonical_object (Some (sorted (parts specific_asset_id))) (canonical_member (members_view members.now.entries))) }
 {
-    let Some(name) = string_member(alloc, members, "name")? else {
+    let Some(name) = string_member(alloc, members, name::NAME)? else {
         return Ok(None);
     };
-    let Some(value) = string_member(alloc, members, "value")? else {
+    let Some(value) = string_member(alloc, members, name::VALUE)? else {
         return Ok(None);
     };
-    let external_subject_id = one_member::<References>(alloc, members, "externalSubjectId")?;
+    let external_subject_id = one_member::<References>(alloc, members, name::EXTERNAL_SUBJECT_ID)?;
     let semantics = semantics_in(alloc, members)?;
     Ok(Some(SpecificAssetId {
         name,
@@ -176,11 +177,15 @@ fn administration_in(
     ensures { IfOk result (λ found. Some (spell_administration found) ≡ canonical_object (Some (sorted (parts administration))) (canonical_member (members_view members.now.entries))) }
 {
     Ok(Administration {
-        version: string_member(alloc, members, "version")?,
-        revision: string_member(alloc, members, "revision")?,
-        creator: one_member::<References>(alloc, members, "creator")?,
-        template_id: string_member(alloc, members, "templateId")?,
-        embedded_data_specifications: kept_member(alloc, members, "embeddedDataSpecifications")?,
+        version: string_member(alloc, members, name::VERSION)?,
+        revision: string_member(alloc, members, name::REVISION)?,
+        creator: one_member::<References>(alloc, members, name::CREATOR)?,
+        template_id: string_member(alloc, members, name::TEMPLATE_ID)?,
+        embedded_data_specifications: kept_member(
+            alloc,
+            members,
+            name::EMBEDDED_DATA_SPECIFICATIONS,
+        )?,
     })
 }
 
@@ -206,13 +211,17 @@ fn asset_information_in(
 ) -> Result<Option<AssetInformation>, NoMemory>
     ensures { IfOk result (λ found. option_map spell_asset_information found ≡ canonical_object (Some (sorted (parts asset_information))) (canonical_member (members_view members.now.entries))) }
 {
-    let Some(asset_kind) = word_member(members, "assetKind") else {
+    let Some(asset_kind) = word_member(members, name::ASSET_KIND) else {
         return Ok(None);
     };
-    let global_asset_id = string_member(alloc, members, "globalAssetId")?;
-    let specific_asset_ids = list_member::<SpecificAssetIds>(alloc, members, "specificAssetIds")?;
-    let asset_type = string_member(alloc, members, "assetType")?;
-    let default_thumbnail = one_member::<Resources>(alloc, members, "defaultThumbnail")?;
+    let global_asset_id = string_member(alloc, members, name::GLOBAL_ASSET_ID)?;
+    let specific_asset_ids = list_member::<SpecificAssetIds>(
+        alloc,
+        members,
+        name::SPECIFIC_ASSET_IDS,
+    )?;
+    let asset_type = string_member(alloc, members, name::ASSET_TYPE)?;
+    let default_thumbnail = one_member::<Resources>(alloc, members, name::DEFAULT_THUMBNAIL)?;
     Ok(Some(AssetInformation {
         asset_kind,
         global_asset_id,
@@ -241,8 +250,8 @@ impl Part for Resources {
 fn resource_in(alloc: Global, members: &Map<String, Value>) -> Result<Option<Resource>, NoMemory>
     ensures { IfOk result (λ found. option_map spell_resource found ≡ canonical_object (Some (sorted (parts resource))) (canonical_member (members_view members.now.entries))) }
 {
-    let content_type = string_member(alloc, members, "contentType")?;
-    let Some(path) = string_member(alloc, members, "path")? else {
+    let content_type = string_member(alloc, members, name::CONTENT_TYPE)?;
+    let Some(path) = string_member(alloc, members, name::PATH)? else {
         return Ok(None);
     };
     Ok(Some(Resource { path, content_type }))

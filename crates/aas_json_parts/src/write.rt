@@ -9,6 +9,7 @@ use aas_json_members::{
     Exact, Object, Texts, Written, list_value, optional_value, optional_word, text_value,
     word_value,
 };
+use aas_json_table::name;
 use aas_model::{
     AssetInformation, Extension, LangText, NoMemory, Qualifier, Resource, SpecificAssetId,
 };
@@ -24,10 +25,10 @@ impl Written for LangTexts {
         let mut object = Object::new(alloc);
         object.put(
             alloc,
-            "language",
+            name::LANGUAGE,
             Some(text_value(alloc, &lang_text.language)?),
         )?;
-        object.put(alloc, "text", Some(text_value(alloc, &lang_text.text)?))?;
+        object.put(alloc, name::TEXT, Some(text_value(alloc, &lang_text.text)?))?;
         Ok(object.close())
     }
 }
@@ -41,21 +42,21 @@ impl Written for SpecificAssetIds {
         let mut object = Object::new(alloc);
         object.put(
             alloc,
-            "externalSubjectId",
+            name::EXTERNAL_SUBJECT_ID,
             optional_value::<References>(alloc, &id.external_subject_id)?,
         )?;
-        object.put(alloc, "name", Some(text_value(alloc, &id.name)?))?;
+        object.put(alloc, name::NAME, Some(text_value(alloc, &id.name)?))?;
         object.put(
             alloc,
-            "semanticId",
+            name::SEMANTIC_ID,
             optional_value::<References>(alloc, &id.semantics.semantic_id)?,
         )?;
         object.put(
             alloc,
-            "supplementalSemanticIds",
+            name::SUPPLEMENTAL_SEMANTIC_IDS,
             list_value::<References>(alloc, id.semantics.supplemental_semantic_ids.as_slice())?,
         )?;
-        object.put(alloc, "value", Some(text_value(alloc, &id.value)?))?;
+        object.put(alloc, name::VALUE, Some(text_value(alloc, &id.value)?))?;
         Ok(object.close())
     }
 }
@@ -67,20 +68,20 @@ impl Written for Extensions {
 
     fn value(alloc: Global, extension: &Extension) -> Result<Exact, NoMemory> {
         let mut object = Object::new(alloc);
-        object.put(alloc, "name", Some(text_value(alloc, &extension.name)?))?;
+        object.put(alloc, name::NAME, Some(text_value(alloc, &extension.name)?))?;
         object.put(
             alloc,
-            "refersTo",
+            name::REFERS_TO,
             list_value::<References>(alloc, extension.refers_to.as_slice())?,
         )?;
         object.put(
             alloc,
-            "semanticId",
+            name::SEMANTIC_ID,
             optional_value::<References>(alloc, &extension.semantics.semantic_id)?,
         )?;
         object.put(
             alloc,
-            "supplementalSemanticIds",
+            name::SUPPLEMENTAL_SEMANTIC_IDS,
             list_value::<References>(
                 alloc,
                 extension.semantics.supplemental_semantic_ids.as_slice(),
@@ -88,12 +89,12 @@ impl Written for Extensions {
         )?;
         object.put(
             alloc,
-            "value",
+            name::VALUE,
             optional_value::<Texts>(alloc, &extension.value)?,
         )?;
         object.put(
             alloc,
-            "valueType",
+            name::VALUE_TYPE,
             optional_word(alloc, extension.value_type)?,
         )?;
         Ok(object.close())
@@ -107,15 +108,15 @@ impl Written for Qualifiers {
 
     fn value(alloc: Global, qualifier: &Qualifier) -> Result<Exact, NoMemory> {
         let mut object = Object::new(alloc);
-        object.put(alloc, "kind", optional_word(alloc, qualifier.kind)?)?;
+        object.put(alloc, name::KIND, optional_word(alloc, qualifier.kind)?)?;
         object.put(
             alloc,
-            "semanticId",
+            name::SEMANTIC_ID,
             optional_value::<References>(alloc, &qualifier.semantics.semantic_id)?,
         )?;
         object.put(
             alloc,
-            "supplementalSemanticIds",
+            name::SUPPLEMENTAL_SEMANTIC_IDS,
             list_value::<References>(
                 alloc,
                 qualifier.semantics.supplemental_semantic_ids.as_slice(),
@@ -123,22 +124,22 @@ impl Written for Qualifiers {
         )?;
         object.put(
             alloc,
-            "type",
+            name::TYPE,
             Some(text_value(alloc, &qualifier.qualifier_type)?),
         )?;
         object.put(
             alloc,
-            "value",
+            name::VALUE,
             optional_value::<Texts>(alloc, &qualifier.value)?,
         )?;
         object.put(
             alloc,
-            "valueId",
+            name::VALUE_ID,
             optional_value::<References>(alloc, &qualifier.value_id)?,
         )?;
         object.put(
             alloc,
-            "valueType",
+            name::VALUE_TYPE,
             Some(word_value(alloc, qualifier.value_type)?),
         )?;
         Ok(object.close())
@@ -154,10 +155,10 @@ impl Written for Resources {
         let mut object = Object::new(alloc);
         object.put(
             alloc,
-            "contentType",
+            name::CONTENT_TYPE,
             optional_value::<Texts>(alloc, &resource.content_type)?,
         )?;
-        object.put(alloc, "path", Some(text_value(alloc, &resource.path)?))?;
+        object.put(alloc, name::PATH, Some(text_value(alloc, &resource.path)?))?;
         Ok(object.close())
     }
 }
@@ -171,27 +172,27 @@ impl Written for AssetInformations {
         let mut object = Object::new(alloc);
         object.put(
             alloc,
-            "assetKind",
+            name::ASSET_KIND,
             Some(word_value(alloc, asset.asset_kind)?),
         )?;
         object.put(
             alloc,
-            "assetType",
+            name::ASSET_TYPE,
             optional_value::<Texts>(alloc, &asset.asset_type)?,
         )?;
         object.put(
             alloc,
-            "defaultThumbnail",
+            name::DEFAULT_THUMBNAIL,
             optional_value::<Resources>(alloc, &asset.default_thumbnail)?,
         )?;
         object.put(
             alloc,
-            "globalAssetId",
+            name::GLOBAL_ASSET_ID,
             optional_value::<Texts>(alloc, &asset.global_asset_id)?,
         )?;
         object.put(
             alloc,
-            "specificAssetIds",
+            name::SPECIFIC_ASSET_IDS,
             list_value::<SpecificAssetIds>(alloc, asset.specific_asset_ids.as_slice())?,
         )?;
         Ok(object.close())

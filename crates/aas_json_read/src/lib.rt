@@ -23,11 +23,11 @@ use crate::read::read_shaped;
 use crate::sorts::{Concepts, Elements, Environments, Shells, Submodels};
 use aas_json_input::{read_bytes, read_part};
 use aas_json_parts::{AssetInformations, SpecificAssetIds};
+use aas_json_table::table::Sort;
+use aas_json_table::too_deep::Levels;
 use aas_model::{
     AssetInformation, Concept, Element, Environment, ReadFault, Shell, SpecificAssetId, Submodel,
 };
-use aas_json_table::table::Sort;
-use aas_json_table::too_deep::Levels;
 use serde_json::Value;
 use std::alloc::Global;
 

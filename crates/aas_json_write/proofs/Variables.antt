@@ -1,13 +1,9 @@
 -- Variables of an Operation, one after another.
-use Rattle.std.proofs.Common.{◌≡◌, List, [], ◌∷◌, ◌++◌, Bool, true, false, map, filter, cond, Some, None, refl, append_assoc}
+use Rattle.std.proofs.Common.{◌≡◌, List, ◌∷◌, Bool, true, false, map, filter, cond, Some, None, refl}
 use Rattle.std.specs.List.{cons_option}
 use Rattle.aas_json_mapping.specs.Elements.{Child, spell_variable}
 use Rattle.aas_model.specs.declared.element.Role.{Role}
 use Rattle.aas_json_write.specs.Variables.{is_variable_of, variable_of}
-
--- an item at the end is the first of what follows
-pub one_more : {X : Type 0} (xs : List X) (x : X) (rest : List X) → (xs ++ x ∷ []) ++ rest ≡ xs ++ x ∷ rest
-one_more xs x rest = append_assoc xs (x ∷ []) rest
 
 first_of_kept : (b : Bool) (c : Child) (cs : List Child) → map spell_variable (cond b (c ∷ cs) cs) ≡ cons_option (cond b (Some (spell_variable c)) None) (map spell_variable cs)
 first_of_kept true c cs = refl

@@ -11,6 +11,7 @@ ghost use Rattle.aas_json_write.specs.Rows.{common_rows, shared_rows};
 use crate::kept::kept_json;
 use aas_json_members::{Object, Texts, list_value, optional_value};
 use aas_json_parts::{Extensions, LangTexts, Qualifiers};
+use aas_json_table::name;
 use aas_model::{Common, NoMemory, Semantics};
 use aas_reference::References;
 use std::alloc::Global;
@@ -27,7 +28,7 @@ pub(crate) fn put_common(
     put_shared(object, alloc, common)?;
     object.put(
         alloc,
-        "qualifiers",
+        name::QUALIFIERS,
         list_value::<Qualifiers>(alloc, common.qualifiers.as_slice())?,
     )?;
     put_semantics(object, alloc, &common.semantics)?;
@@ -41,32 +42,32 @@ fn put_shared(object: &mut Object, alloc: Global, common: &Common) -> Result<(),
 {
     object.put(
         alloc,
-        "category",
+        name::CATEGORY,
         optional_value::<Texts>(alloc, &common.category)?,
     )?;
     object.put(
         alloc,
-        "description",
+        name::DESCRIPTION,
         list_value::<LangTexts>(alloc, common.description.as_slice())?,
     )?;
     object.put(
         alloc,
-        "displayName",
+        name::DISPLAY_NAME,
         list_value::<LangTexts>(alloc, common.display_name.as_slice())?,
     )?;
     object.put(
         alloc,
-        "extensions",
+        name::EXTENSIONS,
         list_value::<Extensions>(alloc, common.extensions.as_slice())?,
     )?;
     object.put(
         alloc,
-        "idShort",
+        name::ID_SHORT,
         optional_value::<Texts>(alloc, &common.id_short)?,
     )?;
     object.put(
         alloc,
-        "embeddedDataSpecifications",
+        name::EMBEDDED_DATA_SPECIFICATIONS,
         kept_json(alloc, &common.embedded_data_specifications)?,
     )?;
     Ok(())
@@ -82,12 +83,12 @@ pub(crate) fn put_semantics(
 {
     object.put(
         alloc,
-        "semanticId",
+        name::SEMANTIC_ID,
         optional_value::<References>(alloc, &semantics.semantic_id)?,
     )?;
     object.put(
         alloc,
-        "supplementalSemanticIds",
+        name::SUPPLEMENTAL_SEMANTIC_IDS,
         list_value::<References>(alloc, semantics.supplemental_semantic_ids.as_slice())?,
     )?;
     Ok(())

@@ -17,6 +17,7 @@ use aas_json_members::{
     text_value,
 };
 use aas_json_parts::{AssetInformations, Extensions, LangTexts, Qualifiers};
+use aas_json_table::name;
 use aas_model::{Administration, Concept, Head, NoMemory, Shell, Submodel};
 use aas_reference::References;
 use std::alloc::Global;
@@ -30,17 +31,17 @@ pub(crate) fn shell_json(alloc: Global, shell: &Shell) -> Result<Exact, NoMemory
     put_head(&mut object, alloc, &shell.head)?;
     object.put(
         alloc,
-        "assetInformation",
+        name::ASSET_INFORMATION,
         Some(AssetInformations::value(alloc, &shell.asset)?),
     )?;
     object.put(
         alloc,
-        "derivedFrom",
+        name::DERIVED_FROM,
         optional_value::<References>(alloc, &shell.derived_from)?,
     )?;
     object.put(
         alloc,
-        "submodels",
+        name::SUBMODELS,
         list_value::<References>(alloc, shell.submodels.as_slice())?,
     )?;
     Ok(object.close())
@@ -53,16 +54,16 @@ pub(crate) fn submodel_json(alloc: Global, submodel: &Submodel) -> Result<Exact,
 {
     let mut object = document(alloc, "Submodel")?;
     put_head(&mut object, alloc, &submodel.head)?;
-    object.put(alloc, "kind", optional_word(alloc, submodel.kind)?)?;
+    object.put(alloc, name::KIND, optional_word(alloc, submodel.kind)?)?;
     put_semantics(&mut object, alloc, &submodel.semantics)?;
     object.put(
         alloc,
-        "qualifiers",
+        name::QUALIFIERS,
         list_value::<Qualifiers>(alloc, submodel.qualifiers.as_slice())?,
     )?;
     object.put(
         alloc,
-        "submodelElements",
+        name::SUBMODEL_ELEMENTS,
         children_json(alloc, &submodel.kids)?,
     )?;
     Ok(object.close())
@@ -77,7 +78,7 @@ pub(crate) fn concept_json(alloc: Global, concept: &Concept) -> Result<Exact, No
     put_head(&mut object, alloc, &concept.head)?;
     object.put(
         alloc,
-        "isCaseOf",
+        name::IS_CASE_OF,
         list_value::<References>(alloc, concept.is_case_of.as_slice())?,
     )?;
     Ok(object.close())
@@ -88,7 +89,11 @@ fn document(alloc: Global, model_type: &str) -> Result<Object, NoMemory>
     ensures { IfOk result (λ made. members_of made ≡ with_model_type model_type.now) }
 {
     let mut object = Object::new(alloc);
-    object.put(alloc, "modelType", Some(string_value(alloc, model_type)?))?;
+    object.put(
+        alloc,
+        name::MODEL_TYPE,
+        Some(string_value(alloc, model_type)?),
+    )?;
     Ok(object)
 }
 
@@ -107,10 +112,10 @@ fn put_identifiable(object: &mut Object, alloc: Global, head: &Head) -> Result<(
     requires { administration_in_order head.now.administration ≡ true }
     ensures { OnOk result (members_of object.new ≡ built identifiable (attribute (head_attributes head.now)) (members_of object.old)) }
 {
-    object.put(alloc, "id", Some(text_value(alloc, &head.id)?))?;
+    object.put(alloc, name::ID, Some(text_value(alloc, &head.id)?))?;
     object.put(
         alloc,
-        "administration",
+        name::ADMINISTRATION,
         administration_if_there(alloc, &head.administration)?,
     )?;
     Ok(())
@@ -123,32 +128,32 @@ fn put_shared(object: &mut Object, alloc: Global, head: &Head) -> Result<(), NoM
 {
     object.put(
         alloc,
-        "category",
+        name::CATEGORY,
         optional_value::<Texts>(alloc, &head.category)?,
     )?;
     object.put(
         alloc,
-        "description",
+        name::DESCRIPTION,
         list_value::<LangTexts>(alloc, head.description.as_slice())?,
     )?;
     object.put(
         alloc,
-        "displayName",
+        name::DISPLAY_NAME,
         list_value::<LangTexts>(alloc, head.display_name.as_slice())?,
     )?;
     object.put(
         alloc,
-        "extensions",
+        name::EXTENSIONS,
         list_value::<Extensions>(alloc, head.extensions.as_slice())?,
     )?;
     object.put(
         alloc,
-        "idShort",
+        name::ID_SHORT,
         optional_value::<Texts>(alloc, &head.id_short)?,
     )?;
     object.put(
         alloc,
-        "embeddedDataSpecifications",
+        name::EMBEDDED_DATA_SPECIFICATIONS,
         kept_json(alloc, &head.embedded_data_specifications)?,
     )?;
     Ok(())
@@ -174,27 +179,27 @@ fn administration_json(alloc: Global, administration: &Administration) -> Result
     let mut object = Object::new(alloc);
     object.put(
         alloc,
-        "creator",
+        name::CREATOR,
         optional_value::<References>(alloc, &administration.creator)?,
     )?;
     object.put(
         alloc,
-        "embeddedDataSpecifications",
+        name::EMBEDDED_DATA_SPECIFICATIONS,
         kept_json(alloc, &administration.embedded_data_specifications)?,
     )?;
     object.put(
         alloc,
-        "revision",
+        name::REVISION,
         optional_value::<Texts>(alloc, &administration.revision)?,
     )?;
     object.put(
         alloc,
-        "templateId",
+        name::TEMPLATE_ID,
         optional_value::<Texts>(alloc, &administration.template_id)?,
     )?;
     object.put(
         alloc,
-        "version",
+        name::VERSION,
         optional_value::<Texts>(alloc, &administration.version)?,
     )?;
     Ok(object.close())

@@ -5,9 +5,10 @@ ghost use Rattle.aas_json_write.specs.Order.{element_in_order, elements_in_order
 ghost use Rattle.aas_json_write.specs.Variables.{is_variable_of, variable_of};
 
 use crate::children::{
-    childless_object, closed_with, closed_with_variables, is_variable_of, push_some,
+    childless_object, closed_with, closed_with_variables, is_variable_of,
 };
 use aas_json_members::{Array, Exact, Object};
+use aas_json_table::name;
 use aas_model::{Element, Many, NoMemory, Payload, Role};
 use std::alloc::Global;
 
@@ -22,19 +23,19 @@ pub fn element_json(alloc: Global, element: &Element) -> Result<Exact, NoMemory>
     match &element.payload {
         Payload::AnnotatedRelationshipElement { .. } => {
             let annotations = children_json(alloc, &element.kids)?;
-            Ok(closed_with(alloc, object, "annotations", annotations)?)
+            Ok(closed_with(alloc, object, name::ANNOTATIONS, annotations)?)
         }
         Payload::Entity { .. } => {
             let statements = children_json(alloc, &element.kids)?;
-            Ok(closed_with(alloc, object, "statements", statements)?)
+            Ok(closed_with(alloc, object, name::STATEMENTS, statements)?)
         }
         Payload::SubmodelElementCollection => {
             let members = children_json(alloc, &element.kids)?;
-            Ok(closed_with(alloc, object, "value", members)?)
+            Ok(closed_with(alloc, object, name::VALUE, members)?)
         }
         Payload::SubmodelElementList { .. } => {
             let members = children_json(alloc, &element.kids)?;
-            Ok(closed_with(alloc, object, "value", members)?)
+            Ok(closed_with(alloc, object, name::VALUE, members)?)
         }
         Payload::Operation => {
             let inputs = variables_json(alloc, &element.kids, Role::Input)?;
@@ -72,7 +73,7 @@ fn variables_json(
 {
     let mut variables = Array::new(alloc);
     for kid in kids.as_slice() {
-        push_some(&mut variables, variable_json(alloc, kid, role)?)?;
+        variables.push_some(variable_json(alloc, kid, role)?)?;
     }
     Ok(variables.close_listed())
 }
@@ -86,7 +87,7 @@ fn variable_json(alloc: Global, kid: &Element, role: Role) -> Result<Option<Exac
 {
     if is_variable_of(role, kid.role) {
         let value = element_json(alloc, kid)?;
-        let variable = closed_with(alloc, Object::new(alloc), "value", Some(value))?;
+        let variable = closed_with(alloc, Object::new(alloc), name::VALUE, Some(value))?;
         Ok(Some(variable))
     } else {
         Ok(None)

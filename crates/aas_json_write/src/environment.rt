@@ -7,6 +7,7 @@ ghost use Rattle.aas_json_write.specs.Order.{shell_in_order, submodel_in_order, 
 
 use crate::documents::{concept_json, shell_json, submodel_json};
 use aas_json_members::{Array, Exact, Object};
+use aas_json_table::name;
 use aas_model::{Concept, Environment, Many, NoMemory, Shell, Submodel};
 use std::alloc::Global;
 
@@ -18,17 +19,17 @@ pub(crate) fn environment_json(alloc: Global, environment: &Environment) -> Resu
     let mut object = Object::new(alloc);
     object.put(
         alloc,
-        "assetAdministrationShells",
+        name::ASSET_ADMINISTRATION_SHELLS,
         shells_json(alloc, &environment.shells)?,
     )?;
     object.put(
         alloc,
-        "conceptDescriptions",
+        name::CONCEPT_DESCRIPTIONS,
         concepts_json(alloc, &environment.concepts)?,
     )?;
     object.put(
         alloc,
-        "submodels",
+        name::SUBMODELS,
         submodels_json(alloc, &environment.submodels)?,
     )?;
     Ok(object.close())

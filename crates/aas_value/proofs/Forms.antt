@@ -1,5 +1,5 @@
 -- The value form of an element, by its children's.
-use Rattle.std.proofs.Common.{◌≡◌, List, [], ◌∷◌, ◌++◌, map, ap, append_assoc}
+use Rattle.std.proofs.Common.{◌≡◌, map, ap}
 use Rattle.aas_model_names.specs.declared.modifiers.Extent.{Extent}
 use Rattle.aas_model.specs.declared.element.Element.{Element, out-Element}
 use Rattle.aas_model.specs.declared.element.Element.TheFolds.{fold_out-Element}
@@ -10,7 +10,3 @@ form_out x e = ap (λ c. c.form) (fold_out-Element Child (as_child x) e)
 
 pub name_out : (x : Extent) (e : Element) → (child_of x e).name ≡ (out-Element e).common.id_short
 name_out x e = ap (λ c. c.name) (fold_out-Element Child (as_child x) e)
-
--- an item at the end is the first of what follows
-pub one_more : {X : Type 0} (xs : List X) (x : X) (rest : List X) → (xs ++ x ∷ []) ++ rest ≡ xs ++ x ∷ rest
-one_more xs x rest = append_assoc xs (x ∷ []) rest

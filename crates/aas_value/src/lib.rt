@@ -2,7 +2,6 @@
 
 #![tactic(auto)]
 
-mod children;
 mod form;
 mod kinds;
 mod single;
