@@ -89,7 +89,7 @@ tree_made o ks =
     tree_out (made o ks)
     ∙ ap (λ f. node (record { common = f.common; payload = f.payload; role = f.role }) (trees (map tree_of f.kids))) (out-roll-Element (record { common = o.common; payload = o.payload; role = o.role; kids = ks }))
 
-bare_out : (e : Element) → bare e ≡ made (bare_own (own_of e)) (map bare (kids_of e))
+pub bare_out : (e : Element) → bare e ≡ made (bare_own (own_of e)) (map bare (kids_of e))
 unfolding bare
 bare_out e = fold_out-Element Element bare_over e
 

@@ -8,12 +8,14 @@ use Rattle.aas_model.specs.declared.documents.Submodel.{Submodel}
 use Rattle.aas_model.specs.declared.element.Element.{Element}
 use Rattle.aas_model.specs.declared.payload.Payload.{Payload}
 use Rattle.aas_model.specs.declared.payload.Payload.TheVariants as p
+use Rattle.aas_model.specs.declared.path.Fault.{Fault}
 use Rattle.aas_model.specs.declared.path.PathStep.{PathStep}
 use Rattle.aas_model.specs.declared.path.PathStep.TheVariants.{Name, Place}
-use Rattle.aas_constraint_rules.specs.Decided.{is_path_name}
-use Rattle.aas_constraint_rules.specs.Faults.{fault, faults, faults_at, document_faults, submodel_rules, is_template, IsValid}
+use Rattle.aas_constraint_rules.specs.Decided.{is_id_short}
+use Rattle.aas_reference.specs.Rules.{if_any}
+use Rattle.aas_constraint_rules.specs.Attributes.{seen_of_submodel}
+use Rattle.aas_constraint_rules.specs.Faults.{fault, faults, faults_at, document_faults, submodel_rules, is_template, submodel, HasNoFault}
 use Rattle.aas_constraint_rules.specs.Sites.{Own, Tree, Trees, node, none, first, root, sites_among, step_to, stands_in_list, named_or, tree_of, trees, is_list as is_list_of}
-use Rattle.aas_constraint_rules.specs.Texts.{if_any}
 use Rattle.aas_path_trees.specs.Children.{kids_of, id_short_of, is_list, is_list_payload}
 use Rattle.aas_path_trees.specs.ElementAt.{is_text, place_of, child_by, element_below, element_at}
 use Rattle.aas_path_trees.specs.WithElement.{with_child as with_child_by, with_below, with_element}
@@ -38,11 +40,11 @@ text_is : (n : List ℕ) (o : Option (List ℕ)) → is_text n o ≡ true → o 
 text_is n None e = absurd (cc)
 text_is n (Some m) e = ap (λ (t : List ℕ). Some t) ((bytes_eq-Decides m n).0 e)
 
-named_step : (i : ℕ) (n : List ℕ) (name : Option (List ℕ)) → name ≡ Some n → if_any is_path_name name ≡ true → Name n ≡ named_or name i
-named_step i n name is named = sym (ap (λ o. named_or o i) is ∙ ap (λ (b : Bool). if b then Name n else Place i) (sym (ap (if_any is_path_name) is) ∙ named))
+named_step : (i : ℕ) (n : List ℕ) (name : Option (List ℕ)) → name ≡ Some n → if_any is_id_short name ≡ true → Name n ≡ named_or name i
+named_step i n name is named = sym (ap (λ o. named_or o i) is ∙ ap (λ (b : Bool). if b then Name n else Place i) (sym (ap (if_any is_id_short) is) ∙ named))
 
 -- the step that leads to a child is the one that a fault shows
-step_is : (l : Bool) (s : PathStep) (ks : List Element) (i : ℕ) (k : Element) → place_of l s ks ≡ Some i → slice_get ks i ≡ Some k → if_any is_path_name (id_short_of k) ≡ true
+step_is : (l : Bool) (s : PathStep) (ks : List Element) (i : ℕ) (k : Element) → place_of l s ks ≡ Some i → slice_get ks i ≡ Some k → if_any is_id_short (id_short_of k) ≡ true
     → s ≡ (if l then Place i else named_or (id_short_of k) i)
 unfolding place_of
 step_is true (Name n) ks i k e at named = absurd (cc)
@@ -109,7 +111,7 @@ put (s ∷ p) e k w is =
 
 -- ---- the path that a fault shows
 
-named_tree : (x : Element) → local_here (tree_of x) ≡ [] → if_any is_path_name (id_short_of x) ≡ true
+named_tree : (x : Element) → local_here (tree_of x) ≡ [] → if_any is_id_short (id_short_of x) ≡ true
 unfolding local_here
 named_tree x e =
     let own : map (fault []) (locally_broken (own_of x)) ++ local_among (Some (own_of x)) 0 (trees (map tree_of (kids_of x))) ≡ [] = sym (ap local_here (tree_out x)) ∙ e in
@@ -160,12 +162,17 @@ path_there (s ∷ p) e k is clean =
 -- ---- the law
 
 -- the faults of a submodel itself are no matter of its elements
-document_alike : (d : Submodel) (ks : List Element) → document_faults submodel_rules (record d { kids = ks }) ≡ document_faults submodel_rules d
+own_faults : Submodel → List Fault
+own_faults d = document_faults submodel_rules (seen_of_submodel d).references d
+
+document_alike : (d : Submodel) (ks : List Element) → own_faults (record d { kids = ks }) ≡ own_faults d
+unfolding own_faults
 document_alike d ks = refl
 
 law_by : (d : Submodel) (s : PathStep) (p : List PathStep) (e u : Element) (o : Option Child) → ((c : Child) → o ≡ Some c → (place_of false s d.kids ≡ Some c.0) × (slice_get d.kids c.0 ≡ Some c.1))
-    → option_and_then (λ c. element_below p c.1) o ≡ Some e → DifferInValues e u → IsValid d
+    → option_and_then (λ c. element_below p c.1) o ≡ Some e → DifferInValues e u → HasNoFault (submodel d)
     → faults (record d { kids = with_child_by (λ k. with_below p k u) d.kids o }) ≡ map (behind (s ∷ p)) (local_faults u)
+unfolding own_faults
 law_by d s p e u None at is same valid = absurd (cc)
 law_by d s p e u (Some c) at is same valid =
     let t = is_template d.kind in
@@ -173,8 +180,8 @@ law_by d s p e u (Some c) at is same valid =
     let q = numbers_to p c.1 in
     let ks = slice_set d.kids c.0 (with_below p c.1 u) in
     let here = at c refl in
-    let own_none : document_faults submodel_rules d ≡ [] = no_first (document_faults submodel_rules d) _ valid in
-    let clean : flat_map faults_at (sites_among t None [] ts) ≡ [] = no_second (document_faults submodel_rules d) _ valid in
+    let own_none : own_faults d ≡ [] = no_first (own_faults d) _ valid in
+    let clean : flat_map faults_at (sites_among t None [] ts) ≡ [] = no_second (own_faults d) _ valid in
     let locally : local_among None 0 ts ≡ [] = sym (free_among t None [] ts) ∙ all_none_local (sites_among t None [] ts) clean in
     let clean_here : local_here (tree_of c.1) ≡ [] = clean_child None 0 c.0 ts (tree_of c.1) locally (child_tree d.kids c.0 c.1 here.1) in
     let stands : option_and_then (tree_at q) (child c.0 ts) ≡ Some (tree_of e) = ap (option_and_then (tree_at q)) (child_tree d.kids c.0 c.1 here.1) ∙ there p c.1 e is in
@@ -183,6 +190,6 @@ law_by d s p e u (Some c) at is same valid =
     ∙ place_law t ts c.0 q (tree_of e) (tree_of u) stands (same_bare e u same) clean
     ∙ ap₂ (λ w l. map (behind w) l) (path_of_child false None s p d.kids c refl here.0 here.1 clean_here (path_there p c.1 e is clean_here)) (sym (free true None [] (tree_of u)))
 
-pub law : (d : Submodel) (p : List PathStep) (e u : Element) → IsValid d → element_at d p ≡ Some e → DifferInValues e u → faults (with_element d p u) ≡ map (behind p) (local_faults u)
+pub law : (d : Submodel) (p : List PathStep) (e u : Element) → HasNoFault (submodel d) → element_at d p ≡ Some e → DifferInValues e u → faults (with_element d p u) ≡ map (behind p) (local_faults u)
 law d [] e u valid is same = absurd (cc)
 law d (s ∷ p) e u valid is same = law_by d s p e u (child_by false s d.kids) (λ c h. child_by-there false s d.kids c h) is same valid

@@ -1,7 +1,9 @@
 pub mod Bare
 pub mod Bridge
 pub mod Changed
+pub mod ClassVRows
 pub mod PathNames
 pub mod PlacedRows
 pub mod Places
 pub mod Siblings
+pub mod StaysWhole

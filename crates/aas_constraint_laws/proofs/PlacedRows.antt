@@ -1,21 +1,20 @@
 -- What placed sentences read isn't of class V.
-use Rattle.std.proofs.Common.{◌≡◌, ℕ, Bool, true, not, ◌&&◌, ◌||◌, cond, List, [], ◌∷◌, ◌++◌, map, filter, filter_map, Option, Some, None, option_map, refl, ap, ap₂}
+use Rattle.std.proofs.Common.{◌≡◌, ℕ, Bool, true, false, not, ◌&&◌, ◌||◌, cond, List, [], ◌∷◌, map, filter, filter_map, Option, Some, None, option_map, refl, sym, ap, ap₂, subst}
 use Rattle.std.specs.Prelude.{is_some, is_none}
 use Rattle.std.specs.List.{AllByRecursion, cons_option}
-use Rattle.aas_reference.specs.Rules as reference
+use Rattle.aas_reference.specs.Rules.{Rule, failing, if_any}
 use Rattle.aas_model.specs.Payload.{kind_of}
 use Rattle.aas_model.specs.declared.payload.Payload.{Payload}
 use Rattle.aas_model.specs.declared.payload.Payload.TheVariants as p
-use Rattle.aas_constraint_rules.specs.Faults.{failing}
-use Rattle.aas_constraint_rules.specs.Rules.{Sentence, local, placed, Rule, row, seen, rules_to_21, rules_to_120, rules_of_references, rules_to_134, rules, references_keep, name_of, semantics_of, is_operation, stands_in_operation, is_repeat, first_some, agree, list_semantics, list_type, list_value_type, of_parent, type_admits, is_typed, value_type_of, same_type, list_is_typed}
+use Rattle.aas_constraint_rules.specs.Rules.{ElementSentence, local, placed, rules, name_of, semantics_of, is_operation, stands_in_operation, is_repeat, first_some, agree, list_semantics, list_type, list_value_type, of_parent, type_admits, is_typed, value_type_of, same_type, list_is_typed, has_list_value_type}
 use Rattle.aas_constraint_rules.specs.Sites.{Own, Site}
-use Rattle.aas_constraint_rules.specs.Texts.{if_any, is_among}
+use Rattle.aas_constraint_rules.specs.Texts.{is_among}
 use Rattle.aas_constraint_laws.specs.Values.{without_values}
 use Rattle.aas_constraint_laws.proofs.Bare.{bare_own, bare_site, in_list_bare}
 
 -- what is wanted of the place alone
-abbrev pub holds_in_place : Sentence → Site → Bool
-holds_in_place (local test) x = true
+abbrev pub holds_in_place : ElementSentence → Site → Bool
+holds_in_place (local s) x = true
 holds_in_place (placed test) x = test x
 
 -- ---- words
@@ -56,67 +55,48 @@ repeat_bare b (Some n) = ap (is_among n) (names_bare b)
 -- ---- rows
 
 -- the same holds of a place and of the bare place
-abbrev IsAlike : Site → Rule → Type 0
+abbrev IsAlike : Site → Rule ElementSentence → Type 0
 IsAlike x r = holds_in_place r.sentence (bare_site x) ≡ holds_in_place r.sentence x
 
-all_append : (P : Rule → Type 0) (rs qs : List Rule) → AllByRecursion P rs → AllByRecursion P qs → AllByRecursion P (rs ++ qs)
-all_append P [] qs h k = k
-all_append P (r ∷ rs) qs h k = (h.0, all_append P rs qs h.1 k)
+abbrev is_placed : ElementSentence → Bool
+is_placed (local s) = false
+is_placed (placed test) = true
 
-to_21 : (x : Site) → AllByRecursion (IsAlike x) rules_to_21
-to_21 x = (refl, (refl, (refl, (refl, (refl, tt)))))
+abbrev placed_among : List (Rule ElementSentence) → List (Rule ElementSentence)
+placed_among rs = filter (λ r. is_placed r.sentence) rs
 
-to_120 : (x : Site) → AllByRecursion (IsAlike x) rules_to_120
-to_120 x =
+-- local sentences hold of each place alike, so the placed ones are left
+alike_from : (x : Site) (rs : List (Rule ElementSentence)) → AllByRecursion (IsAlike x) (placed_among rs) → AllByRecursion (IsAlike x) rs
+alike_from x [] h = tt
+alike_from x (r ∷ rs) h = let both = by_sentence r.sentence refl h in (both.0, alike_from x rs both.1)
+  where
+    by_sentence : (s : ElementSentence) → r.sentence ≡ s → AllByRecursion (IsAlike x) (cond (is_placed s) (r ∷ placed_among rs) (placed_among rs)) → IsAlike x r × AllByRecursion (IsAlike x) (placed_among rs)
+    by_sentence (local s) e h = (subst (λ t. holds_in_place t (bare_site x) ≡ holds_in_place t x) (sym e) refl, h)
+    by_sentence (placed test) e h = h
+
+alike : (x : Site) → AllByRecursion (IsAlike x) rules
+alike x =
     let repeat = repeat_bare x.before (name_of x.own) in
     let in_list = in_list_bare x.above in
     let in_operation = in_operation_bare x.above in
     let reads_own = reads x.own.payload in
     let type = demand_bare list_type (λ o. (reads o).type) x.above in
-    let value_type = demand_bare list_value_type (λ o. (reads o).value_type) x.above in (
-      ap₂ (λ u v. u || not v) in_operation repeat,
-      (
-        refl,
-        (
-          ap (λ u. agree u (semantics_of x.own)) (demand_bare list_semantics (λ o. (reads o).semantics) x.above),
-          (
-            ap₂ (λ k l. if_any (λ t. type_admits t k) l) reads_own.kind type,
-            (
-              (λ i. reads_own.typed i && if_any (λ t. not (is_typed t) || if_any (same_type (value_type i)) (reads_own.own_type i)) (type i)),
-              (
-                ap₂ (λ u l. not u || agree (first_some l) (semantics_of x.own)) in_list (all_semantics_bare x.before),
-                (
-                  ap (λ u. is_some (name_of x.own) || u) in_list,
-                  (refl, (ap (λ u. not u || is_none (name_of x.own)) in_list, tt)),
-                ),
-              ),
-            ),
-          ),
-        ),
-      ),
-    )
+    let value_type = demand_bare list_value_type (λ o. (reads o).value_type) x.above in
+    let of_22 = ap₂ (λ u v. u || not v) in_operation repeat in
+    let of_107 = ap (λ u. agree u (semantics_of x.own)) (demand_bare list_semantics (λ o. (reads o).semantics) x.above) in
+    let of_108 = ap₂ (λ k l. if_any (λ t. type_admits t k) l) reads_own.kind type in
+    let of_109 : has_list_value_type (bare_site x) ≡ has_list_value_type x = λ i. reads_own.typed i && if_any (λ t. not (is_typed t) || if_any (same_type (value_type i)) (reads_own.own_type i)) (type i) in
+    let of_114 = ap₂ (λ u l. not u || agree (first_some l) (semantics_of x.own)) in_list (all_semantics_bare x.before) in
+    let of_117 = ap (λ u. is_some (name_of x.own) || u) in_list in
+    let of_120 = ap (λ u. not u || is_none (name_of x.own)) in_list in
+    let of_134 = ap₂ (λ u v. not u || not v) in_operation repeat in
+    alike_from x rules (of_22, (of_107, (of_108, (of_109, (of_114, (of_117, (of_120, (refl, (of_134, tt)))))))))
 
-of_references : (x : Site) (rs : List reference.Rule) → AllByRecursion (IsAlike x) (map (λ r. row r.number (seen (references_keep r))) rs)
-of_references x [] = tt
-of_references x (r ∷ rs) = (refl, of_references x rs)
-
-to_134 : (x : Site) → AllByRecursion (IsAlike x) rules_to_134
-to_134 x = (refl, (refl, (refl, (ap₂ (λ u v. not u || not v) (in_operation_bare x.above) (repeat_bare x.before (name_of x.own)), tt))))
-
-alike : (x : Site) → AllByRecursion (IsAlike x) rules
-alike x =
-    all_append (IsAlike x) rules_to_21 (rules_to_120 ++ rules_of_references ++ rules_to_134) (to_21 x)
-    (all_append (IsAlike x) rules_to_120 (rules_of_references ++ rules_to_134) (to_120 x) (all_append (IsAlike x) rules_of_references rules_to_134 (of_references x reference.reference_rules) (to_134 x)))
-
-failing_alike : (x : Site) (rs : List Rule) → AllByRecursion (IsAlike x) rs
-    → failing (λ r. holds_in_place r.sentence (bare_site x)) rs ≡ failing (λ r. holds_in_place r.sentence x) rs
-failing_alike x rs h = ap (map (λ r. r.number)) (kept rs h)
+-- the placed sentences that fail at a place are those that fail at the bare place
+pub placed_bare : (x : Site) → failing (λ s. holds_in_place s (bare_site x)) rules ≡ failing (λ s. holds_in_place s x) rules
+placed_bare x = ap (map (λ r. r.number)) (kept rules (alike x))
   where
-    kept : (rs : List Rule) → AllByRecursion (IsAlike x) rs
+    kept : (rs : List (Rule ElementSentence)) → AllByRecursion (IsAlike x) rs
         → filter (λ r. not (holds_in_place r.sentence (bare_site x))) rs ≡ filter (λ r. not (holds_in_place r.sentence x)) rs
     kept [] h = refl
     kept (r ∷ rs) h = ap₂ (λ b l. cond (not b) (r ∷ l) l) h.0 (kept rs h.1)
-
--- the placed sentences that fail at a place are those that fail at the bare place
-pub placed_bare : (x : Site) → failing (λ r. holds_in_place r.sentence (bare_site x)) rules ≡ failing (λ r. holds_in_place r.sentence x) rules
-placed_bare x = failing_alike x rules (alike x)

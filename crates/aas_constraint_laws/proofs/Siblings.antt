@@ -1,5 +1,5 @@
--- In a valid submodel siblings differ: at each place the sentences on idShorts hold.
-use Rattle.std.proofs.Common.{◌≡◌, ℕ, zero, suc, Bool, true, false, not, cond, ◌||◌, List, [], ◌∷◌, ◌++◌, length, map, filter, filter_map, flat_map, slice_get, Option, Some, None, IsSome, is_some, option_and_then, refl, sym, ap, ◌∙◌, subst}
+-- In a submodel without faults siblings differ, and their names can be written: at each place the sentences on idShorts hold.
+use Rattle.std.proofs.Common.{◌≡◌, ℕ, zero, suc, Bool, true, false, not, ◌||◌, List, [], ◌∷◌, ◌++◌, length, drop, map, filter_map, flat_map, slice_get, Option, Some, None, IsSome, is_some, option_and_then, refl, sym, ap, ◌∙◌, subst}
 use Rattle.std.specs.List.{AllByRecursion, cons_option}
 use Rattle.std.proofs.lemmas.Grind.{flat_map-append}
 use Rattle.std.proofs.lemmas.List.Elements.{filter_map-append}
@@ -11,31 +11,29 @@ use Rattle.aas_model.specs.declared.element.Element.{Element, out-Element}
 use Rattle.aas_model.specs.declared.path.PathStep.{PathStep}
 use Rattle.aas_model.specs.declared.payload.Payload.{Payload}
 use Rattle.aas_model.specs.declared.payload.Payload.TheVariants as payload
-use Rattle.aas_constraint_rules.specs.Faults.{fault, failing, broken, faults_at, document_faults, submodel_rules, is_template, sites_of, IsValid}
-use Rattle.aas_constraint_rules.specs.Rules.{Rule, holds, name_of, is_repeat, name_is_new, is_named, variable_is_new, stands_in_operation, rules, rules_to_21, rules_to_120, rules_of_references, rules_to_134}
+use Rattle.aas_reference.specs.Rules.{if_any}
+use Rattle.aas_constraint_rules.specs.Attributes.{seen_of_submodel}
+use Rattle.aas_constraint_rules.specs.Decided.{is_id_short}
+use Rattle.aas_constraint_rules.specs.Faults.{fault, broken, faults_at, document_faults, submodel_rules, is_template, sites_of, submodel, HasNoFault}
+use Rattle.aas_constraint_rules.specs.Rules.{holds, name_of, is_repeat, name_is_new, is_named, variable_is_new, stands_in_operation, rules}
 use Rattle.aas_constraint_rules.specs.Sites as site
 use Rattle.aas_constraint_rules.specs.Sites.{Own, Site, Tree, node, root, under, step_to, stands_in_list, sites, sites_among, trees, tree_over, tree_of}
 use Rattle.aas_constraint_rules.specs.Texts.{is_among}
 use Rattle.aas_path_trees.specs.Children.{kids_of, id_short_of, is_list_payload}
 use Rattle.aas_path_trees.specs.Laws.{HasOnePath}
-use Rattle.aas_path_trees.specs.Places.{element_in, element_in_all, Differ, SiblingsDiffer}
+use Rattle.aas_path_trees.specs.Places.{element_in, element_in_all, AreNamed, Differ, PlacesKeepRule, SiblingsDiffer, StepsKeepRule}
 use Rattle.aas_path_trees.proofs.OnePath.{one_path}
 use Rattle.aas_constraint_laws.proofs.Bare.{own_of, tree_out}
-use Rattle.aas_constraint_laws.proofs.Places.{no_first, no_second, no_map}
+use Rattle.aas_constraint_laws.specs.OnePath.{HasOneWrittenPath}
+use Rattle.aas_constraint_laws.proofs.PathNames.{id_short_is, named_own}
+use Rattle.aas_constraint_laws.proofs.Places.{no_first, no_second, no_map, Passes, each_passes, none_local}
 
 -- ---- what holds at a place without faults
 
-held : (r : Rule) (b : Bool) (l : List Rule) → map (λ (r : Rule). r.number) (cond (not b) (r ∷ l) l) ≡ [] → (b ≡ true) × (map (λ (r : Rule). r.number) l ≡ [])
-held r true l e = (refl, e)
-held r false l e = absurd (cc)
-
-all_hold : (test : Rule → Bool) (rs : List Rule) → failing test rs ≡ [] → AllByRecursion (λ r. test r ≡ true) rs
-all_hold test [] e = tt
-all_hold test (r ∷ rs) e = let here = held r (test r) (filter (λ r. not (test r)) rs) e in (here.0, all_hold test rs here.1)
-
-later_hold : {X : Type 0} (P : X → Type 0) (xs ys : List X) → AllByRecursion P (xs ++ ys) → AllByRecursion P ys
-later_hold P [] ys h = h
-later_hold P (x ∷ xs) ys h = later_hold P xs ys h.1
+later_hold : {X : Type 0} (P : X → Type 0) (n : ℕ) (xs : List X) → AllByRecursion P xs → AllByRecursion P (drop n xs)
+later_hold P zero xs h = h
+later_hold P (suc n) [] h = h
+later_hold P (suc n) (x ∷ xs) h = later_hold P n xs h.1
 
 -- a name is new, whether or not the place is among variables
 neither : (p q : Bool) → p || not q ≡ true → not p || not q ≡ true → q ≡ false
@@ -51,6 +49,7 @@ left_holds false q e f = absurd (cc)
 record NameFits (a : Option Own) (b : List Own) (o : Own) : Type 0 where
   is_new : is_repeat b (name_of o) ≡ false
   has_name : stands_in_list a ≡ false → IsSome (name_of o)
+  can_be_written : if_any is_id_short (name_of o) ≡ true
 
 abbrev at_root : Bool → Option Own → List Own → Own → Site
 at_root t a b o = record { in_template = t; path = []; above = a; before = b; own = o }
@@ -58,17 +57,15 @@ at_root t a b o = record { in_template = t; path = []; above = a; before = b; ow
 fits : (t : Bool) (a : Option Own) (b : List Own) (o : Own) → broken (at_root t a b o) ≡ [] → NameFits a b o
 fits t a b o e =
     let x : Site = at_root t a b o in
-    let Held : Rule → Type 0 = λ r. holds r.sentence x ≡ true in
-    let all : AllByRecursion Held rules = all_hold (λ r. holds r.sentence x) rules e in
-    let from_22 : AllByRecursion Held (rules_to_120 ++ rules_of_references ++ rules_to_134) = later_hold Held rules_to_21 (rules_to_120 ++ rules_of_references ++ rules_to_134) all in
-    let from_121 : AllByRecursion Held (rules_of_references ++ rules_to_134) = later_hold Held rules_to_120 (rules_of_references ++ rules_to_134) from_22 in
-    let from_129 : AllByRecursion Held rules_to_134 = later_hold Held rules_of_references rules_to_134 from_121 in
-    let new : name_is_new x ≡ true = from_22.0 in
-    let named : is_named x ≡ true = from_22.1.1.1.1.1.1.0 in
-    let variable : variable_is_new x ≡ true = from_129.1.1.1.0 in
+    let all = each_passes (λ s. holds s x) rules e in
+    let from : (n : ℕ) → AllByRecursion (Passes (λ s. holds s x)) (drop n rules) = λ n. later_hold (Passes (λ s. holds s x)) n rules all in
+    let new : name_is_new x ≡ true = (from 5).0 in
+    let named : is_named x ≡ true = (from 11).0 in
+    let variable : variable_is_new x ≡ true = (from 25).0 in
     record {
       is_new = neither (stands_in_operation a) (is_repeat b (name_of o)) new variable;
       has_name = left_holds (is_some (name_of o)) (stands_in_list a) named;
+      can_be_written = named_own o (none_local x e);
     }
 
 -- ---- elements without faults
@@ -200,6 +197,14 @@ differ t a ks free c = record {
   apart = λ i j k m at_i at_j same. apart t a [] ks i j k m free c at_i at_j same;
 }
 
+written : (t : Bool) (a : Option Own) (b : List Own) (ks : List Element) → AllClean t a b ks → AreNamed ks
+written t a b [] c i k n there name = absurd (cc)
+written t a b (x ∷ ks) c zero k n there name =
+    let same : x ≡ k = cc in
+    let can : if_any is_id_short (id_short_of x) ≡ true = (clean_out t a b x (clean_cons t a b x ks c).0).0.can_be_written in
+    id_short_is n (sym (ap (if_any is_id_short) (ap id_short_of same ∙ name)) ∙ can)
+written t a b (x ∷ ks) c (suc i) k n there name = written t a (b ++ own_of x ∷ []) ks (clean_cons t a b x ks c).1 i k n there name
+
 -- ---- the laws
 
 -- lists are the same, for the rules and for the trees
@@ -207,14 +212,29 @@ same_lists : (p : Payload) → site.is_list p ≡ is_list_payload p
 same_lists (payload.SubmodelElementList o s t v) = refl
 same_lists p = refl
 
-pub siblings_differ : (d : Submodel) → IsValid d → SiblingsDiffer d
-siblings_differ d valid =
+all_clean : (d : Submodel) → HasNoFault (submodel d) → AllClean (is_template d.kind) None [] d.kids
+all_clean d none = record { faultless = no_second (document_faults submodel_rules (seen_of_submodel d).references d) (flat_map faults_at (sites_of d)) none }
+
+pub siblings_differ : (d : Submodel) → HasNoFault (submodel d) → SiblingsDiffer d
+siblings_differ d none =
     let t : Bool = is_template d.kind in
-    let clean : AllClean t None [] d.kids = record { faultless = no_second (document_faults submodel_rules d) (flat_map faults_at (sites_of d)) valid } in
+    let clean = all_clean d none in
     record {
       first = differ t None d.kids refl clean;
       below = λ q e there free. differ t (Some (own_of e)) (kids_of e) (same_lists (out-Element e).payload ∙ free) (clean_in_all t q d.kids e clean there);
     }
 
-pub elements_have_one_path : (d : Submodel) (q : List ℕ) (e : Element) → IsValid d → element_in_all q d.kids ≡ Some e → HasOnePath d q e
-elements_have_one_path d q e valid there = one_path d q e (siblings_differ d valid) there
+steps_keep_rule : (d : Submodel) → HasNoFault (submodel d) → PlacesKeepRule d → StepsKeepRule d
+steps_keep_rule d none places =
+    let t : Bool = is_template d.kind in
+    let clean = all_clean d none in
+    record {
+      first = written t None [] d.kids clean;
+      below = λ q e there free. written t (Some (own_of e)) [] (kids_of e) (clean_in_all t q d.kids e clean there);
+      lists = places;
+    }
+
+pub elements_have_one_path : (d : Submodel) (q : List ℕ) (e : Element) → HasNoFault (submodel d) → element_in_all q d.kids ≡ Some e → HasOneWrittenPath d q e
+elements_have_one_path d q e none there =
+    let one : HasOnePath d q e = one_path d q e (siblings_differ d none) there in
+    record { one = one; written = λ places. one.keeps (steps_keep_rule d none places) }

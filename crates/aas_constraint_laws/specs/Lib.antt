@@ -1,3 +1,5 @@
+pub mod ClassV
 pub mod Law
 pub mod OnePath
+pub mod Valid
 pub mod Values

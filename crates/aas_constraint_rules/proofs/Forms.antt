@@ -11,10 +11,10 @@ use Rattle.aas_model_names.specs.declared.value_type.ValueType.{ValueType}
 use Rattle.aas_model_names.specs.declared.value_type.ValueType.TheVariants as xs
 use Rattle.aas_lexical.specs.Numbers.{integer, integer_value, float, integer_from, integer_up_to, integer_between}
 use Rattle.aas_lexical.specs.Values.{HasForm}
-use Rattle.aas_lexical.specs.Names.{language, version, id_short, IsIdentifier, IsString}
+use Rattle.aas_lexical.specs.Names.{language, version, name, id_short, IsIdentifier, IsString}
 use Rattle.aas_lexical.specs.Media.{media_type}
 use Rattle.aas_lexical.specs.Times.{utc_date_time}
-use Rattle.aas_lexical.specs.Cut.Names.{after_language, after_version, after_id_short}
+use Rattle.aas_lexical.specs.Cut.Names.{after_language, after_version, after_name, after_id_short}
 use Rattle.aas_lexical.specs.Cut.Media.{after_media_type}
 use Rattle.aas_lexical.specs.Cut.Times.{after_utc_date_time}
 use Rattle.aas_lexical.specs.Cut.Numbers.{after_integer, after_decimal_with_exponent}
@@ -24,8 +24,8 @@ use Rattle.aas_lexical.proofs.DatesExact.{date_exact, g_year_month_exact, g_year
 use Rattle.aas_lexical.proofs.TimesExact.{time_exact, date_time_exact, utc_date_time_exact}
 use Rattle.aas_lexical.proofs.DurationsExact.{duration_exact}
 use Rattle.aas_lexical.proofs.MediaExact.{media_type_exact}
-use Rattle.aas_lexical.proofs.NamesExact.{language_exact, version_exact, id_short_exact}
-use Rattle.aas_constraint_rules.specs.Decided.{is_identifier, is_language, is_version, is_media_type, is_utc_date_time, is_path_name, is_string, is_end, is_one_of, is_float, is_from, is_up_to, is_between, bytes_have_form}
+use Rattle.aas_lexical.proofs.NamesExact.{language_exact, version_exact, name_exact, id_short_exact}
+use Rattle.aas_constraint_rules.specs.Decided.{is_identifier, is_language, is_version, is_media_type, is_utc_date_time, is_name, is_id_short, is_string, is_end, is_one_of, is_float, is_from, is_up_to, is_between, bytes_have_form}
 
 -- a cut that leaves nothing
 pub end_tells : {P : Type 0} (o : Option (List ℕ)) → (o ≡ Some []) ↔ P → Decides (is_end o) P
@@ -126,8 +126,11 @@ media_type_tells s = end_tells (after_media_type (encode_utf8_all s)) (media_typ
 pub utc_date_time_tells : (s : List ℕ) → Decides (is_utc_date_time s) (utc_date_time (encode_utf8_all s))
 utc_date_time_tells s = end_tells (after_utc_date_time (encode_utf8_all s)) (utc_date_time_exact (encode_utf8_all s))
 
-pub path_name_tells : (s : List ℕ) → Decides (is_path_name s) (id_short (encode_utf8_all s))
-path_name_tells s = end_tells (after_id_short (encode_utf8_all s)) (id_short_exact (encode_utf8_all s))
+pub name_tells : (s : List ℕ) → Decides (is_name s) (name (encode_utf8_all s))
+name_tells s = end_tells (after_name (encode_utf8_all s)) (name_exact (encode_utf8_all s))
+
+pub id_short_tells : (s : List ℕ) → Decides (is_id_short s) (id_short (encode_utf8_all s))
+id_short_tells s = end_tells (after_id_short (encode_utf8_all s)) (id_short_exact (encode_utf8_all s))
 
 pub string_tells : (s : List ℕ) → Decides (is_string s) (IsString s)
 string_tells s = (λ e. e, λ h. h)

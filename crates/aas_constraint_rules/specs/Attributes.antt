@@ -1,6 +1,5 @@
 -- What the attributes of a document or an element hold: its references, its texts, and its parts. Kept data isn't looked at.
-use Rattle.std.specs.Prelude.{ℕ, List, [], ◌∷◌, ◌++◌, map, flat_map, Option}
-use Rattle.aas_reference.specs.Rules.{levels_of}
+use Rattle.std.specs.Prelude.{ℕ, List, [], ◌∷◌, ◌++◌, flat_map, Option}
 use Rattle.aas_model.specs.declared.reference.Semantics.{Semantics}
 use Rattle.aas_model.specs.declared.parts.LangText.{LangText}
 use Rattle.aas_model.specs.declared.parts.Extension.{Extension}
@@ -66,10 +65,6 @@ payload_specific_asset_ids _ = []
 
 abbrev pub texts_of_languages : List LangText → List (List ℕ)
 texts_of_languages ls = flat_map (λ l. l.language ∷ l.text ∷ []) ls
-
--- the values of the keys of a reference and of those within it
-abbrev pub reference_texts : Reference → List (List ℕ)
-reference_texts r = flat_map (λ x. map (λ y. y.value) x.keys) (levels_of r)
 
 abbrev pub extension_texts : Extension → List (List ℕ)
 extension_texts e = e.name ∷ as_list e.value
@@ -175,6 +170,6 @@ seen_of_concept d = record {
   texts = head_texts d.head;
 }
 
--- every text of the attributes, those of the parts among them
+-- every text of the attributes, those of the parts among them, but for those of references
 abbrev pub all_texts : Seen → List (List ℕ)
-all_texts x = x.texts ++ texts_of_languages x.lang_texts ++ flat_map specific_asset_id_texts x.specific_asset_ids ++ flat_map reference_texts x.references
+all_texts x = x.texts ++ texts_of_languages x.lang_texts ++ flat_map specific_asset_id_texts x.specific_asset_ids

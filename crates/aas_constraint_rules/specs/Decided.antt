@@ -13,7 +13,7 @@ use Rattle.aas_lexical.specs.Cut.Dates.{after_date, after_g_year, after_g_year_m
 use Rattle.aas_lexical.specs.Cut.Times.{after_time, after_date_time, after_utc_date_time}
 use Rattle.aas_lexical.specs.Cut.Durations.{after_duration}
 use Rattle.aas_lexical.specs.Cut.Media.{after_media_type}
-use Rattle.aas_lexical.specs.Cut.Names.{after_language, after_version, after_id_short}
+use Rattle.aas_lexical.specs.Cut.Names.{after_language, after_version, after_name, after_id_short}
 
 -- nothing is left
 abbrev pub is_end : Option (List ℕ) → Bool
@@ -102,9 +102,13 @@ is_media_type s = is_end (after_media_type (encode_utf8_all s))
 abbrev pub is_utc_date_time : List ℕ → Bool
 is_utc_date_time s = is_end (after_utc_date_time (encode_utf8_all s))
 
--- a name that a path can have: AASd-002, and at most 128 characters
-abbrev pub is_path_name : List ℕ → Bool
-is_path_name s = is_end (after_id_short (encode_utf8_all s))
+-- a name: AASd-002
+abbrev pub is_name : List ℕ → Bool
+is_name s = is_end (after_name (encode_utf8_all s))
+
+-- an idShort: a name of at most 128 characters
+abbrev pub is_id_short : List ℕ → Bool
+is_id_short s = is_end (after_id_short (encode_utf8_all s))
 
 -- only the characters that XML allows
 abbrev pub is_string : List ℕ → Bool

@@ -1,9 +1,10 @@
 -- The lexical rules, which have number 0: each text of an attribute is of its form. The lengths of identifiers and idShorts are this profile's own rule.
 use Rattle.std.specs.Prelude.{ℕ, Bool, true, not, ◌&&◌, nat_le, ◌==◌, List, length, unwrap_or}
 use Rattle.std.specs.List.{list_all}
+use Rattle.aas_lexical.specs.Names.{most_name_characters}
 use Rattle.aas_constraint_rules.specs.Decided.{has_form, is_identifier, is_language, is_version, is_media_type, is_utc_date_time}
 use Rattle.aas_model_names.specs.declared.value_type.ValueType.TheVariants as value_type
-use Rattle.aas_reference.specs.Rules.{levels_of}
+use Rattle.aas_reference.specs.Rules.{if_any, levels_of}
 use Rattle.aas_model.specs.declared.parts.Extension.{Extension}
 use Rattle.aas_model.specs.declared.parts.Qualifier.{Qualifier}
 use Rattle.aas_model.specs.declared.parts.SpecificAssetId.{SpecificAssetId}
@@ -15,7 +16,6 @@ use Rattle.aas_model.specs.declared.common.Head.{Head}
 use Rattle.aas_model.specs.declared.payload.Payload.{Payload}
 use Rattle.aas_model.specs.declared.payload.Payload.TheVariants as p
 use Rattle.aas_constraint_rules.specs.Attributes.{Seen}
-use Rattle.aas_constraint_rules.specs.Texts.{if_any}
 
 abbrev pub is_there : List ℕ → Bool
 is_there s = not (length s == 0)
@@ -45,16 +45,15 @@ administration_has_form a =
 abbrev pub resource_has_form : Resource → Bool
 resource_has_form r = if_any is_media_type r.content_type
 
--- ---- of any document or element
+-- ---- of any document or element, but for its references
 
 abbrev pub seen_has_form : Seen → Bool
 seen_has_form x =
-    if_any (λ s. nat_le (length s) 128) x.id_short
+    if_any (λ s. nat_le (length s) most_name_characters) x.id_short
     && list_all extension_has_form x.extensions
     && list_all qualifier_has_form x.qualifiers
     && list_all specific_asset_id_has_form x.specific_asset_ids
     && list_all (λ l. is_language l.language) x.lang_texts
-    && list_all reference_has_form x.references
 
 -- ---- of a kind's own members
 

@@ -3,5 +3,6 @@ pub mod Decided
 pub mod Faults
 pub mod Lexical
 pub mod Rules
+pub mod Sentences
 pub mod Sites
 pub mod Texts

@@ -2,9 +2,7 @@
 -- The wording is this profile's own where the standard leaves it open (014, 116, 128, 129).
 use Rattle.std.specs.Prelude.{ℕ, Bool, true, false, not, ◌&&◌, ◌||◌, List, [], ◌∷◌, ◌++◌, bytes_eq, map, filter_map, Option, Some, None, is_some, is_none}
 use Rattle.std.specs.List.{list_all, list_any}
-use Rattle.std.specs.Char.{is_ascii_alphabetic}
-use Rattle.aas_lexical.specs.Names.{is_name_byte}
-use Rattle.aas_constraint_rules.specs.Decided.{has_form, is_string}
+use Rattle.aas_constraint_rules.specs.Decided.{has_form, is_name, is_string}
 use Rattle.aas_model_names.specs.ElementNameNames as element_name
 use Rattle.aas_model_names.specs.KindNames as kind
 use Rattle.aas_model_names.specs.ValueTypeNames as value_type_name
@@ -17,9 +15,7 @@ use Rattle.aas_model_names.specs.declared.kind.Kind.TheVariants as k
 use Rattle.aas_model_names.specs.declared.qualifier_kind.QualifierKind.{QualifierKind}
 use Rattle.aas_model_names.specs.declared.qualifier_kind.QualifierKind.TheVariants as qualifier_kind
 use Rattle.aas_model_names.specs.declared.value_type.ValueType.{ValueType}
-use Rattle.aas_json_table.specs.Table.{data_elements}
-use Rattle.aas_json_table.specs.Names.{has}
-use Rattle.aas_reference.specs.Rules as reference
+use Rattle.aas_reference.specs.Rules.{Rule, row, if_any, is_external, levels_of}
 use Rattle.aas_reference.specs.Same.{same}
 use Rattle.aas_json_spelling.specs.Lists.{is_any}
 use Rattle.aas_model.specs.Payload.{kind_of}
@@ -29,9 +25,10 @@ use Rattle.aas_model.specs.declared.reference.Reference.{Reference, out-Referenc
 use Rattle.aas_model.specs.declared.payload.Payload.{Payload}
 use Rattle.aas_model.specs.declared.payload.Payload.TheVariants as p
 use Rattle.aas_constraint_rules.specs.Sites.{Own, Site, stands_in_list}
-use Rattle.aas_constraint_rules.specs.Attributes.{Seen, seen_of, all_texts}
-use Rattle.aas_constraint_rules.specs.Texts.{if_any, is_among, all_differ}
-use Rattle.aas_constraint_rules.specs.Lexical.{seen_has_form, payload_has_form}
+use Rattle.aas_constraint_rules.specs.Attributes.{Seen, seen_of, references_of, all_texts}
+use Rattle.aas_constraint_rules.specs.Texts.{is_among, all_differ}
+use Rattle.aas_constraint_rules.specs.Lexical.{seen_has_form, payload_has_form, reference_has_form}
+use Rattle.aas_constraint_rules.specs.Sentences.{Sentence, about, about_references, holds_of, rules_on_references}
 
 -- ---- words
 
@@ -75,10 +72,6 @@ is_template_qualifier q = if_template q.kind
 -- ---- sentences about any document or element
 
 -- 002: the idShort is an ASCII letter followed by ASCII letters, digits and _
-abbrev pub is_name : List ℕ → Bool
-is_name [] = false
-is_name (c ∷ cs) = is_ascii_alphabetic c && list_all is_name_byte cs
-
 abbrev pub id_short_is_name : Seen → Bool
 id_short_is_name x = if_any is_name x.id_short
 
@@ -109,17 +102,16 @@ semantics_have_main x =
     && list_all (λ a. has_main_semantics a.semantics) x.extensions
     && list_all (λ a. has_main_semantics a.semantics) x.specific_asset_ids
 
--- 121 to 128: each reference of its attributes, and each within one, keeps the sentence
-abbrev pub references_keep : reference.Rule → Seen → Bool
-references_keep rule x = list_all (reference.keeps rule) x.references
-
--- 130: every text of its attributes has only the characters that XML allows
+-- 130: every text of its attributes has only the characters that XML allows, and so has the value of each key of its references
 abbrev pub texts_are_strings : Seen → Bool
 texts_are_strings x = list_all is_string (all_texts x)
 
+abbrev pub reference_is_string : Reference → Bool
+reference_is_string r = list_all (λ x. list_all (λ k. is_string k.value) x.keys) (levels_of r)
+
 -- 133: each externalSubjectId is an ExternalReference
 abbrev pub subjects_are_external : Seen → Bool
-subjects_are_external x = list_all (λ a. if_any (λ r. reference.is_external (out-Reference r).ref_type) a.external_subject_id) x.specific_asset_ids
+subjects_are_external x = list_all (λ a. if_any (λ r. is_external (out-Reference r).ref_type) a.external_subject_id) x.specific_asset_ids
 
 -- ---- sentences about an element alone
 
@@ -167,7 +159,7 @@ has_list_semantics x = agree (of_parent list_semantics x.above) (semantics_of x.
 -- typeValueListElement admits a kind: its own name, SubmodelElement, DataElement or EventElement for their kinds, RelationshipElement also for the annotated one
 abbrev pub type_admits : ElementName → Kind → Bool
 type_admits e.SubmodelElement c = true
-type_admits e.DataElement c = has data_elements (kind.name_of c)
+type_admits e.DataElement c = kind.is_data_element c
 type_admits e.EventElement k.BasicEventElement = true
 type_admits e.RelationshipElement k.AnnotatedRelationshipElement = true
 type_admits t c = bytes_eq (element_name.name_of t) (kind.name_of c)
@@ -232,44 +224,31 @@ variable_is_new x = not (stands_in_operation x.above) || not (is_repeat x.before
 -- ---- the table
 
 -- a sentence is local, about the element alone, or placed, about the place where it stands
-pub data Sentence : Type 0 where
-  local : (Own → Bool) → Sentence
-  placed : (Site → Bool) → Sentence
+pub data ElementSentence : Type 0 where
+  local : Sentence Own → ElementSentence
+  placed : (Site → Bool) → ElementSentence
 
-abbrev pub holds : Sentence → Site → Bool
-holds (local test) x = test x.own
+abbrev pub holds : ElementSentence → Site → Bool
+holds (local s) x = holds_of (references_of x.own) x.own s
 holds (placed test) x = test x
 
 -- what is wanted of the element alone
-abbrev pub holds_locally : Sentence → Own → Bool
-holds_locally (local test) o = test o
+abbrev pub holds_locally : ElementSentence → Own → Bool
+holds_locally (local s) o = holds_of (references_of o) o s
 holds_locally (placed test) o = true
 
--- a row: a number and its sentence
-pub record Rule : Type 0 where
-  pub number : ℕ
-  pub sentence : Sentence
-
-abbrev pub row : ℕ → Sentence → Rule
-row n s = record { number = n; sentence = s }
-
 -- a sentence about what is seen of the element
-abbrev pub seen : (Seen → Bool) → Sentence
-seen test = local (λ o. test (seen_of o))
+abbrev pub seen : (Seen → Bool) → ElementSentence
+seen test = local (about (λ o. test (seen_of o)))
 
--- the table is cut where the code is cut
-abbrev pub rules_to_21 : List Rule
-rules_to_21 =
-    row 0 (local element_has_form)
+abbrev pub rules : List (Rule ElementSentence)
+rules =
+    row 0 (local (record { itself = element_has_form; each_reference = reference_has_form }))
     ∷ row 2 (seen id_short_is_name)
-    ∷ row 14 (local (λ o. is_managed o.payload))
+    ∷ row 14 (local (about (λ o. is_managed o.payload)))
     ∷ row 20 (seen qualifiers_have_form)
     ∷ row 21 (seen qualifiers_differ)
-    ∷ []
-
-abbrev pub rules_to_120 : List Rule
-rules_to_120 =
-    row 22 (placed name_is_new)
+    ∷ row 22 (placed name_is_new)
     ∷ row 77 (seen extensions_differ)
     ∷ row 107 (placed has_list_semantics)
     ∷ row 108 (placed has_list_kind)
@@ -278,19 +257,9 @@ rules_to_120 =
     ∷ row 117 (placed is_named)
     ∷ row 118 (seen semantics_have_main)
     ∷ row 120 (placed is_unnamed_in_list)
-    ∷ []
-
--- 121 to 128
-abbrev pub rules_of_references : List Rule
-rules_of_references = map (λ r. row r.number (seen (references_keep r))) reference.reference_rules
-
-abbrev pub rules_to_134 : List Rule
-rules_to_134 =
-    row 129 (placed is_template_or_none)
-    ∷ row 130 (seen texts_are_strings)
+    ∷ rules_on_references (λ test. local (about_references test))
+    ++ row 129 (placed is_template_or_none)
+    ∷ row 130 (local (record { itself = λ o. texts_are_strings (seen_of o); each_reference = reference_is_string }))
     ∷ row 133 (seen subjects_are_external)
     ∷ row 134 (placed variable_is_new)
     ∷ []
-
-abbrev pub rules : List Rule
-rules = rules_to_21 ++ rules_to_120 ++ rules_of_references ++ rules_to_134

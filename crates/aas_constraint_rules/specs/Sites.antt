@@ -1,6 +1,6 @@
 -- The places of a tree in preorder, each with what a constraint may look at from there. The children of an Operation are its input, output and inoutput variables in this order.
 use Rattle.std.specs.Prelude.{ℕ, Bool, true, false, List, [], ◌∷◌, ◌++◌, map, length, Option, Some, None, if◌then◌else◌}
-use Rattle.aas_constraint_rules.specs.Decided.{is_path_name}
+use Rattle.aas_constraint_rules.specs.Decided.{is_id_short}
 use Rattle.aas_model.specs.declared.common.Common.{Common}
 use Rattle.aas_model.specs.declared.element.Element.{Element, fold-Element}
 use Rattle.aas_model.specs.declared.element.Element.TheOpen.{Element-F}
@@ -34,7 +34,7 @@ stands_in_list (Some o) = is_list o.payload
 
 abbrev pub named_or : Option (List ℕ) → ℕ → PathStep
 named_or None n = Place n
-named_or (Some s) n = if is_path_name s then Name s else Place n
+named_or (Some s) n = if is_id_short s then Name s else Place n
 
 -- the step to a child that has n earlier siblings: its idShort where a path can name it, else its place. This profile's own rule.
 abbrev pub step_to : Option Own → ℕ → Own → PathStep

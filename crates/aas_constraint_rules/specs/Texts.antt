@@ -2,11 +2,6 @@
 use Rattle.std.specs.Prelude.{ℕ, Bool, true, not, ◌&&◌, List, [], ◌∷◌, ◌++◌, bytes_eq, Option, Some, None}
 use Rattle.std.specs.List.{list_any}
 
--- a test of what is there, if anything is
-abbrev pub if_any : {X : Type 0} → (X → Bool) → Option X → Bool
-if_any test None = true
-if_any test (Some x) = test x
-
 -- what is there, as a list
 abbrev pub as_list : {X : Type 0} → Option X → List X
 as_list None = []

@@ -5,7 +5,7 @@ ghost use Rattle.aas_lexical.specs.Names as form;
 ghost use Rattle.aas_lexical.specs.Media.{media_type};
 ghost use Rattle.aas_lexical.specs.Times.{utc_date_time};
 ghost use Rattle.aas_lexical.specs.Values.{HasForm};
-ghost use Rattle.aas_constraint_rules.specs.Decided.{has_form, is_identifier, is_language, is_media_type, is_path_name, is_string, is_utc_date_time, is_version};
+ghost use Rattle.aas_constraint_rules.specs.Decided.{has_form, is_id_short, is_identifier, is_language, is_media_type, is_name, is_string, is_utc_date_time, is_version};
 
 /// The test of values tells which texts have the form of a value type.
 pub fn forms_are_told()
@@ -37,9 +37,14 @@ pub fn utc_date_times_are_told()
     ensures { (s : List ℕ) → IsTrue (is_utc_date_time s) ↔ utc_date_time (encode_utf8_all s) }
 {}
 
-/// The test of names that a path can have tells them.
+/// The test of names tells them.
 pub fn names_are_told()
-    ensures { (s : List ℕ) → IsTrue (is_path_name s) ↔ form.id_short (encode_utf8_all s) }
+    ensures { (s : List ℕ) → IsTrue (is_name s) ↔ form.name (encode_utf8_all s) }
+{}
+
+/// The test of idShorts that a path can have tells them.
+pub fn id_shorts_are_told()
+    ensures { (s : List ℕ) → IsTrue (is_id_short s) ↔ form.id_short (encode_utf8_all s) }
 {}
 
 /// The test of characters tells the texts that XML allows.

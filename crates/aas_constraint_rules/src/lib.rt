@@ -9,6 +9,7 @@
 mod laws;
 
 pub use laws::{
-    forms_are_told, identifiers_are_told, languages_are_told, media_types_are_told, names_are_told,
-    strings_are_told, utc_date_times_are_told, versions_are_told,
+    forms_are_told, id_shorts_are_told, identifiers_are_told, languages_are_told,
+    media_types_are_told, names_are_told, strings_are_told, utc_date_times_are_told,
+    versions_are_told,
 };

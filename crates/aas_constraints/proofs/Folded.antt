@@ -1,5 +1,5 @@
 -- Texts that are equal but for the case of ASCII letters, by bytes and by characters.
-use Rattle.std.proofs.Common.{◌≡◌, ◌↔◌, ◌<◌, nat_lt, ℕ, suc, List, [], ◌∷◌, map, Bool, true, IsTrue, codes, bytes_eq, refl, sym, ap, ◌∙◌, subst, arith}
+use Rattle.std.proofs.Common.{◌≡◌, ◌↔◌, ◌<◌, nat_lt, ℕ, suc, List, [], ◌∷◌, map, Bool, true, IsTrue, codes, refl, sym, ap, ◌∙◌, subst, arith}
 use Rattle.std.specs.Char.{to_ascii_lowercase}
 use Rattle.std.specs.List.{list_all}
 use Rattle.std.specs.Str.{chars, encode_utf8_all, IsAscii}
@@ -9,7 +9,7 @@ use Rattle.std.proofs.lemmas.Slice.Eq.{bytes_eq-Decides}
 use Rattle.std.proofs.lemmas.Str.{chars-IsAscii, encodes-IsAscii}
 use Rattle.std.proofs.lemmas.Str.Ascii.{IsAscii-nil, IsAscii-cons}
 use Rattle.aas_constraint_rules.specs.Faults.{is_global_name}
-use Rattle.aas_json_spelling.proofs.Rows.{and_left, and_right}
+use Rattle.aas_lemmas.proofs.Truth.{and_left, and_right}
 
 lower_ascii : (c : ℕ) → to_ascii_lowercase c < 128 → c < 128
 lower_ascii c h = grind (arith, nat_tests)

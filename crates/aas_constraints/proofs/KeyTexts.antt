@@ -1,5 +1,5 @@
 -- What is wanted of the keys of a reference and of those within it, level by level.
-use Rattle.std.proofs.Common.{◌≡◌, ℕ, ◌&&◌, not, cond, List, [], ◌∷◌, ◌++◌, map, flat_map, Bool, true, false, Option, Some, None, option_map, unwrap_or, refl, sym, ap, ◌∙◌}
+use Rattle.std.proofs.Common.{◌≡◌, ◌&&◌, List, [], ◌∷◌, Bool, true, false, Option, Some, None, option_map, unwrap_or, refl, sym, ap, ◌∙◌}
 use Rattle.std.specs.List.{list_all}
 use Rattle.aas_model_names.specs.declared.reference_type.ReferenceType.{ReferenceType}
 use Rattle.aas_model.specs.declared.reference.Key.{Key}
@@ -9,10 +9,8 @@ use Rattle.aas_reference.specs.Rules.{Level, levels_of}
 use Rattle.aas_reference.specs.Faults.{level_of}
 use Rattle.aas_reference.proofs.Levels.{made, made_out}
 use Rattle.aas_constraint_rules.specs.Decided.{is_identifier, is_string}
-use Rattle.aas_constraint_rules.specs.Attributes.{reference_texts}
 use Rattle.aas_constraint_rules.specs.Lexical.{reference_has_form}
-use Rattle.aas_constraints.specs.References.{reference_is_string}
-use Rattle.aas_constraints.proofs.Lists.{all_flat}
+use Rattle.aas_constraint_rules.specs.Rules.{reference_is_string}
 
 levels_at : (t : ReferenceType) (ks : List Key) (o : Option Reference) → levels_of (made t ks o) ≡ record { ref_type = t; keys = ks } ∷ unwrap_or (option_map levels_of o) []
 levels_at t ks None = fold-roll-Reference (List Level) (λ x. record { ref_type = x.ref_type; keys = x.keys } ∷ unwrap_or x.referred []) (record { ref_type = t; keys = ks; referred = None })
@@ -48,14 +46,3 @@ string_outer r e = outer (λ k. is_string k.value) r e
 
 pub string_inner : (r s : Reference) → (out-Reference r).referred ≡ Some s → reference_is_string r ≡ (list_all (λ k. is_string k.value) (out-Reference r).keys && reference_is_string s)
 string_inner r s e = inner (λ k. is_string k.value) r s e
-
-by_maps : (ks : List Key) → list_all is_string (map (λ k. k.value) ks) ≡ list_all (λ k. is_string k.value) ks
-by_maps [] = refl
-by_maps (k ∷ ks) = ap (λ b. is_string k.value && b) (by_maps ks)
-
-by_levels : (ls : List Level) → list_all (λ x. list_all is_string (map (λ k. k.value) x.keys)) ls ≡ list_all (λ x. list_all (λ k. is_string k.value) x.keys) ls
-by_levels [] = refl
-by_levels (l ∷ ls) = ap (λ b. b && list_all (λ x. list_all is_string (map (λ k. k.value) x.keys)) ls) (by_maps l.keys) ∙ ap (λ b. list_all (λ k. is_string k.value) l.keys && b) (by_levels ls)
-
-pub string_by_keys : (r : Reference) → list_all is_string (reference_texts r) ≡ reference_is_string r
-string_by_keys r = all_flat is_string (λ x. map (λ y. y.value) x.keys) (levels_of r) ∙ by_levels (levels_of r)

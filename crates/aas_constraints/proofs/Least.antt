@@ -1,8 +1,8 @@
 -- The least number that references break, in several lists.
-use Rattle.std.proofs.Common.{◌≡◌, ℕ, ◌+◌, ◌<◌, ◌≤◌, List, [], ◌∷◌, ◌++◌, length, map, flat_map, min, take, drop, get_or, Option, Some, None, refl, sym, ap, ◌∙◌, length-drop, arith}
+use Rattle.std.proofs.Common.{◌≡◌, ℕ, ◌+◌, ◌<◌, ◌≤◌, List, [], ◌∷◌, ◌++◌, length, flat_map, drop, get_or, Option, Some, None, refl, sym, ap, ◌∙◌, length-drop, arith}
 use Rattle.std.proofs.lemmas.List.{nil_from_length}
 use Rattle.aas_model.specs.declared.reference.Reference.{Reference}
-use Rattle.aas_reference.specs.Faults.{least, least_of}
+use Rattle.aas_reference.specs.Faults.{least}
 use Rattle.aas_constraints.specs.References.{reference_fault, references_fault}
 use Rattle.aas_constraints.proofs.Lists.{left}
 

@@ -1,13 +1,11 @@
 -- Lists, item by item.
-use Rattle.std.proofs.Common.{◌≤◌, length-drop, slice_get, ◌≡◌, ℕ, suc, zero, ◌+◌, ◌<◌, List, [], ◌∷◌, ◌++◌, length, take, drop, get_or, map, filter_map, flat_map, Option, Some, None, option_map, ◌&&◌, Bool, true, false, append_assoc, refl, sym, ap, ◌∙◌, arith}
+use Rattle.std.proofs.Common.{◌≤◌, length-drop, ◌≡◌, ℕ, suc, zero, ◌+◌, ◌<◌, List, [], ◌∷◌, ◌++◌, length, take, drop, get_or, map, filter_map, flat_map, Option, Some, None, option_map, ◌&&◌, Bool, true, false, append_assoc, refl, sym, ap, ◌∙◌, arith}
 use Rattle.std.specs.List.{cons_option, list_all}
 use Rattle.std.proofs.Math.Seq.{drop-cons}
 use Rattle.std.proofs.Math.Numerals.{add-one}
-use Rattle.aas_constraint_rules.specs.Faults.{first}
-use Rattle.std.specs.Char.{is_ascii_alphabetic}
+use Rattle.aas_reference.specs.Rules.{first}
 use Rattle.std.proofs.lemmas.List.{nil_from_length}
-use Rattle.aas_lexical.specs.Names.{is_name_byte}
-use Rattle.aas_constraint_rules.specs.Rules.{first_some, is_name}
+use Rattle.aas_constraint_rules.specs.Rules.{first_some}
 use Rattle.aas_constraints.specs.Walk.{or_next}
 
 pub first-append : {X : Type 0} (xs ys : List X) → first (xs ++ ys) ≡ or_next (first xs) (first ys)
@@ -78,10 +76,6 @@ all_append test (x ∷ xs) ys = by_test (test x) (all_append test xs ys)
     by_test true e = e
     by_test false e = refl
 
-pub all_flat : {X Y : Type 0} (test : Y → Bool) (f : X → List Y) (xs : List X) → list_all test (flat_map f xs) ≡ list_all (λ x. list_all test (f x)) xs
-all_flat test f [] = refl
-all_flat test f (x ∷ xs) = all_append test (f x) (flat_map f xs) ∙ ap (λ b. list_all test (f x) && b) (all_flat test f xs)
-
 pub all_flat_append : {X Y : Type 0} (test : Y → Bool) (f : X → List Y) (xs ys : List X) → list_all test (flat_map f (xs ++ ys)) ≡ (list_all test (flat_map f xs) && list_all test (flat_map f ys))
 all_flat_append test f xs ys = ap (list_all test) (flat_append f xs ys) ∙ all_append test (flat_map f xs) (flat_map f ys)
 
@@ -96,13 +90,3 @@ all_left test f xs i x all lt at h = h ∙ ap (all_of test f) (left xs i x lt at
 
 pub none_failed : {X Y : Type 0} (test : Y → Bool) (f : X → List Y) (xs : List X) (i : ℕ) (all : Bool) → length xs ≤ i → all ≡ list_all test (flat_map f (drop i xs)) → true ≡ all
 none_failed test f xs i all le h = let none_left : drop i xs ≡ [] = nil_from_length (drop i xs) (omega (arith, length-drop i xs)) in sym (h ∙ ap (all_of test f) none_left)
-
--- ---- names
-
-pub name_some : (cs : List ℕ) (c : ℕ) → slice_get cs 0 ≡ Some c → is_name cs ≡ (is_ascii_alphabetic c && list_all is_name_byte (drop 1 cs))
-name_some [] c e = cc
-name_some (d ∷ cs) c e = let same : d ≡ c = cc in ap (λ x. is_ascii_alphabetic x && list_all is_name_byte cs) same
-
-pub name_none : (cs : List ℕ) → slice_get cs 0 ≡ None → is_name cs ≡ false
-name_none [] e = refl
-name_none (d ∷ cs) e = cc

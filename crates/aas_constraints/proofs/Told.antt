@@ -1,5 +1,5 @@
 -- The answers of the lexical calls are those of the tests.
-use Rattle.std.proofs.Common.{◌≡◌, ◌↔◌, ◌==◌, not, ℕ, suc, arith, List, [], ◌∷◌, length, Bool, IsTrue, subst, refl, sym, ap, ◌∙◌}
+use Rattle.std.proofs.Common.{◌≡◌, ◌↔◌, ◌==◌, not, ℕ, suc, arith, List, [], ◌∷◌, length, Bool, IsTrue, subst, sym, ap, ◌∙◌}
 use Rattle.std.proofs.lemmas.Str.{chars-nil}
 use Rattle.std.specs.Str.{chars, encode_utf8_all}
 use Rattle.std.proofs.lemmas.Bool.Decides.{same_from_decides, nat_tests}

@@ -1,5 +1,5 @@
 -- The first fault, one level and one child at a time.
-use Rattle.std.proofs.Common.{◌≡◌, ℕ, ◌+◌, ◌<◌, ◌≤◌, length-drop, List, [], ◌∷◌, ◌++◌, length, take, drop, get_or, map, filter, not, flat_map, Option, Some, None, Bool, true, option_map, refl, sym, ap, ap₂, ◌∙◌, arith}
+use Rattle.std.proofs.Common.{◌≡◌, ℕ, ◌+◌, ◌<◌, ◌≤◌, length-drop, List, [], ◌∷◌, ◌++◌, length, take, drop, get_or, map, flat_map, Option, Some, None, Bool, true, option_map, refl, sym, ap, ap₂, ◌∙◌, arith}
 use Rattle.std.proofs.lemmas.List.{length-take, nil_from_length}
 use Rattle.aas_model.specs.declared.element.Element.{Element, out-Element, fold_out-Element}
 use Rattle.aas_model.specs.declared.path.Fault.{Fault}
@@ -7,7 +7,10 @@ use Rattle.aas_model.specs.declared.path.PathStep.{PathStep}
 use Rattle.aas_model.specs.declared.reference.Reference.{Reference}
 use Rattle.aas_constraint_rules.specs.Sites.{Own, Site, under, step_to, Tree, node, root, sites, sites_among, trees, tree_over, tree_of}
 use Rattle.aas_model.specs.declared.documents.Submodel.{Submodel}
-use Rattle.aas_constraint_rules.specs.Faults.{DocumentRule, document_faults, submodel_rules, is_template, sites_of, faults, fault, broken, faults_at, element_faults, first}
+use Rattle.aas_reference.specs.Rules.{Rule, failing, first}
+use Rattle.aas_constraint_rules.specs.Attributes.{seen_of_submodel}
+use Rattle.aas_constraint_rules.specs.Faults.{document_faults, submodel_rules, is_template, sites_of, faults, fault, broken, faults_at, element_faults}
+use Rattle.aas_constraint_rules.specs.Sentences.{Sentence, holds_of}
 use Rattle.aas_constraints.specs.References.{least_broken}
 use Rattle.aas_constraint_rules.specs.Rules.{semantics_of, first_some}
 use Rattle.aas_constraints.specs.Walk.{or_next, own_of, first_broken, found_in, found_among}
@@ -97,28 +100,22 @@ alone e = found_among_cons true None [] e [] ∙ ap (or_next (option_map (under_
 
 -- ---- documents
 
-pub document_first : {D : Type 0} (rs : List (DocumentRule D)) (d : D) → first (document_faults rs d) ≡ option_map (fault []) (least_broken rs d)
-document_first rs d =
-    let failed = filter (λ (r : DocumentRule _). not (r.sentence d)) rs in
-    first-map (λ r. fault [] r.number) failed ∙ sym (by_case (first failed)) ∙ ap (option_map (fault [])) (sym (first-map (λ r. r.number) failed))
-  where
-    by_case : {R : Type 0} (o : Option (DocumentRule R)) → option_map (fault []) (option_map (λ r. r.number) o) ≡ option_map (λ r. fault [] r.number) o
-    by_case None = refl
-    by_case (Some r) = refl
+pub document_first : {D : Type 0} (rs : List (Rule (Sentence D))) (references : List Reference) (d : D) → first (document_faults rs references d) ≡ option_map (fault []) (least_broken rs references d)
+document_first rs references d = first-map (fault []) (failing (holds_of references d) rs)
 
 -- nothing is broken at the document, or the least number
-pub document_none : {D : Type 0} (rs : List (DocumentRule D)) (d : D) → least_broken rs d ≡ None → None ≡ first (document_faults rs d)
-document_none rs d e = sym (document_first rs d ∙ ap (option_map (fault [])) e)
+pub document_none : {D : Type 0} (rs : List (Rule (Sentence D))) (references : List Reference) (d : D) → least_broken rs references d ≡ None → None ≡ first (document_faults rs references d)
+document_none rs references d e = sym (document_first rs references d ∙ ap (option_map (fault [])) e)
 
-pub document_some : {D : Type 0} (rs : List (DocumentRule D)) (d : D) (n : ℕ) → least_broken rs d ≡ Some n → Some (fault [] n) ≡ first (document_faults rs d)
-document_some rs d n e = sym (document_first rs d ∙ ap (option_map (fault [])) e)
+pub document_some : {D : Type 0} (rs : List (Rule (Sentence D))) (references : List Reference) (d : D) (n : ℕ) → least_broken rs references d ≡ Some n → Some (fault [] n) ≡ first (document_faults rs references d)
+document_some rs references d n e = sym (document_first rs references d ∙ ap (option_map (fault [])) e)
 
-submodel_first : (d : Submodel) → first (faults d) ≡ or_next (option_map (fault []) (least_broken submodel_rules d)) (found_among (is_template d.kind) None [] d.kids)
+submodel_first : (d : Submodel) → first (faults d) ≡ or_next (option_map (fault []) (least_broken submodel_rules (seen_of_submodel d).references d)) (found_among (is_template d.kind) None [] d.kids)
 unfolding found_among
-submodel_first d = first-append (document_faults submodel_rules d) (flat_map faults_at (sites_of d)) ∙ ap (λ o. or_next o (first (flat_map faults_at (sites_of d)))) (document_first submodel_rules d)
+submodel_first d = first-append (document_faults submodel_rules (seen_of_submodel d).references d) (flat_map faults_at (sites_of d)) ∙ ap (λ o. or_next o (first (flat_map faults_at (sites_of d)))) (document_first submodel_rules (seen_of_submodel d).references d)
 
-pub submodel_some : (d : Submodel) (n : ℕ) → least_broken submodel_rules d ≡ Some n → Some (fault [] n) ≡ first (faults d)
+pub submodel_some : (d : Submodel) (n : ℕ) → least_broken submodel_rules (seen_of_submodel d).references d ≡ Some n → Some (fault [] n) ≡ first (faults d)
 submodel_some d n e = sym (submodel_first d ∙ ap (λ o. or_next (option_map (fault []) o) (found_among (is_template d.kind) None [] d.kids)) e)
 
-pub submodel_below : (d : Submodel) → least_broken submodel_rules d ≡ None → found_among (is_template d.kind) None [] d.kids ≡ first (faults d)
+pub submodel_below : (d : Submodel) → least_broken submodel_rules (seen_of_submodel d).references d ≡ None → found_among (is_template d.kind) None [] d.kids ≡ first (faults d)
 submodel_below d e = sym (submodel_first d ∙ ap (λ o. or_next (option_map (fault []) o) (found_among (is_template d.kind) None [] d.kids)) e)

@@ -6,7 +6,8 @@ use Rattle.aas_model.specs.declared.path.Fault.{Fault}
 use Rattle.aas_model.specs.declared.reference.Reference.{Reference}
 use Rattle.aas_constraint_rules.specs.Sites.{Own, Site, sites, sites_among, tree_of, trees}
 use Rattle.aas_constraint_rules.specs.Rules.{semantics_of, first_some, is_repeat}
-use Rattle.aas_constraint_rules.specs.Faults.{broken, faults_at, first}
+use Rattle.aas_reference.specs.Rules.{first}
+use Rattle.aas_constraint_rules.specs.Faults.{broken, faults_at}
 
 -- what is there, or else the next
 abbrev pub or_next : {X : Type 0} → Option X → Option X → Option X

@@ -1,7 +1,8 @@
 ghost use Rattle.std.specs.Prelude.{◌≡◌, [], IfOk, List};
 ghost use Rattle.std.specs.Option.{option_copied};
+ghost use Rattle.aas_reference.specs.Rules.{first};
 ghost use Rattle.aas_constraint_rules.specs.Sites.{Own};
-ghost use Rattle.aas_constraint_rules.specs.Faults.{concept_faults, element_faults, fault, faults, first, shell_faults};
+ghost use Rattle.aas_constraint_rules.specs.Faults.{concept_faults, element_faults, fault, faults, shell_faults};
 ghost use Rattle.aas_constraints.specs.Walk.{own_of, above_of, Knows, found_in, found_among};
 
 use crate::documents::{concept_fault, is_template, shell_fault, submodel_fault};

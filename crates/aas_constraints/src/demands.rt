@@ -1,8 +1,8 @@
-ghost use Rattle.std.specs.Prelude.{◌≡◌};
+ghost use Rattle.std.specs.Prelude.{◌≡◌, ◌&&◌};
 ghost use Rattle.std.specs.Option.{option_copied};
 ghost use Rattle.aas_constraint_rules.specs.Sites.{stands_in_list};
 ghost use Rattle.aas_constraint_rules.specs.Rules.{agree, child_is_typed, is_typed, list_is_typed, list_semantics, list_type, list_value_type, of_parent, same_type, stands_in_operation, type_admits, value_type_of};
-ghost use Rattle.aas_constraint_rules.specs.Texts.{if_any};
+ghost use Rattle.aas_reference.specs.Rules.{if_any};
 ghost use Rattle.aas_constraints.specs.Walk.{above_of};
 
 use aas_model::{Element, ElementName, Kind, Named, Payload, Reference, ValueType};
@@ -76,44 +76,20 @@ fn list_value_type(payload: &Payload) -> Option<ValueType>
     }
 }
 
-fn is_data_element(kind: Kind) -> bool
-    ensures { result ≡ type_admits ElementName.DataElement kind }
-{
-    matches!(
-        kind,
-        Kind::Property
-            | Kind::MultiLanguageProperty
-            | Kind::Range
-            | Kind::File
-            | Kind::Blob
-            | Kind::ReferenceElement
-    )
-}
-
-fn is_event_element(kind: Kind) -> bool
-    ensures { result ≡ type_admits ElementName.EventElement kind }
-{
-    matches!(kind, Kind::BasicEventElement)
-}
-
-fn is_relationship(kind: Kind) -> bool
-    ensures { result ≡ type_admits ElementName.RelationshipElement kind }
-{
-    matches!(
-        kind,
-        Kind::RelationshipElement | Kind::AnnotatedRelationshipElement
-    )
-}
-
 /// Whether a list of the type may have children of the kind.
 fn type_admits(element_type: ElementName, kind: Kind) -> bool
     ensures { result ≡ type_admits element_type kind }
 {
     match element_type {
         ElementName::SubmodelElement => true,
-        ElementName::DataElement => is_data_element(kind),
-        ElementName::EventElement => is_event_element(kind),
-        ElementName::RelationshipElement => is_relationship(kind),
+        ElementName::DataElement => kind.is_data_element(),
+        ElementName::EventElement => matches!(kind, Kind::BasicEventElement),
+        ElementName::RelationshipElement => {
+            matches!(
+                kind,
+                Kind::RelationshipElement | Kind::AnnotatedRelationshipElement
+            )
+        }
         _ => element_type.name() == kind.name(),
     }
 }
@@ -157,8 +133,8 @@ fn same_type(demanded: Option<ValueType>, value_type: ValueType) -> bool
     }
 }
 
-/// Whether the element, if a list of properties or ranges, has a value type for them. AASd-109.
-pub(crate) fn list_is_typed(payload: &Payload) -> bool
+/// Whether the element, if a list of properties or ranges, has a value type for them.
+fn list_is_typed(payload: &Payload) -> bool
     ensures { result ≡ list_is_typed payload.now }
 {
     match list_type(payload) {
@@ -167,7 +143,7 @@ pub(crate) fn list_is_typed(payload: &Payload) -> bool
     }
 }
 
-fn has_list_value_type(list: &Payload, payload: &Payload) -> bool
+fn agrees_in_value_type(list: &Payload, payload: &Payload) -> bool
     ensures { result ≡ if_any (same_type (list_value_type list.now)) (value_type_of payload.now) }
 {
     match value_type_of(payload) {
@@ -176,17 +152,25 @@ fn has_list_value_type(list: &Payload, payload: &Payload) -> bool
     }
 }
 
-/// Whether the element has the value type that its parent demands, if that is a list of properties or ranges. AASd-109.
-pub(crate) fn child_is_typed(above: Option<&Element>, payload: &Payload) -> bool
+/// Whether the element has the value type that its parent demands, if that is a list of properties or ranges.
+fn child_is_typed(above: Option<&Element>, payload: &Payload) -> bool
     ensures { result ≡ child_is_typed (above_of above.entry) payload.now }
 {
     match above {
         Some(parent) => match list_type(&parent.payload) {
             Some(element_type) => {
-                !is_typed(element_type) || has_list_value_type(&parent.payload, payload)
+                !is_typed(element_type) || agrees_in_value_type(&parent.payload, payload)
             }
             None => true,
         },
         None => true,
     }
+}
+
+/// Whether the element, if a list of properties or ranges, has a value type for them, and has the value type that its
+/// parent demands, if that is such a list. AASd-109.
+pub(crate) fn has_list_value_type(above: Option<&Element>, payload: &Payload) -> bool
+    ensures { result ≡ (list_is_typed payload.now && child_is_typed (above_of above.entry) payload.now) }
+{
+    list_is_typed(payload) && child_is_typed(above, payload)
 }

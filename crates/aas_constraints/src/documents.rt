@@ -1,13 +1,14 @@
-ghost use Rattle.std.specs.Prelude.{◌≡◌, ◌++◌, IfOk, map};
+ghost use Rattle.std.specs.Prelude.{◌≡◌, ◌&&◌, ◌++◌, IfOk};
 ghost use Rattle.std.specs.List.{list_all};
 ghost use Rattle.aas_constraint_rules.specs.Attributes.{head_texts, seen_of_concept, seen_of_shell, seen_of_submodel, texts_of_languages};
 ghost use Rattle.aas_constraint_rules.specs.Decided.{is_language, is_string};
 ghost use Rattle.aas_constraint_rules.specs.Faults.{asset_is_named, concept_rules, equals, global_ids_agree, head_is_versioned, is_global_name, is_template, revision_has_version, shell_rules, submodel_rules};
-ghost use Rattle.aas_constraint_rules.specs.Rules.{semantics_have_main};
-ghost use Rattle.aas_constraints.specs.Own.{own_concept_rules, own_shell_rules, own_submodel_rules, parts_are_strings, parts_have_form};
+ghost use Rattle.aas_constraint_rules.specs.Rules.{semantics_have_main, texts_are_strings};
+ghost use Rattle.aas_constraint_rules.specs.Lexical.{asset_has_form, head_has_form, seen_has_form};
+ghost use Rattle.aas_constraints.specs.Own.{own_fault};
 ghost use Rattle.aas_constraints.specs.References.{least_broken, references_fault};
 
-use crate::element::id_short_is_name;
+use crate::element::{first_failed, id_short_is_name};
 use crate::holders::{fault_of_list, fault_of_option};
 use crate::lexical::{
     asset_has_form, extensions_have_form, head_has_form, id_short_is_short, languages_have_form,
@@ -15,7 +16,7 @@ use crate::lexical::{
 };
 use crate::names::{extensions_differ, qualifiers_differ};
 use crate::parts::{
-    extensions_have_main, has_main_semantics, has_template_qualifier, qualifiers_have_form,
+    extensions_have_main, has_main_semantics, is_template_or_none, qualifiers_have_form,
     qualifiers_have_main, specific_asset_ids_have_main, subjects_are_external,
 };
 use crate::references::{HoldsReferences, fault_among};
@@ -72,18 +73,19 @@ pub(crate) fn is_template(kind: Option<ModellingKind>) -> bool
     }
 }
 
-fn submodel_parts_have_form(d: &Submodel) -> bool
-    ensures { result ≡ parts_have_form (seen_of_submodel d.now) }
+fn submodel_has_form(d: &Submodel) -> bool
+    ensures { result ≡ (seen_has_form (seen_of_submodel d.now) && head_has_form d.now.head) }
 {
     id_short_is_short(&d.head.id_short)
         && extensions_have_form(d.head.extensions.as_slice())
         && qualifiers_have_types(d.qualifiers.as_slice())
         && head_languages_have_form(&d.head)
+        && head_has_form(&d.head)
 }
 
 #[tactic(auto, using(crate::proofs::Lists::all_append))]
-fn submodel_parts_are_strings(d: &Submodel) -> bool
-    ensures { result ≡ parts_are_strings (seen_of_submodel d.now) }
+fn submodel_texts_are_strings(d: &Submodel) -> bool
+    ensures { result ≡ texts_are_strings (seen_of_submodel d.now) }
 {
     d.head.is_of_strings()
         && are_strings(d.qualifiers.as_slice())
@@ -99,36 +101,21 @@ fn submodel_semantics_have_main(d: &Submodel) -> bool
 }
 
 fn own_submodel_fault(alloc: Global, d: &Submodel) -> Result<Option<u16>, NoMemory>
-    ensures { IfOk result (λ n. n ≡ least_broken own_submodel_rules d.now) }
+    ensures { IfOk result (λ n. n ≡ own_fault submodel_rules d.now) }
 {
-    if !submodel_parts_have_form(d) || !head_has_form(&d.head) {
-        return Ok(Some(0));
-    }
-    if !id_short_is_name(&d.head.id_short) {
-        return Ok(Some(2));
-    }
-    if !head_is_versioned(&d.head) {
-        return Ok(Some(5));
-    }
-    if !qualifiers_have_form(d.qualifiers.as_slice()) {
-        return Ok(Some(20));
-    }
-    if !qualifiers_differ(alloc, d.qualifiers.as_slice())? {
-        return Ok(Some(21));
-    }
-    if !extensions_differ(alloc, d.head.extensions.as_slice())? {
-        return Ok(Some(77));
-    }
-    if !submodel_semantics_have_main(d) {
-        return Ok(Some(118));
-    }
-    if !is_template(d.kind) && has_template_qualifier(d.qualifiers.as_slice()) {
-        return Ok(Some(119));
-    }
-    if !submodel_parts_are_strings(d) {
-        return Ok(Some(130));
-    }
-    Ok(None)
+    let head = &d.head;
+    let qualifiers = d.qualifiers.as_slice();
+    Ok(first_failed(&[
+        (0, submodel_has_form(d)),
+        (2, id_short_is_name(&head.id_short)),
+        (5, head_is_versioned(head)),
+        (20, qualifiers_have_form(qualifiers)),
+        (21, qualifiers_differ(alloc, qualifiers)?),
+        (77, extensions_differ(alloc, head.extensions.as_slice())?),
+        (118, submodel_semantics_have_main(d)),
+        (119, is_template_or_none(is_template(d.kind), qualifiers)),
+        (130, submodel_texts_are_strings(d)),
+    ]))
 }
 
 #[tactic(auto, using(crate::proofs::Least::fault_append))]
@@ -142,7 +129,7 @@ fn submodel_references_fault(d: &Submodel) -> Option<u16>
 /// The least number that is broken at the submodel itself.
 #[tactic(auto, using(crate::proofs::Split::submodel_split))]
 pub(crate) fn submodel_fault(alloc: Global, d: &Submodel) -> Result<Option<u16>, NoMemory>
-    ensures { IfOk result (λ n. n ≡ least_broken submodel_rules d.now) }
+    ensures { IfOk result (λ n. n ≡ least_broken submodel_rules (seen_of_submodel d.now).references d.now) }
 {
     let own = own_submodel_fault(alloc, d)?;
     Ok(least(own, submodel_references_fault(d)))
@@ -181,18 +168,20 @@ fn asset_is_named(asset: &AssetInformation) -> bool
     asset.global_asset_id.is_some() || !asset.specific_asset_ids.is_empty()
 }
 
-fn shell_parts_have_form(d: &Shell) -> bool
-    ensures { result ≡ parts_have_form (seen_of_shell d.now) }
+fn shell_has_form(d: &Shell) -> bool
+    ensures { result ≡ (seen_has_form (seen_of_shell d.now) && head_has_form d.now.head && asset_has_form d.now.asset) }
 {
     id_short_is_short(&d.head.id_short)
         && extensions_have_form(d.head.extensions.as_slice())
         && specific_asset_ids_have_form(d.asset.specific_asset_ids.as_slice())
         && head_languages_have_form(&d.head)
+        && head_has_form(&d.head)
+        && asset_has_form(&d.asset)
 }
 
 #[tactic(auto, using(crate::proofs::Lists::all_append))]
-fn shell_parts_are_strings(d: &Shell) -> bool
-    ensures { result ≡ parts_are_strings (seen_of_shell d.now) }
+fn shell_texts_are_strings(d: &Shell) -> bool
+    ensures { result ≡ texts_are_strings (seen_of_shell d.now) }
 {
     d.head.is_of_strings()
         && d.asset.is_of_strings()
@@ -208,36 +197,23 @@ fn shell_semantics_have_main(d: &Shell) -> bool
 }
 
 fn own_shell_fault(alloc: Global, d: &Shell) -> Result<Option<u16>, NoMemory>
-    ensures { IfOk result (λ n. n ≡ least_broken own_shell_rules d.now) }
+    ensures { IfOk result (λ n. n ≡ own_fault shell_rules d.now) }
 {
-    if !shell_parts_have_form(d) || !head_has_form(&d.head) || !asset_has_form(&d.asset) {
-        return Ok(Some(0));
-    }
-    if !id_short_is_name(&d.head.id_short) {
-        return Ok(Some(2));
-    }
-    if !head_is_versioned(&d.head) {
-        return Ok(Some(5));
-    }
-    if !extensions_differ(alloc, d.head.extensions.as_slice())? {
-        return Ok(Some(77));
-    }
-    if !global_ids_agree(&d.asset) {
-        return Ok(Some(116));
-    }
-    if !shell_semantics_have_main(d) {
-        return Ok(Some(118));
-    }
-    if !shell_parts_are_strings(d) {
-        return Ok(Some(130));
-    }
-    if !asset_is_named(&d.asset) {
-        return Ok(Some(131));
-    }
-    if !subjects_are_external(d.asset.specific_asset_ids.as_slice()) {
-        return Ok(Some(133));
-    }
-    Ok(None)
+    let head = &d.head;
+    Ok(first_failed(&[
+        (0, shell_has_form(d)),
+        (2, id_short_is_name(&head.id_short)),
+        (5, head_is_versioned(head)),
+        (77, extensions_differ(alloc, head.extensions.as_slice())?),
+        (116, global_ids_agree(&d.asset)),
+        (118, shell_semantics_have_main(d)),
+        (130, shell_texts_are_strings(d)),
+        (131, asset_is_named(&d.asset)),
+        (
+            133,
+            subjects_are_external(d.asset.specific_asset_ids.as_slice()),
+        ),
+    ]))
 }
 
 #[tactic(auto, using(crate::proofs::Least::fault_append))]
@@ -252,7 +228,7 @@ fn shell_references_fault(d: &Shell) -> Option<u16>
 /// The least number that is broken at the shell.
 #[tactic(auto, using(crate::proofs::Split::shell_split))]
 pub(crate) fn shell_fault(alloc: Global, d: &Shell) -> Result<Option<u16>, NoMemory>
-    ensures { IfOk result (λ n. n ≡ least_broken shell_rules d.now) }
+    ensures { IfOk result (λ n. n ≡ least_broken shell_rules (seen_of_shell d.now).references d.now) }
 {
     let own = own_shell_fault(alloc, d)?;
     Ok(least(own, shell_references_fault(d)))
@@ -260,17 +236,18 @@ pub(crate) fn shell_fault(alloc: Global, d: &Shell) -> Result<Option<u16>, NoMem
 
 // ---- concept descriptions
 
-fn concept_parts_have_form(d: &Concept) -> bool
-    ensures { result ≡ parts_have_form (seen_of_concept d.now) }
+fn concept_has_form(d: &Concept) -> bool
+    ensures { result ≡ (seen_has_form (seen_of_concept d.now) && head_has_form d.now.head) }
 {
     id_short_is_short(&d.head.id_short)
         && extensions_have_form(d.head.extensions.as_slice())
         && head_languages_have_form(&d.head)
+        && head_has_form(&d.head)
 }
 
 #[tactic(auto, using(crate::proofs::Lists::all_append))]
-fn concept_parts_are_strings(d: &Concept) -> bool
-    ensures { result ≡ parts_are_strings (seen_of_concept d.now) }
+fn concept_texts_are_strings(d: &Concept) -> bool
+    ensures { result ≡ texts_are_strings (seen_of_concept d.now) }
 {
     d.head.is_of_strings() && head_languages_are_strings(&d.head)
 }
@@ -282,27 +259,17 @@ fn concept_semantics_have_main(d: &Concept) -> bool
 }
 
 fn own_concept_fault(alloc: Global, d: &Concept) -> Result<Option<u16>, NoMemory>
-    ensures { IfOk result (λ n. n ≡ least_broken own_concept_rules d.now) }
+    ensures { IfOk result (λ n. n ≡ own_fault concept_rules d.now) }
 {
-    if !concept_parts_have_form(d) || !head_has_form(&d.head) {
-        return Ok(Some(0));
-    }
-    if !id_short_is_name(&d.head.id_short) {
-        return Ok(Some(2));
-    }
-    if !head_is_versioned(&d.head) {
-        return Ok(Some(5));
-    }
-    if !extensions_differ(alloc, d.head.extensions.as_slice())? {
-        return Ok(Some(77));
-    }
-    if !concept_semantics_have_main(d) {
-        return Ok(Some(118));
-    }
-    if !concept_parts_are_strings(d) {
-        return Ok(Some(130));
-    }
-    Ok(None)
+    let head = &d.head;
+    Ok(first_failed(&[
+        (0, concept_has_form(d)),
+        (2, id_short_is_name(&head.id_short)),
+        (5, head_is_versioned(head)),
+        (77, extensions_differ(alloc, head.extensions.as_slice())?),
+        (118, concept_semantics_have_main(d)),
+        (130, concept_texts_are_strings(d)),
+    ]))
 }
 
 #[tactic(auto, using(crate::proofs::Least::fault_append))]
@@ -315,7 +282,7 @@ fn concept_references_fault(d: &Concept) -> Option<u16>
 /// The least number that is broken at the concept description.
 #[tactic(auto, using(crate::proofs::Split::concept_split))]
 pub(crate) fn concept_fault(alloc: Global, d: &Concept) -> Result<Option<u16>, NoMemory>
-    ensures { IfOk result (λ n. n ≡ least_broken concept_rules d.now) }
+    ensures { IfOk result (λ n. n ≡ least_broken concept_rules (seen_of_concept d.now).references d.now) }
 {
     let own = own_concept_fault(alloc, d)?;
     Ok(least(own, concept_references_fault(d)))

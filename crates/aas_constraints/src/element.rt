@@ -1,21 +1,17 @@
-ghost use Rattle.std.specs.Prelude.{◌≡◌, Bool, IfOk, List};
-ghost use Rattle.std.specs.Prelude.{chars, drop};
-ghost use Rattle.aas_lexical.specs.Names.{is_name_byte};
+ghost use Rattle.std.specs.Prelude.{◌≡◌, ◌||◌, not, is_some, is_none, IfOk, List};
 ghost use Rattle.std.specs.Option.{option_copied};
 ghost use Rattle.std.specs.List.{list_all};
 ghost use Rattle.aas_constraint_rules.specs.Attributes.{lang_texts_of, payload_lang_texts, payload_specific_asset_ids, references_of, seen_of, texts_of_languages};
-ghost use Rattle.aas_constraint_rules.specs.Decided.{is_string};
-ghost use Rattle.aas_constraint_rules.specs.Lexical.{payload_has_form};
-ghost use Rattle.aas_constraint_rules.specs.Rules.{is_managed, is_name, id_short_is_name, semantics_have_main};
-ghost use Rattle.aas_constraint_rules.specs.Sites.{Own};
-ghost use Rattle.aas_constraint_rules.specs.Texts.{if_any};
-ghost use Rattle.aas_constraints.specs.Own.{own_rules_to_21, own_rules_to_120, own_rules_to_134, parts_are_strings, parts_have_form};
-ghost use Rattle.aas_constraints.specs.References.{least_broken, references_fault};
+ghost use Rattle.aas_constraint_rules.specs.Decided.{is_name, is_string};
+ghost use Rattle.aas_constraint_rules.specs.Rules.{agree, element_has_form, is_managed, semantics_have_main, stands_in_operation, texts_are_strings};
+ghost use Rattle.aas_constraint_rules.specs.Sites.{Own, stands_in_list};
+ghost use Rattle.aas_reference.specs.Rules.{if_any};
+ghost use Rattle.aas_constraints.specs.Own.{first_failed, own_element_fault};
+ghost use Rattle.aas_constraints.specs.References.{references_fault};
 ghost use Rattle.aas_constraints.specs.Walk.{Knows, above_of, own_of, place};
 
 use crate::demands::{
-    agree, child_is_typed, has_list_kind, list_is_typed, list_semantics, stands_in_list,
-    stands_in_operation,
+    agree, has_list_kind, has_list_value_type, list_semantics, stands_in_list, stands_in_operation,
 };
 use crate::lexical::{
     extensions_have_form, id_short_is_short, languages_have_form, payload_has_form,
@@ -23,39 +19,23 @@ use crate::lexical::{
 };
 use crate::names::{extensions_differ, qualifiers_differ};
 use crate::parts::{
-    extensions_have_main, has_main_semantics, has_template_qualifier, qualifiers_have_form,
+    extensions_have_main, has_main_semantics, is_template_or_none, qualifiers_have_form,
     qualifiers_have_main, specific_asset_ids_have_main, subjects_are_external,
 };
 use crate::references::HoldsReferences;
 use crate::strings::{HoldsTexts, are_strings};
+use crate::texts::is_name;
 use aas_model::{
     Element, EntityType, LangText, NoMemory, Payload, Reference, SpecificAssetId, Text,
 };
 use aas_reference::least;
 use std::alloc::Global;
 
-fn is_name_byte(character: char) -> bool
-    ensures { result ≡ is_name_byte character }
+/// The number of the first test that failed.
+pub(crate) fn first_failed(tests: &[(u16, bool)]) -> Option<u16>
+    ensures { result ≡ first_failed tests.now }
 {
-    character.is_ascii_alphanumeric() || character == '_'
-}
-
-fn are_name_bytes_after_first(text: &str) -> bool
-    ensures { result ≡ list_all is_name_byte (drop 1 (chars text.now)) }
-{
-    text.chars()
-        .skip(1)
-        .all(|character| is_name_byte(character))
-}
-
-#[tactic(auto, using(crate::proofs::Lists::name_some, crate::proofs::Lists::name_none))]
-fn is_name(text: &str) -> bool
-    ensures { result ≡ is_name (chars text.now) }
-{
-    match text.chars().next() {
-        Some(first) => first.is_ascii_alphabetic() && are_name_bytes_after_first(text),
-        None => false,
-    }
+    tests.iter().find(|test| !test.1).map(|test| test.0)
 }
 
 /// Whether the idShort, if any, is an ASCII letter followed by ASCII letters, digits and `_`. AASd-002.
@@ -63,7 +43,7 @@ pub(crate) fn id_short_is_name(id_short: &Option<Text>) -> bool
     ensures { result ≡ if_any is_name id_short.now }
 {
     match id_short {
-        Some(name) => is_name(name.as_str()),
+        Some(name) => is_name(name),
         None => true,
     }
 }
@@ -110,8 +90,8 @@ fn lang_texts(payload: &Payload) -> &[LangText]
 }
 
 #[tactic(auto, using(crate::proofs::Lists::all_append))]
-fn parts_have_form(e: &Element) -> bool
-    ensures { result ≡ parts_have_form (seen_of (own_of e.now)) }
+fn element_has_form(e: &Element) -> bool
+    ensures { result ≡ element_has_form (own_of e.now) }
 {
     id_short_is_short(&e.common.id_short)
         && extensions_have_form(e.common.extensions.as_slice())
@@ -120,6 +100,7 @@ fn parts_have_form(e: &Element) -> bool
         && languages_have_form(e.common.description.as_slice())
         && languages_have_form(e.common.display_name.as_slice())
         && languages_have_form(lang_texts(&e.payload))
+        && payload_has_form(&e.payload)
 }
 
 #[tactic(auto, using(crate::proofs::Lists::all_flat_append))]
@@ -132,8 +113,8 @@ fn languages_are_strings(e: &Element) -> bool
 }
 
 #[tactic(auto, using(crate::proofs::Lists::all_append))]
-fn parts_are_strings(e: &Element) -> bool
-    ensures { result ≡ parts_are_strings (seen_of (own_of e.now)) }
+fn texts_are_strings(e: &Element) -> bool
+    ensures { result ≡ texts_are_strings (seen_of (own_of e.now)) }
 {
     e.common.is_of_strings()
         && e.payload.is_of_strings()
@@ -150,94 +131,80 @@ fn semantics_have_main(e: &Element) -> bool
         && specific_asset_ids_have_main(specific_asset_ids(&e.payload))
 }
 
-/// The least number up to 21 that is broken at the element, but for its references.
-pub(crate) fn own_fault_to_21(alloc: Global, e: &Element) -> Result<Option<u16>, NoMemory>
-    ensures { IfOk result (λ n. n ≡ least_broken own_rules_to_21 (own_of e.now)) }
+/// Whether no earlier sibling has its idShort, or the element is a variable. AASd-022.
+fn name_is_new(above: Option<&Element>, is_repeat: bool) -> bool
+    ensures { result ≡ (stands_in_operation (above_of above.entry) || not is_repeat) }
 {
-    if !parts_have_form(e) || !payload_has_form(&e.payload) {
-        return Ok(Some(0));
-    }
-    if !id_short_is_name(&e.common.id_short) {
-        return Ok(Some(2));
-    }
-    if !is_managed(&e.payload) {
-        return Ok(Some(14));
-    }
-    if !qualifiers_have_form(e.common.qualifiers.as_slice()) {
-        return Ok(Some(20));
-    }
-    if !qualifiers_differ(alloc, e.common.qualifiers.as_slice())? {
-        return Ok(Some(21));
-    }
-    Ok(None)
+    stands_in_operation(above) || !is_repeat
 }
 
-/// The least number from 22 to 120 that is broken at the element, of whose earlier siblings is known what `Knows` says.
-pub(crate) fn own_fault_to_120(
-    alloc: Global,
-    e: &Element,
+/// Whether the element, if in a list, has the semantics of its first sibling that has one, or none. AASd-114.
+fn has_first_semantics(
     above: Option<&Element>,
-    is_repeat: bool,
     lead: Option<&Reference>,
-) -> Result<Option<u16>, NoMemory>
-    ensures { IfOk result (λ n. (t : Bool) (b : List Own) → Knows b (own_of e.now).common.id_short is_repeat (option_copied lead.entry) → n ≡ least_broken own_rules_to_120 (place t (above_of above.entry) b (own_of e.now))) }
+    semantics: Option<&Reference>,
+) -> bool
+    ensures { result ≡ (not (stands_in_list (above_of above.entry)) || agree (option_copied lead.entry) (option_copied semantics.entry)) }
 {
-    let in_list = stands_in_list(above);
-    let semantics = e.common.semantics.semantic_id.as_ref();
-    let is_named = e.common.id_short.is_some();
-    if is_repeat && !stands_in_operation(above) {
-        return Ok(Some(22));
-    }
-    if !extensions_differ(alloc, e.common.extensions.as_slice())? {
-        return Ok(Some(77));
-    }
-    if !agree(list_semantics(above), semantics) {
-        return Ok(Some(107));
-    }
-    if !has_list_kind(above, e.payload.kind()) {
-        return Ok(Some(108));
-    }
-    if !list_is_typed(&e.payload) || !child_is_typed(above, &e.payload) {
-        return Ok(Some(109));
-    }
-    if in_list && !agree(lead, semantics) {
-        return Ok(Some(114));
-    }
-    if !is_named && !in_list {
-        return Ok(Some(117));
-    }
-    if !semantics_have_main(e) {
-        return Ok(Some(118));
-    }
-    if is_named && in_list {
-        return Ok(Some(120));
-    }
-    Ok(None)
+    !stands_in_list(above) || agree(lead, semantics)
 }
 
-/// The least number from 129 on that is broken at the element, but for its references.
-pub(crate) fn own_fault_to_134(
+/// Whether the element has an idShort, or is in a list. AASd-117.
+fn is_named(above: Option<&Element>, id_short: &Option<Text>) -> bool
+    ensures { result ≡ (is_some id_short.now || stands_in_list (above_of above.entry)) }
+{
+    id_short.is_some() || stands_in_list(above)
+}
+
+/// Whether the element, if in a list, has no idShort. AASd-120.
+fn is_unnamed_in_list(above: Option<&Element>, id_short: &Option<Text>) -> bool
+    ensures { result ≡ (not (stands_in_list (above_of above.entry)) || is_none id_short.now) }
+{
+    !stands_in_list(above) || id_short.is_none()
+}
+
+/// Whether no earlier variable has its idShort, if the element is a variable. AASd-134.
+fn variable_is_new(above: Option<&Element>, is_repeat: bool) -> bool
+    ensures { result ≡ (not (stands_in_operation (above_of above.entry)) || not is_repeat) }
+{
+    !stands_in_operation(above) || !is_repeat
+}
+
+/// The least number that is broken at the element, but for its references, of whose earlier siblings is known what `Knows`
+/// says.
+pub(crate) fn own_fault(
+    alloc: Global,
     e: &Element,
     in_template: bool,
     above: Option<&Element>,
     is_repeat: bool,
     lead: Option<&Reference>,
-) -> Option<u16>
-    ensures { (b : List Own) → Knows b (own_of e.now).common.id_short is_repeat (option_copied lead.entry) → result ≡ least_broken own_rules_to_134 (place in_template (above_of above.entry) b (own_of e.now)) }
+) -> Result<Option<u16>, NoMemory>
+    ensures { IfOk result (λ n. (b : List Own) → Knows b (own_of e.now).common.id_short is_repeat (option_copied lead.entry) → n ≡ own_element_fault (place in_template (above_of above.entry) b (own_of e.now))) }
 {
-    if !in_template && has_template_qualifier(e.common.qualifiers.as_slice()) {
-        return Some(129);
-    }
-    if !parts_are_strings(e) {
-        return Some(130);
-    }
-    if !subjects_are_external(specific_asset_ids(&e.payload)) {
-        return Some(133);
-    }
-    if is_repeat && stands_in_operation(above) {
-        return Some(134);
-    }
-    None
+    let common = &e.common;
+    let qualifiers = common.qualifiers.as_slice();
+    let semantics = common.semantics.semantic_id.as_ref();
+    Ok(first_failed(&[
+        (0, element_has_form(e)),
+        (2, id_short_is_name(&common.id_short)),
+        (14, is_managed(&e.payload)),
+        (20, qualifiers_have_form(qualifiers)),
+        (21, qualifiers_differ(alloc, qualifiers)?),
+        (22, name_is_new(above, is_repeat)),
+        (77, extensions_differ(alloc, common.extensions.as_slice())?),
+        (107, agree(list_semantics(above), semantics)),
+        (108, has_list_kind(above, e.payload.kind())),
+        (109, has_list_value_type(above, &e.payload)),
+        (114, has_first_semantics(above, lead, semantics)),
+        (117, is_named(above, &common.id_short)),
+        (118, semantics_have_main(e)),
+        (120, is_unnamed_in_list(above, &common.id_short)),
+        (129, is_template_or_none(in_template, qualifiers)),
+        (130, texts_are_strings(e)),
+        (133, subjects_are_external(specific_asset_ids(&e.payload))),
+        (134, variable_is_new(above, is_repeat)),
+    ]))
 }
 
 /// The least number that the references of the element break.

@@ -2,7 +2,8 @@ ghost use Rattle.std.specs.Prelude.{◌≡◌, nat_le, length};
 ghost use Rattle.std.specs.List.{list_all};
 ghost use Rattle.aas_constraint_rules.specs.Decided.{has_form, is_identifier, is_language, is_media_type, is_utc_date_time, is_version};
 ghost use Rattle.aas_constraint_rules.specs.Lexical.{administration_has_form, asset_has_form, extension_has_form, head_has_form, payload_has_form, qualifier_has_form, resource_has_form, specific_asset_id_has_form};
-ghost use Rattle.aas_constraint_rules.specs.Texts.{if_any};
+ghost use Rattle.aas_lexical.specs.Names.{most_name_characters};
+ghost use Rattle.aas_reference.specs.Rules.{if_any};
 
 use crate::texts::{
     has_form, is_identifier, is_language, is_media_type, is_short, is_there, is_utc_date_time,
@@ -60,7 +61,7 @@ fn is_utc_date_time_if_any(text: &Option<Text>) -> bool
 
 /// Whether the idShort, if any, is short enough.
 pub(crate) fn id_short_is_short(id_short: &Option<Text>) -> bool
-    ensures { result ≡ if_any (λ s. nat_le (length s) 128) id_short.now }
+    ensures { result ≡ if_any (λ s. nat_le (length s) most_name_characters) id_short.now }
 {
     match id_short {
         Some(name) => is_short(name),

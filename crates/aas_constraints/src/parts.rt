@@ -1,10 +1,9 @@
-ghost use Rattle.std.specs.Prelude.{◌≡◌};
+ghost use Rattle.std.specs.Prelude.{◌≡◌, ◌||◌, not};
 ghost use Rattle.std.specs.List.{list_all};
 ghost use Rattle.aas_model.specs.declared.reference.Reference.{out-Reference};
-ghost use Rattle.aas_reference.specs.Rules.{is_external};
+ghost use Rattle.aas_reference.specs.Rules.{if_any, is_external};
 ghost use Rattle.aas_constraint_rules.specs.Decided.{has_form};
 ghost use Rattle.aas_constraint_rules.specs.Rules.{has_main_semantics, has_template_qualifier, is_template_qualifier};
-ghost use Rattle.aas_constraint_rules.specs.Texts.{if_any};
 
 use crate::lexical::value_has_form;
 use aas_model::{
@@ -57,12 +56,19 @@ fn is_template_qualifier(qualifier: &Qualifier) -> bool
 }
 
 /// Whether a qualifier has the kind TemplateQualifier.
-pub(crate) fn has_template_qualifier(qualifiers: &[Qualifier]) -> bool
+fn has_template_qualifier(qualifiers: &[Qualifier]) -> bool
     ensures { result ≡ has_template_qualifier qualifiers.now }
 {
     qualifiers
         .iter()
         .any(|qualifier| is_template_qualifier(qualifier))
+}
+
+/// Whether no qualifier has the kind TemplateQualifier where that isn't allowed. AASd-119 and AASd-129.
+pub(crate) fn is_template_or_none(in_template: bool, qualifiers: &[Qualifier]) -> bool
+    ensures { result ≡ (in_template || not (has_template_qualifier qualifiers.now)) }
+{
+    in_template || !has_template_qualifier(qualifiers)
 }
 
 fn is_external_if_any(reference: &Option<Reference>) -> bool

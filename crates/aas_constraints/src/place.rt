@@ -5,10 +5,8 @@ ghost use Rattle.aas_constraint_rules.specs.Rules.{semantics_of};
 ghost use Rattle.aas_constraints.specs.Walk.{own_of, above_of, Knows, first_broken, or_next};
 
 use crate::demands::stands_in_list;
-use crate::element::{
-    element_references_fault, own_fault_to_21, own_fault_to_120, own_fault_to_134,
-};
-use crate::texts::is_path_name;
+use crate::element::{element_references_fault, own_fault};
+use crate::texts::is_id_short;
 use aas_model::{Duplicate, Element, NoMemory, PathStep, Reference};
 use aas_reference::least;
 use std::alloc::Global;
@@ -26,15 +24,6 @@ pub(crate) fn first_semantics<'a>(
     }
 }
 
-fn or_next(one: Option<u16>, next: Option<u16>) -> Option<u16>
-    ensures { result ≡ or_next one next }
-{
-    match one {
-        Some(number) => Some(number),
-        None => next,
-    }
-}
-
 /// The least number that is broken at an element, of whose earlier siblings is known what `Knows` says.
 pub(crate) fn first_broken(
     alloc: Global,
@@ -46,10 +35,7 @@ pub(crate) fn first_broken(
 ) -> Result<Option<u16>, NoMemory>
     ensures { IfOk result (λ n. (b : List Own) → Knows b (own_of e.now).common.id_short is_repeat (option_copied lead.entry) → n ≡ first_broken in_template (above_of above.entry) b (own_of e.now)) }
 {
-    let to_21 = own_fault_to_21(alloc, e)?;
-    let to_120 = own_fault_to_120(alloc, e, above, is_repeat, lead)?;
-    let to_134 = own_fault_to_134(e, in_template, above, is_repeat, lead);
-    let own = or_next(to_21, or_next(to_120, to_134));
+    let own = own_fault(alloc, e, in_template, above, is_repeat, lead)?;
     Ok(least(own, element_references_fault(e)))
 }
 
@@ -66,7 +52,7 @@ pub(crate) fn step_to(
     }
     match &e.common.id_short {
         Some(name) => {
-            if is_path_name(name) {
+            if is_id_short(name) {
                 Ok(PathStep::Name(name.copy()?))
             } else {
                 Ok(PathStep::Place(place as u64))

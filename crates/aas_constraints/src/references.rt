@@ -3,9 +3,10 @@ ghost use Rattle.aas_model.specs.declared.reference.Reference.{Reference};
 ghost use Rattle.std.specs.List.{list_all};
 ghost use Rattle.aas_constraint_rules.specs.Decided.{is_identifier, is_string};
 ghost use Rattle.aas_constraint_rules.specs.Lexical.{reference_has_form};
+ghost use Rattle.aas_constraint_rules.specs.Rules.{reference_is_string};
 ghost use Rattle.aas_constraint_rules.specs.Attributes.{payload_references};
 ghost use Rattle.aas_constraint_rules.specs.Texts.{as_list};
-ghost use Rattle.aas_constraints.specs.References.{reference_fault, reference_is_string, references_fault};
+ghost use Rattle.aas_constraints.specs.References.{reference_fault, references_fault};
 
 use crate::texts::{is_identifier, is_string};
 use aas_model::{Key, Reference};
@@ -50,6 +51,7 @@ fn is_of_strings(reference: &Reference) -> bool
 }
 
 /// The least number that a reference breaks, or one within it.
+#[tactic(auto, using(crate::proofs::Split::reference_fault_is))]
 pub(crate) fn reference_fault(reference: &Reference) -> Option<u16>
     ensures { result ≡ reference_fault reference.now }
 {

@@ -1,11 +1,10 @@
 ghost use Rattle.std.specs.Prelude.{◌≡◌, chars, length, nat_le};
-ghost use Rattle.aas_constraint_rules.specs.Decided.{has_form, is_identifier, is_language, is_media_type, is_path_name, is_string, is_utc_date_time, is_version};
+ghost use Rattle.aas_constraint_rules.specs.Decided.{has_form, is_id_short, is_identifier, is_language, is_media_type, is_name, is_string, is_utc_date_time, is_version};
+ghost use Rattle.aas_lexical.specs.Names.{most_name_characters};
 ghost use Rattle.aas_constraint_rules.specs.Lexical.{is_there};
 
+use aas_lexical::MOST_NAME_CHARACTERS;
 use aas_model::{Text, ValueType};
-
-/// The most characters that an idShort has.
-const MOST_NAME_CHARACTERS: usize = 128;
 
 /// Whether the text is a value of the type.
 pub(crate) fn has_form(value_type: ValueType, text: &Text) -> bool
@@ -49,9 +48,16 @@ pub(crate) fn is_utc_date_time(text: &Text) -> bool
     aas_lexical::is_utc_date_time(text.as_str())
 }
 
-/// Whether the text is a name that a path can have.
-pub(crate) fn is_path_name(text: &Text) -> bool
-    ensures { result ≡ is_path_name text.now }
+/// Whether the text is a name. AASd-002.
+pub(crate) fn is_name(text: &Text) -> bool
+    ensures { result ≡ is_name text.now }
+{
+    aas_lexical::is_name(text.as_str())
+}
+
+/// Whether the text is an idShort that a path can have.
+pub(crate) fn is_id_short(text: &Text) -> bool
+    ensures { result ≡ is_id_short text.now }
 {
     aas_lexical::is_id_short(text.as_str())
 }
@@ -78,7 +84,7 @@ fn is_at_most(text: &str, count: usize) -> bool
 
 /// Whether the text is no longer than an idShort may be.
 pub(crate) fn is_short(text: &Text) -> bool
-    ensures { result ≡ nat_le (length text.now) 128 }
+    ensures { result ≡ nat_le (length text.now) most_name_characters }
 {
     is_at_most(text.as_str(), MOST_NAME_CHARACTERS)
 }

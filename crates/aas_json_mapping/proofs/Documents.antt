@@ -17,7 +17,7 @@ use Rattle.aas_model.specs.declared.documents.Concept.{Concept}
 use Rattle.aas_model.specs.declared.element.Element.{Element}
 use Rattle.aas_json_spelling.specs.Lists.{Each}
 use Rattle.aas_json_spelling.specs.Good.{Good}
-use Rattle.aas_json_spelling.proofs.Rows.{and_left, and_right}
+use Rattle.aas_lemmas.proofs.Truth.{and_left, and_right}
 use Rattle.aas_json_spelling.proofs.Objects.{Agree, AreGood}
 use Rattle.aas_json_spelling.proofs.MemberTypes.{EachGood, text_good, named_if_good, list_good, list_back, same_texts, same_words_if, same_lists_of}
 use Rattle.aas_reference.specs.Spelling.{spell_reference}

@@ -19,7 +19,7 @@ use Rattle.aas_model.specs.declared.documents.Submodel.{Submodel}
 use Rattle.aas_model.specs.declared.documents.Concept.{Concept}
 use Rattle.aas_json_spelling.specs.Lists.{Each}
 use Rattle.aas_json_spelling.specs.Values.{IsText, HasTexts}
-use Rattle.aas_json_spelling.proofs.Rows.{and_left, and_right}
+use Rattle.aas_lemmas.proofs.Truth.{and_left, and_right}
 use Rattle.aas_json_spelling.proofs.Objects.{Agree}
 use Rattle.aas_json_spelling.proofs.Exists.{IsSpelled, Kinds, IsTree, Gives, there, named_if, as_itself, part_tree, tree}
 use Rattle.aas_reference.specs.Spelling.{spell_reference}

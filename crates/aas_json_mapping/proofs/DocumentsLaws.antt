@@ -11,7 +11,7 @@ use Rattle.aas_json_spelling.specs.Lists.{Each}
 use Rattle.aas_json_spelling.specs.Mapped.{AnyShape}
 use Rattle.aas_json_spelling.proofs.Exists.{and_nothing}
 use Rattle.aas_json_spelling.proofs.Laws.{Laws}
-use Rattle.aas_json_spelling.proofs.Rows.{and_left, and_right}
+use Rattle.aas_lemmas.proofs.Truth.{and_left, and_right}
 use Rattle.aas_json_mapping.specs.Shape.{IsShaped, IsShapedSubmodel, IsShapedEnvironment}
 use Rattle.aas_json_mapping.specs.Trees.{shells, submodels, concepts, environments}
 use Rattle.aas_json_mapping.specs.Whole.{whole_head, whole_semantics, whole_qualifier, is_whole_element, is_whole_shell, is_whole_submodel, is_whole_concept, is_whole_environment}

@@ -16,7 +16,8 @@ use Rattle.aas_model.specs.declared.payload.Payload.TheVariants as p
 use Rattle.aas_json_spelling.specs.Good.{Good}
 use Rattle.aas_json_spelling.proofs.Rows.{rising}
 use Rattle.aas_json_mapping.specs.Elements.{model_type_of, spell_element}
-use Rattle.aas_json_mapping.specs.Whole.{is_data_element}
+use Rattle.aas_model_names.specs.KindNames.{is_data_element}
+use Rattle.aas_model.specs.Payload.{kind_of}
 use Rattle.aas_json_mapping.proofs.Rows.{model_rows, model_rise, found_again}
 use Rattle.aas_json_mapping.proofs.Elements as level
 use Rattle.aas_json_mapping.proofs.Elements.{made, made_out, attributes_at, seen, seen_data}
@@ -44,7 +45,7 @@ found_rows p.Operation = refl
 found_rows p.SubmodelElementCollection = refl
 found_rows (p.SubmodelElementList o s t v) = refl
 
-found_data_rows : (x : Payload) → is_data_element x ≡ true → find (model_type_of x) (model_types data_element) ≡ Some (all_rows x)
+found_data_rows : (x : Payload) → is_data_element (kind_of x) ≡ true → find (model_type_of x) (model_types data_element) ≡ Some (all_rows x)
 found_data_rows (p.Property t v i) e = refl
 found_data_rows (p.MultiLanguageProperty v i) e = refl
 found_data_rows (p.Range t min max) e = refl
@@ -71,7 +72,7 @@ model_type_at c x ks = (found_again (all_rows x) (attribute (attributes_at c x k
 pub rows_at : (c : Common) (x : Payload) (ks : List Element) → rows_of element (members_at c x ks) ≡ Some (sorted (all_rows x))
 rows_at c x ks = model_rows element _ _ refl (model_type_of x) (all_rows x) (found_rows x) (members_at c x ks) (model_type_at c x ks)
 
-data_rows_at : (c : Common) (x : Payload) (ks : List Element) → is_data_element x ≡ true → rows_of data_element (members_at c x ks) ≡ Some (sorted (all_rows x))
+data_rows_at : (c : Common) (x : Payload) (ks : List Element) → is_data_element (kind_of x) ≡ true → rows_of data_element (members_at c x ks) ≡ Some (sorted (all_rows x))
 data_rows_at c x ks e = model_rows data_element _ _ refl (model_type_of x) (all_rows x) (found_data_rows x e) (members_at c x ks) (model_type_at c x ks)
 
 -- ---- a data element is good as one exactly where it is good as an element

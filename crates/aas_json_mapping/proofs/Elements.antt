@@ -11,9 +11,11 @@ use Rattle.aas_model.specs.declared.element.Element.TheFolds.{ind-Element, fold-
 use Rattle.aas_model.specs.declared.element.Role.{Role}
 use Rattle.aas_model.specs.declared.payload.Payload.{Payload}
 use Rattle.aas_json_spelling.specs.Lists.{Each, most}
-use Rattle.aas_json_spelling.proofs.Rows.{and_left, and_right}
+use Rattle.aas_lemmas.proofs.Truth.{and_left, and_right}
 use Rattle.aas_json_mapping.specs.Elements.{Child, element_attributes, rows_for, model_type_of, spell_over, spelled_child, spell_element}
-use Rattle.aas_json_mapping.specs.Whole.{whole_common, whole_payload, has_whole_parts, is_data_element, Placed, admits, rank, in_order, placed_over, is_placed, element_levels}
+use Rattle.aas_model_names.specs.KindNames.{is_data_element}
+use Rattle.aas_model.specs.Payload.{kind_of}
+use Rattle.aas_json_mapping.specs.Whole.{whole_common, whole_payload, has_whole_parts, Placed, admits, rank, in_order, placed_over, is_placed, element_levels}
 
 -- an element, made of its parts
 abbrev pub made : Role → Common → Payload → List Element → Element
@@ -27,7 +29,7 @@ role_of e = (out-Element e).role
 
 -- ---- induction
 
-each_within : (P : Element → Type 0) (ks : List ((e : Element) × P e)) → Each P (map (λ k. k.0) ks)
+pub each_within : (P : Element → Type 0) (ks : List ((e : Element) × P e)) → Each P (map (λ k. k.0) ks)
 each_within P [] = tt
 each_within P (k ∷ ks) = (k.1, each_within P ks)
 
@@ -69,7 +71,7 @@ seen_at r c p ks = fold-roll-Element Placed placed_over (record { common = c; pa
 pub seen_role : (e : Element) → (seen e).role ≡ role_of e
 seen_role e = let y = out-Element e in ap (λ x. (seen x).role) (sym (made_out e)) ∙ ap (λ (x : Placed). x.role) (seen_at y.role y.common y.payload y.kids)
 
-pub seen_data : (e : Element) → (seen e).is_data ≡ is_data_element (out-Element e).payload
+pub seen_data : (e : Element) → (seen e).is_data ≡ is_data_element (kind_of (out-Element e).payload)
 seen_data e = let y = out-Element e in ap (λ x. (seen x).is_data) (sym (made_out e)) ∙ ap (λ (x : Placed). x.is_data) (seen_at y.role y.common y.payload y.kids)
 
 -- ---- lists of children

@@ -25,14 +25,16 @@ use Rattle.aas_model.specs.declared.payload.Payload.{Payload}
 use Rattle.aas_model.specs.declared.payload.Payload.TheVariants as p
 use Rattle.aas_json_spelling.specs.Lists.{Each}
 use Rattle.aas_json_spelling.specs.Values.{IsText, HasTexts}
-use Rattle.aas_json_spelling.proofs.Rows.{and_left, and_right}
+use Rattle.aas_lemmas.proofs.Truth.{and_left, and_right}
 use Rattle.aas_json_spelling.proofs.Objects.{Agree}
 use Rattle.aas_json_spelling.proofs.Exists.{IsSpelled, Kinds, IsTree, Gives, Model, there, named_there, named_if, as_itself, part_tree, tree}
 use Rattle.aas_reference.specs.Spelling.{spell_reference}
 use Rattle.aas_reference.proofs.Exists.{some_reference}
 use Rattle.aas_json_mapping.specs.Parts.{spell_lang_text, spell_extension, spell_qualifier, spell_specific_asset_id}
 use Rattle.aas_json_mapping.specs.Elements.{model_type_of, children_attribute, spelled_child, spell_element}
-use Rattle.aas_json_mapping.specs.Whole.{is_data_element, is_annotation, is_member, is_statement, Placed, admits, is_placed}
+use Rattle.aas_model_names.specs.KindNames.{is_data_element}
+use Rattle.aas_model.specs.Payload.{kind_of}
+use Rattle.aas_json_mapping.specs.Whole.{is_annotation, is_member, is_statement, Placed, admits, is_placed}
 use Rattle.aas_json_mapping.proofs.Rows.{Made, object_of, models_tree, agree_with}
 use Rattle.aas_json_mapping.proofs.PartsFound.{semantics_found, some_lang_text, some_extension, some_qualifier, some_specific_asset_id}
 use Rattle.aas_json_mapping.proofs.Referable.{FoundReferable, referable_found}
@@ -97,7 +99,7 @@ record Own (g : List ℕ → MemberType → Option Data) (n : List ℕ) (data_ki
   payload : Payload
   kids : List Element
   named : model_type_of payload ≡ n
-  is_data : is_data_element payload ≡ data_kind
+  is_data : is_data_element (kind_of payload) ≡ data_kind
   standing : AreStanding payload kids
   agree : (c : Common) → Agree (own_rows payload) g (attribute (attributes_at c payload kids))
 

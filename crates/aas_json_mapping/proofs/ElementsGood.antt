@@ -19,7 +19,7 @@ use Rattle.aas_model.specs.declared.payload.Payload.TheVariants as p
 use Rattle.aas_json_spelling.specs.Lists.{Each, most}
 use Rattle.aas_json_spelling.specs.Good.{Good}
 use Rattle.aas_json_spelling.proofs.Lists.{each_from_most}
-use Rattle.aas_json_spelling.proofs.Rows.{and_left, and_right}
+use Rattle.aas_lemmas.proofs.Truth.{and_left, and_right}
 use Rattle.aas_json_spelling.proofs.Objects.{AreGood}
 use Rattle.aas_json_spelling.proofs.MemberTypes.{EachGood, none_good, text_good, flag_good, named_good, named_if_good}
 use Rattle.aas_reference.specs.Whole.{whole_and_there}

@@ -9,7 +9,7 @@ use Rattle.aas_model.specs.declared.element.Element.{Element}
 use Rattle.aas_model.specs.declared.element.Role.TheVariants as role
 use Rattle.aas_json_spelling.specs.Good.{Good}
 use Rattle.aas_json_spelling.specs.Values.{IsText}
-use Rattle.aas_json_spelling.proofs.Rows.{and_left, and_right}
+use Rattle.aas_lemmas.proofs.Truth.{and_left, and_right}
 use Rattle.aas_json_spelling.proofs.Exists.{IsSpelled}
 use Rattle.aas_json_spelling.proofs.Laws.{Laws}
 use Rattle.aas_json_mapping.specs.Elements.{spell_element}

@@ -18,7 +18,7 @@ use Rattle.aas_model.specs.declared.element.Role.TheVariants as role
 use Rattle.aas_model.specs.declared.payload.Payload.{Payload}
 use Rattle.aas_model.specs.declared.payload.Payload.TheVariants as p
 use Rattle.aas_json_spelling.specs.Lists.{Each}
-use Rattle.aas_json_spelling.proofs.Rows.{and_left}
+use Rattle.aas_lemmas.proofs.Truth.{and_left}
 use Rattle.aas_json_spelling.proofs.Objects.{Agree, same_object}
 use Rattle.aas_json_spelling.proofs.MemberTypes.{same_texts_if, same_flags_if, same_words, same_words_if}
 use Rattle.aas_json_mapping.specs.Elements.{is_input, is_output, is_inoutput, model_type_of, spell_element}

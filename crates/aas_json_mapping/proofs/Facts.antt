@@ -12,7 +12,7 @@ use Rattle.aas_model.specs.declared.reference.Reference.{Reference}
 use Rattle.aas_json_spelling.specs.Lists.{each_true}
 use Rattle.aas_json_spelling.specs.Kept.{spell_kept, is_ordered, kept_depth}
 use Rattle.aas_json_spelling.specs.Good.{Good}
-use Rattle.aas_json_spelling.proofs.Rows.{and_left, and_right}
+use Rattle.aas_lemmas.proofs.Truth.{and_left, and_right}
 use Rattle.aas_json_spelling.proofs.Objects.{AreGood}
 use Rattle.aas_json_spelling.proofs.MemberTypes.{EachGood, none_good, list_good, list_back, same_options, same_lists}
 use Rattle.aas_json_spelling.proofs.Kept as kept_data

@@ -12,7 +12,7 @@ use Rattle.aas_model.specs.declared.element.Role.TheVariants as role
 use Rattle.aas_json_spelling.specs.Lists.{Each}
 use Rattle.aas_json_spelling.specs.Good.{Good}
 use Rattle.aas_json_spelling.proofs.Lists.{each_both}
-use Rattle.aas_json_spelling.proofs.Rows.{and_left, and_right}
+use Rattle.aas_lemmas.proofs.Truth.{and_left, and_right}
 use Rattle.aas_json_spelling.proofs.MemberTypes.{EachGood, list_good, list_back, same_lists_of}
 use Rattle.aas_json_mapping.specs.Elements.{Child, is_input, is_output, is_inoutput, spell_variable, children_attribute, variables_attribute, spelled_child, spell_element}
 use Rattle.aas_json_mapping.specs.Whole.{is_variable, rank, in_order, is_placed}

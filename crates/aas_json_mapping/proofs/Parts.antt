@@ -17,7 +17,7 @@ use Rattle.aas_model.specs.declared.parts.Administration.{Administration}
 use Rattle.aas_model.specs.declared.asset.Resource.{Resource}
 use Rattle.aas_model.specs.declared.asset.AssetInformation.{AssetInformation}
 use Rattle.aas_json_spelling.specs.Good.{Good}
-use Rattle.aas_json_spelling.proofs.Rows.{and_left, and_right}
+use Rattle.aas_lemmas.proofs.Truth.{and_left, and_right}
 use Rattle.aas_json_spelling.proofs.Objects.{Agree, AreGood}
 use Rattle.aas_json_spelling.proofs.MemberTypes.{text_good, named_good, named_if_good, none_good, same_texts, same_texts_if, same_words, same_words_if}
 use Rattle.aas_json_spelling.proofs.Kept.{same_kept}

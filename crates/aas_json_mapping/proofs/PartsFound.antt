@@ -18,7 +18,7 @@ use Rattle.aas_model.specs.declared.parts.Administration.{Administration}
 use Rattle.aas_model.specs.declared.asset.Resource.{Resource}
 use Rattle.aas_model.specs.declared.asset.AssetInformation.{AssetInformation}
 use Rattle.aas_json_spelling.specs.Values.{IsText, HasTexts}
-use Rattle.aas_json_spelling.proofs.Rows.{and_left, and_right}
+use Rattle.aas_lemmas.proofs.Truth.{and_left, and_right}
 use Rattle.aas_json_spelling.proofs.Objects.{Agree}
 use Rattle.aas_json_spelling.proofs.Exists.{IsSpelled, IsListed, Kinds, IsTree, Gives, there, named_there, named_if, as_itself, part_tree, tree}
 use Rattle.aas_reference.specs.Spelling.{spell_reference}

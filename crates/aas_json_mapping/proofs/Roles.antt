@@ -6,7 +6,7 @@ use Rattle.serde_json.specs.Data.{Data, no_items, item}
 use Rattle.aas_json_table.specs.Canonical.{listed}
 use Rattle.aas_json_table.specs.Spelled.{list_of, onto, spelled}
 use Rattle.aas_json_table.specs.Table.{parts, operation_variable}
-use Rattle.aas_json_spelling.proofs.Rows.{and_left, and_right}
+use Rattle.aas_lemmas.proofs.Truth.{and_left, and_right}
 use Rattle.aas_model.specs.declared.payload.Payload.TheVariants as p
 use Rattle.aas_model.specs.declared.element.Element.{Element, out-Element}
 use Rattle.aas_model.specs.declared.element.Role.{Role}

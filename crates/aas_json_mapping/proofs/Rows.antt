@@ -12,7 +12,8 @@ use Rattle.aas_json_table.specs.Canonical.{are_there, members_by, canonical, can
 use Rattle.aas_json_table.specs.Spelled.{Attributes, attribute, spelled}
 use Rattle.aas_json_spelling.specs.Lists.{Each, is_any}
 use Rattle.aas_json_spelling.specs.Good.{Good}
-use Rattle.aas_json_spelling.proofs.Rows.{and_left, and_right, rising, is_attribute, are_attributes, rows_rise, rows_attributes}
+use Rattle.aas_lemmas.proofs.Truth.{and_left, and_right}
+use Rattle.aas_json_spelling.proofs.Rows.{rising, is_attribute, are_attributes, rows_rise, rows_attributes}
 use Rattle.aas_json_spelling.proofs.Fits.{one_there}
 use Rattle.aas_json_spelling.proofs.Objects.{Agree, AreGood, are_full, finds, same_attributes, same_members, object_good, object_back}
 use Rattle.aas_json_spelling.proofs.Exists.{IsSpelled, Object, Model, model_tree}

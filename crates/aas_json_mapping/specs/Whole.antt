@@ -2,6 +2,7 @@
 -- and no level passes the limits. The limits are this profile's own rule; the rest restates the metamodel of IDTA-01001-3-0.
 use Rattle.std.specs.Prelude.{ℕ, suc, ◌&&◌, nat_le, is_some, Bool, true, false, List, [], ◌∷◌, map, Option, Some, None}
 use Rattle.std.specs.List.{list_all}
+use Rattle.aas_model_names.specs.KindNames.{is_data_element}
 use Rattle.aas_json_table.specs.TooDeep.{Levels}
 use Rattle.aas_json_spelling.specs.Lists.{most}
 use Rattle.aas_json_spelling.specs.Kept.{each_true, is_ordered, kept_depth}
@@ -20,6 +21,7 @@ use Rattle.aas_model.specs.declared.element.Role.{Role}
 use Rattle.aas_model.specs.declared.element.Role.TheVariants as role
 use Rattle.aas_model.specs.declared.payload.Payload.{Payload}
 use Rattle.aas_model.specs.declared.payload.Payload.TheVariants as p
+use Rattle.aas_model.specs.Payload.{kind_of}
 use Rattle.aas_model.specs.declared.common.Head.{Head}
 use Rattle.aas_model.specs.declared.documents.Submodel.{Submodel}
 use Rattle.aas_model.specs.declared.documents.Shell.{Shell}
@@ -80,16 +82,6 @@ whole_payload left (p.SubmodelElementList o s t v) = whole_if_there left s
 abbrev pub has_whole_parts : Levels → Element → Bool
 has_whole_parts left = fold-Element Bool (λ e. whole_common left e.common && whole_payload left e.payload && list_all (λ b. b) e.kids)
 
--- the subclasses of DataElement
-abbrev pub is_data_element : Payload → Bool
-is_data_element (p.Property t v i) = true
-is_data_element (p.MultiLanguageProperty v i) = true
-is_data_element (p.Range t min max) = true
-is_data_element (p.File t v) = true
-is_data_element (p.Blob t v) = true
-is_data_element (p.ReferenceElement v) = true
-is_data_element p = false
-
 -- what a parent sees of a child: its role, whether it is a data element, and whether all below it is placed
 pub record Placed : Type 0 where
   pub role : Role
@@ -136,7 +128,7 @@ in_order (n ∷ ns) = list_all (nat_le n) ns && in_order ns
 abbrev pub placed_over : Element-F Placed → Placed
 placed_over e = record {
   role = e.role;
-  is_data = is_data_element e.payload;
+  is_data = is_data_element (kind_of e.payload);
   placed = list_all (admits e.payload) e.kids && in_order (map (λ c. rank c.role) e.kids) && list_all (λ c. c.placed) e.kids;
 }
 

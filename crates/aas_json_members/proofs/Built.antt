@@ -7,7 +7,7 @@ use Rattle.serde_json.specs.Data.{Data, Members, no_members, member, put}
 use Rattle.aas_json_table.specs.Table.{MemberType, Row}
 use Rattle.aas_json_table.specs.Rows.{insert_row}
 use Rattle.aas_json_table.specs.Canonical.{members_by, add}
-use Rattle.aas_json_spelling.proofs.Rows.{and_left, and_right}
+use Rattle.aas_lemmas.proofs.Truth.{and_left, and_right}
 use Rattle.aas_json_members.specs.Building.{put_some, built}
 
 -- ---- names of rows

@@ -1,5 +1,7 @@
 -- Children that were read, as the attributes that hold them.
 use Rattle.std.proofs.Common.{◌≡◌, ◌⊎◌, inl, inr, ℕ, List, [], ◌∷◌, ◌++◌, ◌&&◌, Bool, true, false, Option, Some, None, option_map, option_to_list, IfSome, is_some, if◌then◌else◌, map, filter, cond, codes, length, get_or, drop, add-one, ◌+◌, zero, suc, ◌<◌, ◌≤◌, arith, refl, sym, ap, ap₂, ◌∙◌, true≢false}
+use Rattle.std.proofs.lemmas.Simd.{map-map}
+use Rattle.std.proofs.lemmas.List.{append_assoc, append-nil}
 use Rattle.std.specs.List.{list_all}
 use Rattle.std.proofs.Math.Seq.{drop-cons}
 use Rattle.std.proofs.lemmas.List.{map-append}
@@ -12,7 +14,7 @@ use Rattle.aas_json_table.specs.Rows.{sorted}
 use Rattle.aas_json_table.specs.Canonical.{canonical_object, add, add_item, listed}
 use Rattle.aas_json_table.specs.Spelled.{list_of, onto}
 use Rattle.aas_json_spelling.specs.Lists.{Each}
-use Rattle.aas_json_spelling.proofs.Rows.{and_left, and_right}
+use Rattle.aas_lemmas.proofs.Truth.{and_left, and_right}
 use Rattle.aas_json_mapping.specs.Elements.{Child, is_input, is_output, is_inoutput, spelled_child, spell_element, spell_variable, children_attribute, variables_attribute}
 use Rattle.aas_json_mapping.specs.Whole.{Placed}
 use Rattle.aas_json_mapping.proofs.Elements.{child_role, seen_role}
@@ -32,10 +34,6 @@ onto_more (x ∷ xs) o rest = ap (item x) (onto_more xs o rest)
 mapped_option : {A B : Type 0} (f : A → B) (o : Option A) → map f (option_to_list o) ≡ option_to_list (option_map f o)
 mapped_option f None = refl
 mapped_option f (Some x) = refl
-
-pub append_again : {A : Type 0} (xs ys zs : List A) → (xs ++ ys) ++ zs ≡ xs ++ (ys ++ zs)
-append_again [] ys zs = refl
-append_again (x ∷ xs) ys zs = ap (λ l. x ∷ l) (append_again xs ys zs)
 
 -- what was found, if it was, behind the others
 pub one_more : {A : Type 0} (f : A → Data) (xs : List A) (o : Option A) (d : Option Data) (rest : Items) → option_map f o ≡ d → onto (map f (xs ++ option_to_list o)) rest ≡ onto (map f xs) (add_item d rest)
@@ -57,20 +55,16 @@ pub adds_one : (r : Role) (before all : List Element) (o : Option Element) (d : 
 adds_one r before all o d rest items a says suited =
     let f : Element → Data = λ e. spell_under r (spelled_child e) in record {
       more = a.more ++ option_to_list o;
-      after = ap (λ l. l ++ option_to_list o) a.after ∙ append_again before a.more (option_to_list o);
+      after = ap (λ l. l ++ option_to_list o) a.after ∙ append_assoc before a.more (option_to_list o);
       says = one_more f a.more o d rest says ∙ a.says;
       places = all_with (λ e. suits r (seen e)) a.more o a.places suited;
     }
 
-append_none : {A : Type 0} (xs : List A) → xs ≡ xs ++ []
-append_none [] = refl
-append_none (x ∷ xs) = ap (λ l. x ∷ l) (append_none xs)
-
 pub adds_none : (r : Role) (before : List Element) (items : Items) → AddsItems r before before items items
-adds_none r before items = record { more = []; after = append_none before; says = refl; places = refl }
+adds_none r before items = record { more = []; after = sym (append-nil before); says = refl; places = refl }
 
 pub adds_no_children : (r : Role) (before : List Element) → AddsChildren r before before None
-adds_no_children r before = record { more = []; after = append_none before; says = refl; places = refl }
+adds_no_children r before = record { more = []; after = sym (append-nil before); says = refl; places = refl }
 
 pub adds_listed : (r : Role) (before all : List Element) (items : Items) → AddsItems r before all no_items items → AddsChildren r before all (listed items)
 adds_listed r before all items a = record { more = a.more; after = a.after; says = ap listed a.says; places = a.places }
@@ -86,12 +80,8 @@ drop_item vs i v h e = rw add-one (drop-cons vs i v h ∙ ap (λ x. x ∷ drop (
 
 -- ---- children, as they are spelled
 
-map_twice : {A B C : Type 0} (g : B → C) (f : A → B) (xs : List A) → map g (map f xs) ≡ map (λ x. g (f x)) xs
-map_twice g f [] = refl
-map_twice g f (x ∷ xs) = ap (λ l. g (f x) ∷ l) (map_twice g f xs)
-
 spelled_list : (spell : Child → Data) (kids : List Element) → list_of spell (map spelled_child kids) ≡ list_of (λ e. spell (spelled_child e)) kids
-spelled_list spell kids = ap (λ l. listed (onto l no_items)) (map_twice spell spelled_child kids)
+spelled_list spell kids = ap (λ l. listed (onto l no_items)) (map-map spell spelled_child kids)
 
 pub children_are : (kids : List Element) (o : Option Data) → list_of (λ e. (spelled_child e).spelling) kids ≡ o → children_attribute (map spelled_child kids) ≡ o
 children_are kids o e = spelled_list (λ c. c.spelling) kids ∙ e
@@ -169,7 +159,7 @@ module _ (a b d : List Element) (ins : list_all (λ e. suits role.Input (seen e)
       kept_of is_input a b d (map spelled_child a) [] [] (all_kept is_input role.Input (λ c s. and_left (is_input c.role) _ s) a ins)
       (none_kept is_input role.Output (λ c s. (output_only c.role (and_left (is_output c.role) _ s)).0) b outs)
       (none_kept is_input role.Inoutput (λ c s. (inoutput_only c.role (and_left (is_inoutput c.role) _ s)).0) d both)
-      ∙ sym (append_none (map spelled_child a))
+      ∙ append-nil (map spelled_child a)
       ) ∙ spelled_list spell_variable a ∙ e
 
   pub outputs_are : (o : Option Data) → list_of (λ e. spell_variable (spelled_child e)) b ≡ o → variables_attribute is_output (map spelled_child (a ++ (b ++ d))) ≡ o
@@ -178,7 +168,7 @@ module _ (a b d : List Element) (ins : list_all (λ e. suits role.Input (seen e)
       kept_of is_output a b d [] (map spelled_child b) [] (none_kept is_output role.Input (λ c s. (input_only c.role (and_left (is_input c.role) _ s)).0) a ins)
       (all_kept is_output role.Output (λ c s. and_left (is_output c.role) _ s) b outs)
       (none_kept is_output role.Inoutput (λ c s. (inoutput_only c.role (and_left (is_inoutput c.role) _ s)).1) d both)
-      ∙ sym (append_none (map spelled_child b))
+      ∙ append-nil (map spelled_child b)
       ) ∙ spelled_list spell_variable b ∙ e
 
   pub inoutputs_are : (o : Option Data) → list_of (λ e. spell_variable (spelled_child e)) d ≡ o → variables_attribute is_inoutput (map spelled_child (a ++ (b ++ d))) ≡ o

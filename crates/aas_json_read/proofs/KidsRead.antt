@@ -1,5 +1,6 @@
 -- The children of each kind of element, as they were read.
 use Rattle.std.proofs.Common.{◌≡◌, ◌⊎◌, ℕ, List, [], ◌++◌, Option, map, codes, inl, inr, sym, ap, ◌∙◌, subst}
+use Rattle.std.proofs.lemmas.List.{append_assoc}
 use Rattle.serde_json.specs.Data.{Data}
 use Rattle.aas_model_names.specs.declared.kind.Kind.{Kind}
 use Rattle.aas_model_names.specs.declared.kind.Kind.TheVariants as kind
@@ -10,7 +11,7 @@ use Rattle.aas_model.specs.declared.element.Role.{Role}
 use Rattle.aas_model.specs.declared.element.Role.TheVariants as role
 use Rattle.aas_json_read.specs.Own.{FindsKids, FitUnder}
 use Rattle.aas_json_read.specs.Children.{AddsChildren}
-use Rattle.aas_json_read.proofs.Kids.{append_again, children_are, inputs_are, outputs_are, inoutputs_are}
+use Rattle.aas_json_read.proofs.Kids.{children_are, inputs_are, outputs_are, inoutputs_are}
 use Rattle.aas_json_read.proofs.Places.{annotations_fit, statements_fit, collected_fit, listed_fit, variables_fit}
 
 -- the children of a kind are found, and each is in its place
@@ -50,7 +51,7 @@ pub variables_read : (find : List ℕ → MemberType → Option Data) (before in
     → AreRead find kind.Operation all
 variables_read find before input output all none a b d =
     let joined : a.more ++ (b.more ++ d.more) ≡ all =
-    sym (d.after ∙ ap (λ l. l ++ d.more) (b.after ∙ ap (λ l. l ++ b.more) (sym (added role.Input before input _ a none))) ∙ append_again a.more b.more d.more) in
+    sym (d.after ∙ ap (λ l. l ++ d.more) (b.after ∙ ap (λ l. l ++ b.more) (sym (added role.Input before input _ a none))) ∙ append_assoc a.more b.more d.more) in
     subst (AreRead find kind.Operation) joined (record {
       says = (
         inputs_are a.more b.more d.more a.places b.places d.places _ a.says,

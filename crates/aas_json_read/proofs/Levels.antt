@@ -9,7 +9,6 @@ use Rattle.aas_json_table.specs.Rows.{find, sorted}
 use Rattle.aas_json_table.specs.Canonical.{canonical_object, are_there}
 use Rattle.aas_json_spelling.proofs.Rows.{rising}
 use Rattle.aas_json_mapping.specs.Elements.{Child, spelled_child, spell_element, rows_for, model_type_of, own_attributes, element_attributes}
-use Rattle.aas_json_mapping.specs.Whole.{is_data_element}
 use Rattle.aas_json_mapping.proofs.Elements.{made, spell_at}
 use Rattle.aas_model.specs.Payload.{kind_of}
 use Rattle.aas_model.specs.declared.common.Common.{Common}
@@ -18,7 +17,7 @@ use Rattle.aas_model.specs.declared.payload.Payload.TheVariants as p
 use Rattle.aas_model.specs.declared.element.Element.{Element}
 use Rattle.aas_model.specs.declared.element.Role.{Role}
 use Rattle.aas_json_read.specs.Found.{FindsCommon}
-use Rattle.aas_json_read.specs.Own.{own_rows, spell_own, canonical_own, is_data_kind, FindsKids}
+use Rattle.aas_json_read.specs.Own.{own_rows, spell_own, canonical_own, FindsKids}
 use Rattle.aas_json_read.proofs.Rows.{Found, found_says, says_found, says_lacks, lacks_says, lacks_later}
 
 -- ---- an element with all that its kind demands
@@ -103,21 +102,3 @@ all_lack find kind.SubmodelElementList e = lacks_later (referable ++ (has_semant
 
 pub element_lacks : (find : List ℕ → MemberType → Option Data) (k : Kind) → None ≡ canonical_own k find → None ≡ canonical_object (Some (sorted (rows_for (name_of k)))) find
 element_lacks find k e = lacks_says (rows_for (name_of k)) find (all_lack find k (says_lacks (own_rows k) find e))
-
--- ---- data elements
-
-pub data_kind : (x : Payload) → is_data_element x ≡ is_data_kind (kind_of x)
-data_kind (p.Property t v i) = refl
-data_kind (p.MultiLanguageProperty v i) = refl
-data_kind (p.Range t min max) = refl
-data_kind (p.File t v) = refl
-data_kind (p.Blob t v) = refl
-data_kind (p.ReferenceElement v) = refl
-data_kind (p.RelationshipElement first second) = refl
-data_kind (p.AnnotatedRelationshipElement first second) = refl
-data_kind (p.Entity t g ids) = refl
-data_kind (p.BasicEventElement observed d s topic broker last min max) = refl
-data_kind p.Capability = refl
-data_kind p.Operation = refl
-data_kind p.SubmodelElementCollection = refl
-data_kind (p.SubmodelElementList o s t v) = refl

@@ -4,19 +4,19 @@ use Rattle.std.specs.List.{list_all}
 use Rattle.std.proofs.lemmas.Slice.Eq.{bytes_eq-Decides}
 use Rattle.serde_json.specs.Data.{Data, null, boolean, number, string, array, object, Members}
 use Rattle.serde_json.specs.Find.{get_member, as_str}
-use Rattle.aas_model_names.specs.KindNames.{name_of, names}
+use Rattle.aas_model_names.specs.KindNames.{name_of, names, is_data_element}
 use Rattle.aas_model_names.specs.declared.kind.Kind.{Kind}
 use Rattle.aas_model_names.specs.declared.kind.Kind.TheVariants as kind
 use Rattle.aas_json_table.specs.Names.{has}
 use Rattle.aas_json_table.specs.Table.{element, data_element, word, text, Row, model_types}
 use Rattle.aas_json_table.specs.Rows.{find, sorted, choose, rows_of}
 use Rattle.aas_json_table.specs.Canonical.{canonical, canonical_member}
-use Rattle.aas_json_spelling.proofs.Rows.{and_left, and_right}
+use Rattle.aas_lemmas.proofs.Truth.{and_left, and_right}
 use Rattle.aas_json_members.proofs.Lookup.{canonical_member_is}
 use Rattle.aas_json_mapping.specs.Elements.{rows_for}
 use Rattle.aas_model.specs.declared.element.Role.{Role}
 use Rattle.aas_model.specs.declared.element.Role.TheVariants as role
-use Rattle.aas_json_read.specs.Own.{elements_under, is_data_kind, may_have}
+use Rattle.aas_json_read.specs.Own.{elements_under, may_have}
 
 -- ---- the value under modelType
 
@@ -94,7 +94,7 @@ kind_rows kind.Operation = refl
 kind_rows kind.SubmodelElementCollection = refl
 kind_rows kind.SubmodelElementList = refl
 
-data_rows : (k : Kind) → is_data_kind k ≡ true → find (name_of k) (model_types data_element) ≡ Some (rows_for (name_of k))
+data_rows : (k : Kind) → is_data_element k ≡ true → find (name_of k) (model_types data_element) ≡ Some (rows_for (name_of k))
 data_rows kind.Property e = refl
 data_rows kind.MultiLanguageProperty e = refl
 data_rows kind.Range e = refl
@@ -103,7 +103,7 @@ data_rows kind.Blob e = refl
 data_rows kind.ReferenceElement e = refl
 data_rows k e = absurd (true≢false (sym e))
 
-no_data_rows : (k : Kind) → is_data_kind k ≡ false → find (name_of k) (model_types data_element) ≡ None
+no_data_rows : (k : Kind) → is_data_element k ≡ false → find (name_of k) (model_types data_element) ≡ None
 no_data_rows kind.Property e = absurd (true≢false e)
 no_data_rows kind.MultiLanguageProperty e = absurd (true≢false e)
 no_data_rows kind.Range e = absurd (true≢false e)

@@ -1,14 +1,16 @@
 -- Where children stand: what a parent sees of them, and of itself.
 use Rattle.std.proofs.Common.{◌≡◌, ℕ, List, [], ◌∷◌, ◌++◌, ◌&&◌, nat_le, Bool, true, map, refl, sym, ap, ◌∙◌, subst, true≢false, arith}
+use Rattle.std.proofs.lemmas.List.{append-nil}
+use Rattle.std.proofs.lemmas.Bool.{and_from}
 use Rattle.std.specs.List.{list_all}
 use Rattle.std.proofs.lemmas.Bool.{le-leb}
 use Rattle.std.proofs.lemmas.List.{map-append}
 use Rattle.aas_model_names.specs.declared.kind.Kind.{Kind}
 use Rattle.aas_model_names.specs.declared.kind.Kind.TheVariants as kind
 use Rattle.aas_json_spelling.specs.Lists.{Each}
-use Rattle.aas_json_spelling.proofs.Rows.{and_left, and_right}
+use Rattle.aas_lemmas.proofs.Truth.{and_left, and_right}
 use Rattle.aas_json_mapping.specs.Elements.{is_input, is_output, is_inoutput}
-use Rattle.aas_json_mapping.specs.Whole.{is_member, is_annotation, is_statement, is_variable, Placed, placed_over, admits, rank, in_order, is_data_element, is_placed}
+use Rattle.aas_json_mapping.specs.Whole.{is_member, is_annotation, is_statement, is_variable, Placed, placed_over, admits, rank, in_order, is_placed}
 use Rattle.aas_json_mapping.specs.Shape.{IsShaped}
 use Rattle.aas_json_mapping.proofs.Elements.{made, seen_at, seen_role}
 use Rattle.aas_model.specs.Payload.{kind_of}
@@ -18,17 +20,14 @@ use Rattle.aas_model.specs.declared.payload.Payload.TheVariants as p
 use Rattle.aas_model.specs.declared.element.Element.{Element}
 use Rattle.aas_model.specs.declared.element.Role.{Role}
 use Rattle.aas_model.specs.declared.element.Role.TheVariants as role
-use Rattle.aas_json_read.specs.Own.{is_data_kind, seen, suits, may_have, FitUnder}
-use Rattle.aas_json_read.proofs.Levels.{data_kind}
-
-both : (a b : Bool) → a ≡ true → b ≡ true → a && b ≡ true
-both a b e f = rw (e, f) refl
+use Rattle.aas_model_names.specs.KindNames.{is_data_element}
+use Rattle.aas_json_read.specs.Own.{seen, suits, may_have, FitUnder}
 
 -- ---- an element in its role
 
-suits_role : (r : Role) (k : Kind) (is_data placed : Bool) → is_data ≡ is_data_kind k → may_have k r ≡ true → placed ≡ true → suits r (record { role = r; is_data = is_data; placed = placed }) ≡ true
+suits_role : (r : Role) (k : Kind) (is_data placed : Bool) → is_data ≡ is_data_element k → may_have k r ≡ true → placed ≡ true → suits r (record { role = r; is_data = is_data; placed = placed }) ≡ true
 suits_role role.Member k is_data placed same may e = e
-suits_role role.Annotation k is_data placed same may e = both is_data placed (same ∙ may) e
+suits_role role.Annotation k is_data placed same may e = and_from is_data placed (same ∙ may) e
 suits_role role.Statement k is_data placed same may e = e
 suits_role role.Input k is_data placed same may e = e
 suits_role role.Output k is_data placed same may e = e
@@ -39,7 +38,7 @@ pub element_suits : (r : Role) (c : Common) (x : Payload) (kids : List Element) 
 element_suits r c x kids k is may fit =
     let at = seen_at r c x kids in
     let placed : (placed_over (record { common = c; payload = x; role = r; kids = map seen kids })).placed ≡ true = ap (λ (y : Placed). y.placed) (sym at) ∙ fit c x r is in
-    ap (suits r) at ∙ suits_role r k (is_data_element x) _ (data_kind x ∙ ap is_data_kind is) may placed
+    ap (suits r) at ∙ suits_role r k (is_data_element (kind_of x)) _ (ap is_data_element is) may placed
 
 -- ---- children that stand in order
 
@@ -55,7 +54,7 @@ each_is P test f h (x ∷ xs) e = (h (f x) (and_left (test (f x)) _ e), each_is 
 
 all_are : {A : Type 0} (P : A → Type 0) (test : A → Bool) → ((a : A) → P a → test a ≡ true) → (xs : List A) → Each P xs → list_all test xs ≡ true
 all_are P test h [] each = refl
-all_are P test h (x ∷ xs) each = both (test x) (list_all test xs) (h x each.0) (all_are P test h xs each.1)
+all_are P test h (x ∷ xs) each = and_from (test x) (list_all test xs) (h x each.0) (all_are P test h xs each.1)
 
 each_with : {A : Type 0} (P : A → Type 0) (xs ys : List A) → Each P xs → Each P ys → Each P (xs ++ ys)
 each_with P [] ys a b = b
@@ -77,14 +76,14 @@ from_itself n c e = le-leb n (rank c.role) (omega (arith, e))
 
 ranks_from : (n : ℕ) (cs : List Placed) → Each (IsFrom n) cs → list_all (nat_le n) (ranks cs) ≡ true
 ranks_from n [] each = refl
-ranks_from n (c ∷ cs) each = both (nat_le n (rank c.role)) _ each.0 (ranks_from n cs each.1)
+ranks_from n (c ∷ cs) each = and_from (nat_le n (rank c.role)) _ each.0 (ranks_from n cs each.1)
 
 -- children of one rank come before others that are none before it
 order_before : (n : ℕ) (xs ys : List Placed) → Each (λ c. rank c.role ≡ n) xs → Each (IsFrom n) ys → in_order (ranks ys) ≡ true → in_order (ranks (xs ++ ys)) ≡ true
 order_before n [] ys at from e = e
 order_before n (x ∷ xs) ys at from e =
     let later : Each (IsFrom n) (xs ++ ys) = each_with (IsFrom n) xs ys (each_so (λ c. rank c.role ≡ n) (IsFrom n) (from_itself n) xs at.1) from in
-    both (list_all (nat_le (rank x.role)) (ranks (xs ++ ys))) (in_order (ranks (xs ++ ys)))
+    and_from (list_all (nat_le (rank x.role)) (ranks (xs ++ ys))) (in_order (ranks (xs ++ ys)))
     (subst (λ m. list_all (nat_le m) (ranks (xs ++ ys)) ≡ true) (sym at.0) (ranks_from n (xs ++ ys) later)) (order_before n xs ys at.1 from e)
 
 -- children that are admitted, in order and placed
@@ -107,8 +106,8 @@ placed_with : (r : Role) (c : Common) (x : Payload) (kids : List Element) → St
 placed_with r c x kids s =
     let cs = map seen kids in
     ap (λ (y : Placed). y.placed) (seen_at r c x kids)
-    ∙ both (list_all (admits x) cs && in_order (ranks cs)) (list_all (λ (d : Placed). d.placed) cs)
-    (both (list_all (admits x) cs) (in_order (ranks cs)) (all_are (λ d. admits x d ≡ true) (admits x) (λ d e. e) cs s.admitted) s.order)
+    ∙ and_from (list_all (admits x) cs && in_order (ranks cs)) (list_all (λ (d : Placed). d.placed) cs)
+    (and_from (list_all (admits x) cs) (in_order (ranks cs)) (all_are (λ d. admits x d ≡ true) (admits x) (λ d e. e) cs s.admitted) s.order)
     (all_are (λ (d : Placed). d.placed ≡ true) (λ (d : Placed). d.placed) (λ d e. e) cs s.placed)
 
 -- ---- each kind
@@ -117,13 +116,9 @@ placed_with r c x kids s =
 pub none_fit : (k : Kind) → FitUnder k []
 none_fit k c x r is = placed_with r c x [] (none_stand x)
 
-append_none : {A : Type 0} (xs : List A) → xs ++ [] ≡ xs
-append_none [] = refl
-append_none (x ∷ xs) = ap (λ ys. x ∷ ys) (append_none xs)
-
 one_role : (r : Role) (x : Payload) → ((c : Placed) → suits r c ≡ true → Stands x (rank r) c) → (kids : List Element) → list_all (λ e. suits r (seen e)) kids ≡ true → Standing x (map seen kids)
 one_role r x h kids e =
-    subst (Standing x) (append_none (map seen kids)) (stand_before x (rank r) (map seen kids) [] (each_is (Stands x (rank r)) (suits r) seen h kids e) tt (none_stand x))
+    subst (Standing x) (append-nil (map seen kids)) (stand_before x (rank r) (map seen kids) [] (each_is (Stands x (rank r)) (suits r) seen h kids e) tt (none_stand x))
 
 member_rank : (r : Role) → is_member r ≡ true → rank r ≡ 0
 member_rank role.Member e = refl

@@ -1,5 +1,6 @@
 -- What a value says as a specific asset identifier is whole, whatever the order of names in it: it has no kept data.
 use Rattle.std.proofs.Common.{◌≡◌, ℕ, ◌+◌, List, [], ◌∷◌, ◌&&◌, Bool, true, Option, Some, None, option_map, map, codes, Result, Ok, Err, refl, ap, ◌∙◌}
+use Rattle.std.proofs.lemmas.Bool.{and_from}
 use Rattle.std.specs.List.{list_all}
 use Rattle.serde_json.specs.Data.{Data, null, boolean, number, string, array, object, Items, no_items, item, Members}
 use Rattle.aas_json_table.specs.Table.{Row, optional, one, many, reference, specific_asset_id, parts}
@@ -22,9 +23,6 @@ use Rattle.aas_model.specs.declared.parts.SpecificAssetId.{SpecificAssetId}
 use Rattle.aas_model.specs.declared.reference.Reference.{Reference}
 use Rattle.aas_model.specs.declared.read_fault.ReadFault.{ReadFault}
 use Rattle.aas_model.specs.declared.read_fault.ReadFault.TheVariants.{NotJson, NotMapping, TooDeep, NoMemory}
-
-both : (a b : Bool) → a ≡ true → b ≡ true → a && b ≡ true
-both a b e f = rw (e, f) refl
 
 reference_whole : (l : Levels) (j : Data) (r : Reference) → too_deep (one reference) j l ≡ None → canonical (one reference) j ≡ Some (spell_reference r) → is_whole l r ≡ true
 reference_whole l j r low e = whole_where_fits l r (said_whole r l j low e)
@@ -54,7 +52,7 @@ items_whole l (item d ds) k rs low e =
     by_first (Some x) (r ∷ qs) is e later first =
         let same : x ≡ spell_reference r = cc in
         let rest : canonical_items ds (one reference) ≡ onto (map spell_reference qs) no_items = cc in
-        both (is_whole l r) (list_all (is_whole l) qs) (first r (is ∙ ap Some same)) (later qs rest)
+        and_from (is_whole l r) (list_all (is_whole l) qs) (first r (is ∙ ap Some same)) (later qs rest)
 
 same_items : (ds es : Items) → listed ds ≡ Some (array es) → ds ≡ es
 same_items no_items es e = cc
@@ -82,8 +80,8 @@ unfolding rows_of
 object_whole l ms a low e =
     let rows = sorted (parts specific_asset_id) in
     let agree = (says specific_asset_id (parts specific_asset_id) (specific_asset_id_attributes a) ms refl refl e).agree in
-    both (whole_if_there l a.external_subject_id) _ (one_whole l ms rows (codes "externalSubjectId") a.external_subject_id low refl agree.0)
-    (both (whole_if_there l a.semantics.semantic_id) _ (one_whole l ms rows (codes "semanticId") a.semantics.semantic_id low refl agree.1.1.0)
+    and_from (whole_if_there l a.external_subject_id) _ (one_whole l ms rows (codes "externalSubjectId") a.external_subject_id low refl agree.0)
+    (and_from (whole_if_there l a.semantics.semantic_id) _ (one_whole l ms rows (codes "semanticId") a.semantics.semantic_id low refl agree.1.1.0)
     (many_whole l ms rows (codes "supplementalSemanticIds") a.semantics.supplemental_semantic_ids low refl agree.1.1.1.0))
 
 value_whole : (l : Levels) (j : Data) (a : SpecificAssetId) → too_deep (one specific_asset_id) j l ≡ None → canonical (one specific_asset_id) j ≡ Some (spell_specific_asset_id a) → whole_specific_asset_id l a ≡ true

@@ -1,7 +1,7 @@
 -- What an element has of its own: the attributes of its kind, and its children (IDTA-01001-3-0, the subclasses of SubmodelElement).
 use Rattle.std.specs.Prelude.{◌≡◌, ◌&&◌, not, ℕ, List, [], Bool, true, false, codes, filter, Option, Some, unwrap_or}
 use Rattle.serde_json.specs.Data.{Data}
-use Rattle.aas_model_names.specs.KindNames.{name_of}
+use Rattle.aas_model_names.specs.KindNames.{name_of, is_data_element}
 use Rattle.aas_model_names.specs.declared.kind.Kind.{Kind}
 use Rattle.aas_model_names.specs.declared.kind.Kind.TheVariants as kind
 use Rattle.aas_json_table.specs.Table.{Sort, element, data_element, operation_variable, MemberType, many, Row, kinds}
@@ -37,16 +37,6 @@ abbrev pub canonical_own : Kind → (List ℕ → MemberType → Option Data) �
 canonical_own k find = canonical_object (Some (sorted (own_rows k))) find
 
 -- ---- children
-
--- the subclasses of DataElement
-abbrev pub is_data_kind : Kind → Bool
-is_data_kind kind.Property = true
-is_data_kind kind.MultiLanguageProperty = true
-is_data_kind kind.Range = true
-is_data_kind kind.File = true
-is_data_kind kind.Blob = true
-is_data_kind kind.ReferenceElement = true
-is_data_kind k = false
 
 -- the elements that may have a role
 abbrev pub elements_under : Role → Sort
@@ -95,7 +85,7 @@ suits role.Inoutput c = is_inoutput c.role && c.placed
 
 -- whether an element of a kind may have a role
 abbrev pub may_have : Kind → Role → Bool
-may_have k role.Annotation = is_data_kind k
+may_have k role.Annotation = is_data_element k
 may_have k r = true
 
 -- any element of a kind with these children is placed

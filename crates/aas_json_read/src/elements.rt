@@ -9,7 +9,7 @@ ghost use Rattle.aas_json_table.specs.Spelled.{list_of};
 ghost use Rattle.aas_json_spelling.specs.Lists.{Each};
 ghost use Rattle.aas_json_mapping.specs.Elements.{rows_for, spelled_child, spell_element, spell_variable};
 ghost use Rattle.aas_json_mapping.specs.Shape.{IsShaped};
-ghost use Rattle.aas_json_read.specs.Own.{elements_under, sort_under, spell_under, FindsKids, FitUnder, seen, suits, is_data_kind, may_have};
+ghost use Rattle.aas_json_read.specs.Own.{elements_under, sort_under, spell_under, FindsKids, FitUnder, seen, suits, may_have};
 ghost use Rattle.aas_json_read.specs.Children.{AddsItems, AddsChildren};
 
 use crate::common::common_in;
@@ -228,21 +228,7 @@ fn may_have(kind: Kind, role: Role) -> bool
     ensures { result ≡ may_have kind role }
 {
     match role {
-        Role::Annotation => is_data_element(kind),
+        Role::Annotation => kind.is_data_element(),
         _ => true,
     }
-}
-
-fn is_data_element(kind: Kind) -> bool
-    ensures { result ≡ is_data_kind kind }
-{
-    matches!(
-        kind,
-        Kind::Property
-            | Kind::MultiLanguageProperty
-            | Kind::Range
-            | Kind::File
-            | Kind::Blob
-            | Kind::ReferenceElement
-    )
 }

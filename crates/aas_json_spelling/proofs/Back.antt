@@ -1,8 +1,5 @@
 -- The compact text of a value reads back as the value, where its names rise, its numbers are whole and it nests at most 127 deep.
-use Rattle.std.proofs.Common.{◌≡◌, ℕ, pos, negsuc, zero, suc, ◌<◌, ◌≤◌, max, ◌==◌, ◌/◌, ◌%◌, if◌then◌else◌, nat_lt, Bool, true, false, cond, List, [], ◌∷◌, ◌++◌, get_or, Some, option_map, option_and_then, Less, Greater, nat_cmp, IsUtf8, decimal, refl, sym, ap, ap₂, ◌∙◌, arith, append-nil}
-use Rattle.std.specs.Cmp.Lexicographic.{slice_cmp}
-use Rattle.std.specs.Ordering.{ordering_reverse}
-use Rattle.std.proofs.lemmas.Cmp.{nat_list_cmp_total}
+use Rattle.std.proofs.Common.{◌≡◌, ℕ, pos, negsuc, zero, suc, ◌<◌, ◌≤◌, max, ◌==◌, ◌/◌, ◌%◌, if◌then◌else◌, nat_lt, Bool, true, false, cond, List, [], ◌∷◌, ◌++◌, get_or, Some, option_map, option_and_then, IsUtf8, decimal, refl, sym, ap, ap₂, ◌∙◌, arith, append-nil}
 use Rattle.std.specs.Fmt.{digits, digits_onto, digit_glyph}
 use Rattle.std.proofs.lemmas.Str.{IsUtf8-append, IsUtf8-nil}
 use Rattle.std.proofs.lemmas.Fmt.{first_decimal}
@@ -21,52 +18,8 @@ use Rattle.serde_json.specs.Read.{of_json, of_items, of_members, read, number_of
 use Rattle.serde_json.specs.Written.{number_text, outline, items_outline, members_outline, compact_text, items_text, members_text, comma_if}
 use Rattle.serde_json.proofs.Numbers.{number_of-decimal, number_of-negative}
 use Rattle.serde_json.proofs.Texts.{print-outline}
-use Rattle.aas_json_spelling.specs.Values.{IsText, AreTexts, HasTexts, IsOrdered, AreOrdered, HasOrder, AreAbove, IsWholeNumber, HasWholeNumbers, HaveWholeNumbers, MembersHaveWholeNumbers}
-
--- ---- members that go in one after another
-
-then_members : Members → Members → Members
-then_members no_members ms = ms
-then_members (member k d before) ms = member k d (then_members before ms)
-
-then_none : (before : Members) → then_members before no_members ≡ before
-unfolding then_members
-then_none no_members = refl
-then_none (member k d before) = ap (member k d) (then_none before)
-
-then_one_more : (before : Members) (k : List ℕ) (d : Data) (ms : Members) → then_members (then_members before (member k d no_members)) ms ≡ then_members before (member k d ms)
-unfolding then_members
-then_one_more no_members k d ms = refl
-then_one_more (member l e before) k d ms = ap (member l e) (then_one_more before k d ms)
-
--- k is above each name of the members
-IsBelow : Members → List ℕ → Type 0
-IsBelow no_members k = Unit {0}
-IsBelow (member l e ms) k = (slice_cmp nat_cmp k l ≡ Greater) × IsBelow ms k
-
-AllBelow : Members → Members → Type 0
-AllBelow before no_members = Unit {0}
-AllBelow before (member k d ms) = IsBelow before k × AllBelow before ms
-
-none_below : (ms : Members) → AllBelow no_members ms
-unfolding IsBelow AllBelow
-none_below no_members = tt
-none_below (member k d ms) = (tt, none_below ms)
-
-put_after : (before : Members) (k : List ℕ) (d : Data) → IsBelow before k → put k d before ≡ then_members before (member k d no_members)
-unfolding then_members IsBelow
-put_after no_members k d h = refl
-put_after (member l e before) k d h = rw h.0 (ap (member l e) (put_after before k d h.1))
-
-below_more : (before : Members) (k l : List ℕ) (d : Data) → IsBelow before l → slice_cmp nat_cmp k l ≡ Less → IsBelow (then_members before (member k d no_members)) l
-unfolding then_members IsBelow
-below_more no_members k l d h less = (nat_list_cmp_total.antisymm l k ∙ ap ordering_reverse less, tt)
-below_more (member m e before) k l d h less = (h.0, below_more before k l d h.1 less)
-
-all_below_more : (before ms : Members) (k : List ℕ) (d : Data) → AllBelow before ms → AreAbove k ms → AllBelow (then_members before (member k d no_members)) ms
-unfolding AllBelow
-all_below_more before no_members k d h above = tt
-all_below_more before (member l e ms) k d h above = (below_more before k l d h.0 above.0, all_below_more before ms k d h.1 above.1)
+use Rattle.aas_json_spelling.proofs.Puts.{then_members, then_none, then_one_more, AllBelow, none_below, put_after, all_below_more}
+use Rattle.aas_json_spelling.specs.Values.{IsText, AreTexts, HasTexts, IsOrdered, AreOrdered, HasOrder, IsWholeNumber, HasWholeNumbers, HaveWholeNumbers, MembersHaveWholeNumbers}
 
 -- ---- numbers
 
@@ -92,8 +45,6 @@ of_number (float x) h = absurd h
 -- ---- the value of a value's outline
 
 mutual
-  unfolding then_members IsBelow AllBelow
-
   of_outline : (d : Data) → IsOrdered d → HasWholeNumbers d → of_json (outline d) ≡ Some d
   of_outline null o w = refl
   of_outline (boolean b) o w = refl

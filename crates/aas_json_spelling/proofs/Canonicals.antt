@@ -13,7 +13,8 @@ use Rattle.aas_json_table.specs.TooDeep.{Levels, too_deep, too_deep_items, too_d
 use Rattle.aas_json_table.specs.Canonical.{canonical, canonical_items, canonical_member, canonical_object, canonical_all, are_there, members_by, listed, add_item, add}
 use Rattle.aas_json_spelling.specs.Values.{IsOrdered, AreOrdered, HasOrder, AreAbove}
 use Rattle.aas_json_spelling.specs.Good.{Good}
-use Rattle.aas_json_spelling.proofs.Rows.{rising, rows_rise, rows_attributes, rows_again, AllNamed, named, same_text, is_attribute, are_attributes, and_left, and_right}
+use Rattle.aas_lemmas.proofs.Truth.{and_left, and_right}
+use Rattle.aas_json_spelling.proofs.Rows.{rising, rows_rise, rows_attributes, rows_again, AllNamed, named, same_text, is_attribute, are_attributes}
 use Rattle.aas_json_spelling.proofs.Fits.{first_none, map_none}
 use Rattle.aas_json_spelling.proofs.Objects.{Agree, AreGood, are_full, object_good, finds, canonical_member_is}
 use Rattle.aas_json_spelling.proofs.Members.{entered, GoodMembers, none_members, one_member, map_good}

@@ -34,7 +34,7 @@ all_there ms all (r ∷ rs) named e each = row_there r.required (is_there (get_m
 
 -- ---- the induction
 
-abbrev no_fault : Option Pointer
+abbrev pub no_fault : Option Pointer
 no_fault = None
 
 word_fits : (b : Bool) (s : List ℕ) → (if b then no_fault else Some []) ≡ no_fault → is_some (if b then Some (string s) else None) ≡ true

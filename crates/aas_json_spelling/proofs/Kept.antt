@@ -3,7 +3,7 @@ use Rattle.std.proofs.Common.{◌≡◌, ℕ, zero, suc, ◌≤◌, ◌&&◌, Li
 use Rattle.std.specs.Cmp.Lexicographic.{slice_cmp}
 use Rattle.std.specs.Str.{encode_utf8_all}
 use Rattle.std.proofs.lemmas.Str.{encodes_same}
-use Rattle.aas_lemmas.proofs.Truth.{Less-from_is_lt}
+use Rattle.aas_lemmas.proofs.Truth.{and_left, and_right, Less-from_is_lt}
 use Rattle.serde_json.specs.Data.{Data, null, boolean, array, object, no_items, Members, no_members, member}
 use Rattle.aas_json_table.specs.Table.{plain, kept}
 use Rattle.aas_json_table.specs.TooDeep.{Levels, within, enter_kept, spend}
@@ -16,7 +16,6 @@ use Rattle.aas_json_spelling.specs.Lists.{Each, each_true, most}
 use Rattle.aas_json_spelling.specs.Good.{Good}
 use Rattle.aas_json_spelling.specs.Kept.{Member, members_of, spell_plain, spell_plain_step, spell_pair_step, spell_kept, plain_depth, plain_depth_step, is_below, are_rising, Named, is_ordered, is_ordered_step, IsWholeKept}
 use Rattle.aas_json_spelling.proofs.Lists.{each_of}
-use Rattle.aas_json_spelling.proofs.Rows.{and_left, and_right}
 use Rattle.aas_json_spelling.proofs.MemberTypes.{EachGood, none_good, kept_good, kept_back, array_good, array_back, same_lists}
 use Rattle.aas_json_spelling.proofs.Members.{GoodMembers, none_members, one_member, map_good, map_back, member_back}
 

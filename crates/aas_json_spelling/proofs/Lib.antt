@@ -1,4 +1,5 @@
 pub mod Back
+pub mod Departs
 mod Examples
 pub mod Exists
 pub mod Fits
@@ -10,6 +11,8 @@ pub mod Members
 pub mod Nesting
 pub mod Objects
 pub mod Canonicals
+pub mod Conforms
+pub mod Puts
 pub mod Reading
 pub mod Rows
 pub mod Views

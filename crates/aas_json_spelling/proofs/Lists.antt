@@ -1,7 +1,7 @@
 -- What holds of each of a list.
 use Rattle.std.proofs.Common.{◌≡◌, ℕ, ◌≤◌, ◌&&◌, List, [], ◌∷◌, Bool, true, map, refl, ap₂, arith}
 use Rattle.aas_json_spelling.specs.Lists.{Each, each_true, most}
-use Rattle.aas_json_spelling.proofs.Rows.{and_left, and_right}
+use Rattle.aas_lemmas.proofs.Truth.{and_left, and_right}
 
 pub each_of : {A : Type 0} (P : A → Type 0) → ((x : A) → P x) → (xs : List A) → Each P xs
 each_of P h [] = tt

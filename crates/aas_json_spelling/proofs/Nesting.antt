@@ -6,12 +6,13 @@ use Rattle.aas_json_table.specs.Rows.{Pointer, in_member, in_item, row_named, ro
 use Rattle.aas_json_table.specs.Misfit.{misfit, misfit_items, misfit_members, misfit_member, misfit_object, misfit_all, missing}
 use Rattle.aas_json_table.specs.TooDeep.{Levels, spend, too_deep, too_deep_items, too_deep_members, too_deep_member, too_deep_object, too_deep_all, within, enter, enter_kept}
 use Rattle.aas_json_spelling.specs.Values.{HasWholeNumbers, HaveWholeNumbers, MembersHaveWholeNumbers}
-use Rattle.aas_json_spelling.proofs.Rows.{and_left, and_right, each_rows, every}
+use Rattle.aas_lemmas.proofs.Truth.{and_left, and_right}
+use Rattle.aas_json_spelling.proofs.Rows.{each_rows, every}
 use Rattle.aas_json_spelling.proofs.Fits.{first_none, map_none}
 
 -- ---- the row of a member that fits
 
-row_of : (k : List ℕ) (d : Data) (o : Option Row) → misfit_member k o (λ f. misfit f d) ≡ None → (r : Row) × (o ≡ Some r) × (misfit r.member_type d ≡ None)
+pub row_of : (k : List ℕ) (d : Data) (o : Option Row) → misfit_member k o (λ f. misfit f d) ≡ None → (r : Row) × (o ≡ Some r) × (misfit r.member_type d ≡ None)
 row_of k d None e = cc
 row_of k d (Some r) e = (r, refl, map_none (λ p. in_member k ∷ p) (misfit r.member_type d) e)
 

@@ -2,8 +2,8 @@
 use Rattle.std.proofs.Common.{◌≡◌, ℕ, List, [], ◌∷◌, ◌&&◌, Bool, true, false, IfSome, Option, Some, None, option_map, option_and_then, is_some, if◌then◌else◌, Ordering, Less, Equal, Greater, nat_cmp, is_eq, is_lt, not, refl, sym, ap, ap₂, ◌∙◌, true≢false}
 use Rattle.std.specs.Cmp.Lexicographic.{slice_cmp}
 use Rattle.std.specs.Ordering.{match_ordering}
-use Rattle.aas_lemmas.proofs.Options.{some_if}
-use Rattle.aas_lemmas.proofs.Truth.{Less-from_is_lt}
+use Rattle.std.proofs.lemmas.Option.{cond_some}
+use Rattle.aas_lemmas.proofs.Truth.{and_left, and_right, Less-from_is_lt}
 use Rattle.serde_json.specs.Data.{Data, object, Members, no_members, member}
 use Rattle.serde_json.specs.Find.{get_member}
 use Rattle.aas_json_table.specs.Table.{Sort, MemberType, one, Row}
@@ -14,7 +14,7 @@ use Rattle.aas_json_table.specs.Canonical.{canonical, canonical_member, canonica
 use Rattle.aas_json_table.specs.Spelled.{Attributes, attribute, spelled}
 use Rattle.aas_json_spelling.specs.Values.{IsOrdered, AreAbove, HasOrder}
 use Rattle.aas_json_spelling.specs.Good.{Good}
-use Rattle.aas_json_spelling.proofs.Rows.{and_left, and_right, is_below, rising, itself, other, other_back, AllNamed, named}
+use Rattle.aas_json_spelling.proofs.Rows.{is_below, rising, itself, other, other_back, AllNamed, named}
 use Rattle.aas_json_spelling.proofs.Fits.{first_none, map_none}
 
 -- ---- what stands under a name
@@ -210,7 +210,7 @@ agree_canonical (r ∷ rs) g ms a = (canonical_member_is r.name r.member_type ms
 
 -- what is required is there, and the members are those that are said
 pub there_and_same : (b : Bool) (ms ns : Members) → (if b then Some (object ms) else None) ≡ Some (object ns) → (b ≡ true) × (ms ≡ ns)
-there_and_same b ms ns e = let both = some_if b (object ms) (object ns) e in (both.0, same_inside both.1)
+there_and_same b ms ns e = let both = cond_some b (object ms) (object ns) e in (both.0, same_inside both.1)
   where
     same_inside : object ms ≡ object ns → ms ≡ ns
     same_inside is = cc

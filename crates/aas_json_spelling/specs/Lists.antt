@@ -1,14 +1,13 @@
 -- Words about lists that wholeness is said with.
-use Rattle.std.specs.Prelude.{ℕ, max, ◌&&◌, List, [], ◌∷◌, Bool, true, false, ⊤}
+use Rattle.std.specs.Prelude.{ℕ, max, List, [], ◌∷◌, Bool, true, false}
+use Rattle.std.specs.List.{AllByRecursion, list_all}
 
 -- P holds of each of the list
 abbrev pub Each : {A : Type 0} → (A → Type 0) → List A → Type 0
-Each P [] = ⊤
-Each P (x ∷ xs) = P x × Each P xs
+Each = AllByRecursion
 
 abbrev pub each_true : List Bool → Bool
-each_true [] = true
-each_true (b ∷ bs) = b && each_true bs
+each_true = list_all (λ b. b)
 
 -- the greatest of some numbers
 abbrev pub most : List ℕ → ℕ

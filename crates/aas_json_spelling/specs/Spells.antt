@@ -1,4 +1,4 @@
--- That a JSON value spells a tree (the JSON mapping of IDTA-01001-3-0, by the attribute table): it has no fault, and says what spells the tree.
+-- That a JSON value spells a tree (the JSON mapping of IDTA-01001-3-0, by the attribute table): it conforms to the table (`Conforms`), and says what spells the tree.
 use Rattle.std.specs.Prelude.{◌≡◌, ◌⊎◌, ◌≤◌, ℕ, List, Some, None, IsSome}
 use Rattle.std.specs.Str.{IsUtf8}
 use Rattle.serde_json.specs.Data.{Data}
@@ -16,7 +16,7 @@ pub record Trees (A : Type 0) : Type 1 where
   pub spell : A → Data
   pub IsWhole : Levels → A → Type 0
 
--- j spells the whole tree t, where so many levels are left.
+-- j spells the whole tree t, where so many levels are left. The first two fields say that j conforms; the walks that they speak of decide it, and name a place where it doesn't.
 pub record Spells {A : Type 0} (trees : Trees A) (levels : Levels) (j : Data) (t : A) : Type 0 where
   pub fits : misfit (one trees.sort) j ≡ None
   pub shallow : too_deep (one trees.sort) j levels ≡ None

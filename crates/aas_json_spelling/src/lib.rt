@@ -1,21 +1,24 @@
 //! When a JSON value spells a tree, by the attribute table of the JSON mapping of IDTA-01001-3-0, and what a reader answers.
 //!
-//! The functions here do nothing: their contracts are the laws that hold of every sort of tree, and of kept data. The
-//! crates that have the trees show five facts of each sort (`proofs/Laws.antt`), and have from them that a whole tree
-//! reads as itself, that a value spells one tree at most, and that of each value exactly one holds: it spells one
-//! tree, it has a mapping fault, or it lies too deep.
+//! The functions here do nothing: their contracts are the laws that hold of every sort of tree, of the walks by the
+//! table, and of kept data. A crate that has trees of its own shows five facts of each sort (`proofs/Laws.antt`), and
+//! has from them all the laws of the mapping of that sort (`specs/Mapped.antt`). How one sort is spelled, and which of
+//! its trees are whole, stands in those crates, and so do readers and writers.
 
 #![tactic(auto)]
 
-ghost use Rattle.std.specs.Prelude.{◌≡◌, ◌≤◌, ℕ, List, Some, None, is_some, true};
+ghost use Rattle.std.specs.Prelude.{◌≡◌, ◌↔◌, ◌≤◌, ℕ, List, Some, None, is_some, true};
 ghost use Rattle.std.specs.Str.{IsUtf8};
 ghost use Rattle.serde_json.specs.Data.{Data, depth};
 ghost use Rattle.serde_json.specs.Read.{read, max_depth};
 ghost use Rattle.serde_json.specs.Written.{compact_text};
 ghost use Rattle.serde_json.specs.View.{view};
 ghost use Rattle.serde_json.specs.declared.value.Value.{Value};
-ghost use Rattle.aas_json_table.specs.Table.{Sort, one, kept};
+ghost use Rattle.aas_json_table.specs.Table.{Sort, MemberType, one, kept};
+ghost use Rattle.aas_json_table.specs.Conforms.{Conforms};
+ghost use Rattle.aas_json_table.specs.Departs.{Departs};
 ghost use Rattle.aas_json_table.specs.Misfit.{misfit};
+ghost use Rattle.aas_json_table.specs.Rows.{Pointer};
 ghost use Rattle.aas_json_table.specs.TooDeep.{Levels, too_deep};
 ghost use Rattle.aas_json_table.specs.Canonical.{canonical};
 ghost use Rattle.aas_model.specs.declared.plain.Plain.{Plain};
@@ -24,6 +27,19 @@ ghost use Rattle.aas_json_spelling.specs.Spells.{IsWithinLimits};
 ghost use Rattle.aas_json_spelling.specs.Good.{Good};
 ghost use Rattle.aas_json_spelling.specs.Kept.{spell_kept, IsWholeKept};
 ghost use Rattle.aas_json_spelling.specs.Reading.{reading};
+
+/// A value conforms to the type of a member exactly where it has no mapping fault and nothing in it lies too deep.
+#[tactic(auto, using(crate::proofs::Conforms::conforms_where_clear))]
+pub fn what_conforms_has_no_fault()
+    ensures { (left : Levels) (f : MemberType) (j : Data) →
+        Conforms left f j ↔ ((misfit f j ≡ None) × (too_deep f j left ≡ None)) }
+{}
+
+/// The pointer that is named as the first mapping fault leads to a place that departs from the table.
+#[tactic(auto, using(crate::proofs::Departs::departs))]
+pub fn what_is_named_departs()
+    ensures { (f : MemberType) (j : Data) (p : Pointer) → misfit f j ≡ Some p → Departs f j p }
+{}
 
 /// An object that fits has a canonical value.
 #[tactic(auto, using(crate::proofs::Fits::fits_one))]

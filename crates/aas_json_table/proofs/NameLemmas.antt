@@ -10,7 +10,7 @@ use Rattle.aas_json_table.specs.Rows as rows
 bytes_differ : (s t : List ℕ) → (s ≡ t → ⊥) → bytes_eq s t ≡ false
 bytes_differ s t differ = false_from_ne_true (bytes_eq s t) (λ e. differ ((bytes_eq-Decides s t).0 e))
 
-pub has_later : (b x : Bool) → x ≡ true → cond b true x ≡ true
+has_later : (b x : Bool) → x ≡ true → cond b true x ≡ true
 has_later true x e = refl
 has_later false x e = e
 

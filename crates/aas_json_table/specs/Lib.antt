@@ -1,3 +1,5 @@
+pub mod Conforms
+pub mod Departs
 pub mod Examples
 pub mod Misfit
 pub mod Names

@@ -2,7 +2,7 @@
 use Rattle.std.proofs.Common.{◌≡◌, ℕ, zero, suc, ◌<◌, Bool, true, List, [], ◌∷◌, length, get_or, map, option_map, ap, ◌∙◌, arith}
 use Rattle.aas_json_table.specs.TooDeep.{Levels}
 use Rattle.aas_json_spelling.specs.Lists.{each_true}
-use Rattle.aas_json_spelling.proofs.Rows.{and_left, and_right}
+use Rattle.aas_lemmas.proofs.Truth.{and_left, and_right}
 use Rattle.aas_json_spelling.specs.Kept.{kept_depth, spell_kept, IsWholeKept}
 use Rattle.aas_json_write.specs.Ordered.{ordered}
 use Rattle.aas_json_write.proofs.OrderedObjects as objects

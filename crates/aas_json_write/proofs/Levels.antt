@@ -5,7 +5,7 @@ use Rattle.aas_json_table.specs.Canonical.{listed}
 use Rattle.aas_json_table.specs.Spelled.{attribute, spelled, list_of, onto}
 use Rattle.aas_json_table.specs.Table.{Row}
 use Rattle.aas_json_spelling.specs.Lists.{each_true}
-use Rattle.aas_json_spelling.proofs.Rows.{and_left, and_right}
+use Rattle.aas_lemmas.proofs.Truth.{and_left, and_right}
 use Rattle.aas_json_members.specs.Building.{put_some}
 use Rattle.aas_json_members.proofs.Built.{built_is}
 use Rattle.aas_json_mapping.specs.Elements.{Child, spell_over, spelled_child, spell_element, rows_for, model_type_of, element_attributes, children_attribute, variables_attribute, is_input, is_output, is_inoutput}
@@ -118,11 +118,3 @@ has_none (p.SubmodelElementList o s t v) annotated entity collection list operat
 pub closed_childless : (e : Element) (ms : Members) (d : Data) → ((ks : List Child) (before : Members) → with_own (out-Element e).payload [] before ≡ with_own (out-Element e).payload ks before)
     → ms ≡ childless (out-Element e).common (out-Element e).payload → d ≡ object ms → d ≡ spell_element e
 closed_childless e ms d none before said = said ∙ ap object (before ∙ none (map spelled_child (out-Element e).kids) (with_common (out-Element e).common (out-Element e).payload)) ∙ spelled_out e
-
-map_twice : {A B C : Type 0} (g : B → C) (f : A → B) (xs : List A) → map g (map f xs) ≡ map (λ x. g (f x)) xs
-map_twice g f [] = refl
-map_twice g f (x ∷ xs) = ap (λ ys. g (f x) ∷ ys) (map_twice g f xs)
-
--- children, spelled as a list of elements
-pub elements_list : (ks : List Element) → children_attribute (map spelled_child ks) ≡ list_of spell_element ks
-elements_list ks = ap (λ ds. listed (onto ds no_items)) (map_twice (λ (c : Child). c.spelling) spelled_child ks)

@@ -1,6 +1,6 @@
 -- Options.
-use Rattle.std.proofs.Common.{◌≡◌, Bool, true, false, if◌then◌else◌, Some, None, refl}
+use Rattle.std.proofs.Common.{◌≡◌, true, false, Option, Some, None, is_some, refl, sym, true≢false}
 
-pub some_if : {A : Type 0} (b : Bool) (x y : A) → (if b then Some x else None) ≡ Some y → (b ≡ true) × (x ≡ y)
-some_if true x y e = (refl, cc)
-some_if false x y e = cc
+pub some_there : {A : Type 0} (o : Option A) → is_some o ≡ true → (x : A) × (o ≡ Some x)
+some_there None e = absurd (true≢false (sym e))
+some_there (Some x) e = (x, refl)

@@ -5,5 +5,6 @@ pub mod DatesExact
 pub mod TimesExact
 pub mod DurationsExact
 pub mod MediaExact
+pub mod NamesAscii
 pub mod NamesExact
 pub mod NativesExact

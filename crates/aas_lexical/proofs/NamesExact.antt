@@ -6,7 +6,7 @@ use Rattle.aas_lexical_forms.specs.Cut.{cut_all}
 use Rattle.aas_lexical_forms.proofs.Begin.{Stops, Apart-among, Avoids-one, Avoids-lit, Avoids-then, Needs-word, past_many}
 use Rattle.aas_lexical_forms.proofs.Cuts.{Cuts, End, Cuts-lit, Cuts-one, Cuts-any, Cuts-run, Cuts-then, Cuts-next, Cuts-either, whole}
 use Rattle.aas_lexical_forms.proofs.Repeat.{Nonempty, Nonempty-lit, Nonempty-then, Cuts-many, Cuts-up_to, Shrinks, Shrinks-cut, cut_many_turn, cut_many_end}
-use Rattle.aas_lexical.specs.Names.{language, is_nonzero_digit, version, is_name_byte, name, id_short}
+use Rattle.aas_lexical.specs.Names.{language, is_nonzero_digit, version, is_name_character, name, id_short}
 use Rattle.aas_lexical.specs.Cut.Names.{after_subtag, after_subtags, after_language, after_version, after_name, after_id_short}
 
 -- ---- languages
@@ -48,8 +48,8 @@ pub version_exact : (t : List ℕ) → (after_version t ≡ Some []) ↔ version
 version_exact t = whole (Cuts-either (Cuts-lit "0") (Cuts-next (Cuts-one is_nonzero_digit) (Cuts-up_to (Cuts-any is_ascii_digit) 3)) {Next = End}
     (Needs-word 48 []) (Avoids-then (Avoids-one is_nonzero_digit (among "0") (Apart-among "123456789" (among "0") refl))) (λ z k. (tt, rw k tt))) refl t
 
-name_cuts : Cuts name (Stops is_name_byte) after_name
-name_cuts = Cuts-next (Cuts-one is_ascii_alphabetic) (Cuts-any is_name_byte)
+name_cuts : Cuts name (Stops is_name_character) after_name
+name_cuts = Cuts-next (Cuts-one is_ascii_alphabetic) (Cuts-any is_name_character)
 
 pub name_exact : (t : List ℕ) → (after_name t ≡ Some []) ↔ name t
 name_exact t = whole name_cuts tt t

@@ -18,16 +18,20 @@ is_nonzero_digit = among "123456789"
 abbrev pub version : List ℕ → Type 0
 version = lit "0" ∣ (one is_nonzero_digit ▸ up_to 3 (any is_ascii_digit))
 
-abbrev pub is_name_byte : ℕ → Bool
-is_name_byte b = is_ascii_alphanumeric b || among "_" b
+abbrev pub is_name_character : ℕ → Bool
+is_name_character c = is_ascii_alphanumeric c || among "_" c
 
 -- A name: a letter, and then letters, digits and `_`. IDTA-01001-3-0, constraint AASd-002.
 abbrev pub name : List ℕ → Type 0
-name = one is_ascii_alphabetic ▸ any is_name_byte
+name = one is_ascii_alphabetic ▸ any is_name_character
 
--- A short name has at most 128 characters. IDTA-01001-3-0, NameType.
+-- IDTA-01001-3-0, NameType
+abbrev pub most_name_characters : ℕ
+most_name_characters = 128
+
+-- A short name is no longer.
 abbrev pub id_short : List ℕ → Type 0
-id_short = up_to 128 name
+id_short = up_to most_name_characters name
 
 -- An identifier, by its characters: 1 to 2048 of them. This profile's own rule.
 abbrev pub IsIdentifier : List ℕ → Type 0

@@ -16,7 +16,10 @@ mod time;
 mod value;
 
 pub use media::is_media_type;
-pub use name::{is_id_short, is_identifier, is_language, is_name, is_string, is_version};
+pub use name::{
+    MOST_NAME_CHARACTERS, NameCharacter, is_id_short, is_identifier, is_language, is_name,
+    is_string, is_version,
+};
 pub use natives::Native;
 pub use time::is_utc_date_time;
 pub use value::{fits, native};

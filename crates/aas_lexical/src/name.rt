@@ -4,33 +4,45 @@ ghost use Rattle.std.specs.Str.{chars};
 ghost use Rattle.aas_lexical.specs.Names as form;
 ghost use Rattle.aas_lexical.specs.Cut.Names as cut;
 
-use aas_lexical_forms::{Ascii, ByteClass, after_any, after_one, after_run, after_word, is_whole, within};
+use aas_lexical_forms::{
+    Ascii, ByteClass, after_any, after_one, after_run, after_word, is_whole, within,
+};
 
 /// The most characters that a short name has.
-const MOST_NAME_CHARACTERS: usize = 128;
+///
+/// IDTA-01001-3-0, NameType.
+pub const MOST_NAME_CHARACTERS: usize = 128;
 
 /// The most characters that an identifier has.
 const MOST_IDENTIFIER_CHARACTERS: usize = 2048;
 
-/// The bytes of names and versions.
+/// `1` to `9`.
 #[derive(Clone, Copy)]
-enum NameByte {
-    /// `1` to `9`.
-    NonzeroDigit,
-    /// A letter, a digit or `_`.
-    Name,
-}
+struct NonzeroDigit;
 
-impl ByteClass for NameByte {
-    ghost use Rattle.aas_lexical.specs.Cut.Names.{is_in};
+impl ByteClass for NonzeroDigit {
+    ghost use Rattle.aas_lexical.specs.Names.{is_nonzero_digit};
 
-    ghost is_in = { is_in };
+    ghost is_in = { λ _. is_nonzero_digit };
 
     fn contains(self, byte: u8) -> bool {
-        match self {
-            NameByte::NonzeroDigit => matches!(byte, b'1'..=b'9'),
-            NameByte::Name => byte.is_ascii_alphanumeric() || byte == b'_',
-        }
+        matches!(byte, b'1'..=b'9')
+    }
+}
+
+/// What follows the first letter of a name: an ASCII letter, a digit or `_`.
+///
+/// IDTA-01001-3-0, constraint AASd-002.
+#[derive(Clone, Copy)]
+pub struct NameCharacter;
+
+impl ByteClass for NameCharacter {
+    ghost use Rattle.aas_lexical.specs.Names.{is_name_character};
+
+    ghost is_in = { λ _. is_name_character };
+
+    fn contains(self, byte: u8) -> bool {
+        byte.is_ascii_alphanumeric() || byte == b'_'
     }
 }
 
@@ -69,7 +81,7 @@ fn after_version(text: &[u8]) -> Option<&[u8]>
     if let Some(rest) = after_word(b"0", text) {
         return Some(rest);
     }
-    let digits = after_one(NameByte::NonzeroDigit, text)?;
+    let digits = after_one(NonzeroDigit, text)?;
     within(3, digits, after_any(Ascii::Digit, digits))
 }
 
@@ -77,7 +89,7 @@ fn after_version(text: &[u8]) -> Option<&[u8]>
 fn after_name(text: &[u8]) -> Option<&[u8]>
     ensures { option_map (λ x. x.now) result ≡ cut.after_name text.now }
 {
-    Some(after_any(NameByte::Name, after_one(Ascii::Letter, text)?))
+    Some(after_any(NameCharacter, after_one(Ascii::Letter, text)?))
 }
 
 /// The text behind a short name.

@@ -1,3 +1,11 @@
 pub mod Faults
+pub mod Frame
 pub mod Link
+pub mod MemCalls
+pub mod MemConnection
+pub mod MemKeeper
+pub mod MemKeeperLaw
 pub mod MemLink
+pub mod MemWire
+pub mod Moments
+pub mod Surroundings

@@ -2,6 +2,7 @@
 ghost use Rattle.std.specs.Prelude.{◌≡◌, List, ℕ, Option};
 ghost use Rattle.aas_outside.specs.Faults.{HasCause};
 ghost use Rattle.aas_outside.specs.Link.{Takes, Gives};
+ghost use Rattle.aas_outside.specs.Surroundings.{Surroundings, no_surroundings};
 
 use thiserror::Error;
 
@@ -23,11 +24,15 @@ pub trait Link {
     /// How many calls have failed. It stands still at 2^64 - 1.
     ghost faults: { Self → ℕ };
 
+    /// What surrounds the connection, where the link is a wire.
+    ghost surroundings: { Self → Surroundings } = { λ _. no_surroundings };
+
     /// Moves bytes from the front of what is left to the front of `buf`, and answers how many: 0
     /// for a buffer with room only at the end of the input. Where it fails none is taken.
     fn take(&mut self, buf: &mut [u8]) -> Result<usize, Failed>
         ensures taken { Takes (left self.old) (left self.new) result buf.new }
         ensures sent { sent self.new ≡ sent self.old }
+        ensures surroundings { surroundings self.new ≡ surroundings self.old }
         ensures cause { HasCause (faults self.old) (faults self.new) result };
 
     /// Appends the front of `bytes` to what is sent, and answers how many bytes that was: never 0
@@ -35,5 +40,6 @@ pub trait Link {
     fn give(&mut self, bytes: &[u8]) -> Result<usize, Failed>
         ensures given { Gives (sent self.old) (sent self.new) result bytes.now }
         ensures left { left self.new ≡ left self.old }
+        ensures surroundings { surroundings self.new ≡ surroundings self.old }
         ensures cause { HasCause (faults self.old) (faults self.new) result };
 }

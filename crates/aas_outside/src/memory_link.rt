@@ -1,9 +1,13 @@
 // A link in memory, for tests: its input, what was given to it, and the calls that fail.
-ghost use Rattle.std.specs.Prelude.{◌≡◌, ◌<◌, ◌≤◌, ◌⊎◌, ◌↔◌, ◌+◌, [], Some, length, Contains, IfOk, IsErr};
+ghost use Rattle.std.specs.Prelude.{◌≡◌, ◌<◌, ◌≤◌, ◌-◌, ◌⊎◌, ◌↔◌, [], Some, length, min, IfOk, IsErr, MatchResult};
 ghost use Rattle.aas_outside.specs.Faults.{HasCause};
 ghost use Rattle.aas_outside.specs.Link.{Takes, Gives};
-ghost use Rattle.aas_outside.specs.MemLink.{next_call, taken_count, given_count, IsCalled};
+ghost use Rattle.aas_outside.specs.MemCalls.{IsNextFailing};
+ghost use Rattle.aas_outside.specs.MemConnection.{taken_count};
+ghost use Rattle.aas_outside.specs.MemLink.{IsCalled};
 
+use crate::memory_calls::MemCalls;
+use crate::memory_connection::MemConnection;
 use crate::{Failed, Link};
 use aas_model_text::NoMemory;
 use std::alloc::Global;
@@ -14,34 +18,26 @@ use std::marker::Model;
 /// Contracts see it as a `MemLinkState`.
 #[derive(Drop)]
 pub struct MemLink {
-    input: Vec<u8>,
-    taken: usize,
-    output: Vec<u8>,
-    given: usize,
+    connection: MemConnection,
     piece: usize,
-    fails: Vec<u64>,
-    calls: u64,
+    calls: MemCalls,
     faults: u64,
 }
 
 impl Model for MemLink {
-    ghost use Rattle.std.specs.Prelude.{◌<◌, ◌≤◌, length, take, drop};
+    ghost use Rattle.std.specs.Prelude.{◌<◌};
     ghost use Rattle.aas_outside.specs.MemLink.{MemLinkState};
 
     ghost Value = { MemLinkState };
 
     ghost view = { λ link. record {
-      left = drop link.taken link.input.items;
-      sent = take link.given link.output.items;
+      connection = link.connection;
       piece = link.piece;
-      capacity = length link.output.items;
-      fails = link.fails.items;
       calls = link.calls;
       faults = link.faults;
     } };
 
-    ghost invariant = { λ link. (0 < link.piece) × (link.taken ≤ length link.input.items)
-        × (link.given ≤ length link.output.items) };
+    ghost invariant = { λ link. 0 < link.piece };
 }
 
 impl MemLink {
@@ -57,81 +53,68 @@ impl MemLink {
     ) -> Result<MemLink, NoMemory>
         requires { 1 ≤ piece }
         ensures { IfOk result (λ link. link ≡ record {
-          left = input.now;
-          sent = [];
+          connection = record { left = input.now; sent = []; room = capacity };
           piece = piece;
-          capacity = capacity;
-          fails = fails.now;
-          calls = 0;
+          calls = record { fails = fails.now; made = 0 };
           faults = 0;
         }) }
     {
         Ok(MemLink {
-            input: input.to_vec(alloc)?,
-            taken: 0,
-            output: vec![in alloc; 0; capacity]?,
-            given: 0,
+            connection: MemConnection::new(alloc, input, capacity)?,
             piece,
-            fails: fails.to_vec(alloc)?,
-            calls: 0,
+            calls: MemCalls::new(alloc, fails)?,
             faults: 0,
         })
     }
 
     /// The bytes that were given.
     pub fn sent(&self) -> &[u8]
-        ensures { result.now ≡ self.now.sent }
+        ensures { result.now ≡ self.now.connection.sent }
     {
-        &self.output[..self.given]
+        self.connection.sent()
     }
 }
 
 impl Link for MemLink {
-    ghost left = { λ link. Some link.left };
+    ghost left = { λ link. Some link.connection.left };
 
-    ghost sent = { λ link. Some link.sent };
+    ghost sent = { λ link. Some link.connection.sent };
 
     ghost faults = { λ link. link.faults };
 
     fn take(&mut self, buf: &mut [u8]) -> Result<usize, Failed>
-        ensures taken { Takes (Some self.old.left) (Some self.new.left) result buf.new }
-        ensures sent { self.new.sent ≡ self.old.sent }
+        ensures taken { Takes (Some self.old.connection.left) (Some self.new.connection.left) result buf.new }
+        ensures sent { self.new.connection.sent ≡ self.old.connection.sent }
         ensures cause { HasCause self.old.faults self.new.faults result }
         ensures called { IsCalled self.old self.new result }
-        ensures fails { IsErr result ↔ Contains self.old.fails (next_call self.old) }
-        ensures count { IfOk result (λ n. n ≡ taken_count self.old (length buf.old)) }
+        ensures fails { IsErr result ↔ IsNextFailing self.old.calls }
+        ensures count { IfOk result (λ n. n ≡ taken_count self.old.connection self.old.piece (length buf.old)) }
+        ensures room { self.new.connection.room ≡ self.old.connection.room }
     {
-        self.calls = self.calls.saturating_add(1);
-        if self.fails.as_slice().contains(&self.calls) {
+        if self.calls.next_fails() {
             self.faults = self.faults.saturating_add(1);
             return Err(Failed);
         }
-        let left = &self.input[self.taken..];
-        let count = self.piece.min(buf.len()).min(left.len());
-        buf[..count].copy_from_slice(&left[..count]);
-        self.taken += count;
-        Ok(count)
+        Ok(self.connection.take(self.piece, buf))
     }
 
     fn give(&mut self, bytes: &[u8]) -> Result<usize, Failed>
-        ensures given { Gives (Some self.old.sent) (Some self.new.sent) result bytes.now }
-        ensures left { self.new.left ≡ self.old.left }
+        ensures given { Gives (Some self.old.connection.sent) (Some self.new.connection.sent) result bytes.now }
+        ensures left { self.new.connection.left ≡ self.old.connection.left }
         ensures cause { HasCause self.old.faults self.new.faults result }
         ensures called { IsCalled self.old self.new result }
-        ensures fails { IsErr result ↔ (Contains self.old.fails (next_call self.old)
-            ⊎ (self.old.capacity < length self.old.sent + given_count self.old (length bytes.now))) }
-        ensures count { IfOk result (λ n. n ≡ given_count self.old (length bytes.now)) }
+        ensures fails { IsErr result ↔ (IsNextFailing self.old.calls
+            ⊎ (self.old.connection.room < min self.old.piece (length bytes.now))) }
+        ensures count { IfOk result (λ n. n ≡ min self.old.piece (length bytes.now)) }
+        ensures room { MatchResult result (λ n. self.new.connection.room ≡ self.old.connection.room - n)
+            (λ _. self.new.connection.room ≡ self.old.connection.room) }
     {
-        self.calls = self.calls.saturating_add(1);
         let count = self.piece.min(bytes.len());
-        let room = self.output.len() - self.given;
-        if self.fails.as_slice().contains(&self.calls) || room < count {
+        if self.calls.next_fails() || self.connection.room() < count {
             self.faults = self.faults.saturating_add(1);
             return Err(Failed);
         }
-        let end = self.given + count;
-        self.output[self.given..end].copy_from_slice(&bytes[..count]);
-        self.given = end;
+        self.connection.give(&bytes[..count]);
         Ok(count)
     }
 }

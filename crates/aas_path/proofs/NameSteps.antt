@@ -4,11 +4,9 @@ use Rattle.std.proofs.Math.Numerals.{add-one}
 use Rattle.std.proofs.Math.Seq.{take-add}
 use Rattle.std.proofs.lemmas.Bool.Decides.{nat_tests}
 use Rattle.std.proofs.lemmas.List.{take-append-drop, take-take, take_rest, length-take-le, drop_more, take_more}
-use Rattle.std.proofs.lemmas.Str.{encodes-IsAscii}
-use Rattle.std.proofs.lemmas.Str.Ascii.{IsAscii-nil, IsAscii-cons}
 use Rattle.std.specs.Char.{is_ascii_alphabetic, is_ascii_alphanumeric}
 use Rattle.std.specs.List.{list_all}
-use Rattle.std.specs.Str.{IsAscii, encode_utf8_all}
+use Rattle.std.specs.Str.{encode_utf8_all}
 use Rattle.aas_lexical_forms.specs.Form.{one, any, ◌▸◌}
 use Rattle.aas_lexical_forms.proofs.Begin.{and_split}
 use Rattle.aas_model.specs.declared.path.PathStep.{PathStep}
@@ -17,15 +15,14 @@ use Rattle.aas_path.specs.PathText.{step_text}
 use Rattle.aas_path.specs.Runs.{BeginsWith, Stops, IsRun}
 use Rattle.aas_path.specs.StepText.{EndsStep, IsStep, IsNoStep}
 use Rattle.aas_path.proofs.RunsFound.{front_no_longer, same_front}
-use Rattle.aas_path_trees.specs.PathRule.{is_name_character, id_short, StepKeepsRule}
+use Rattle.aas_lexical.proofs.NamesAscii.{name_bytes}
+use Rattle.aas_lexical.specs.Names.{is_name_character, id_short}
+use Rattle.aas_path_trees.specs.PathRule.{StepKeepsRule}
 
--- ---- names are ASCII
+-- ---- the characters of names
 
 letter_in_name : (c : ℕ) → is_ascii_alphabetic c ≡ true → is_name_character c ≡ true
 letter_in_name c h = grind (arith, nat_tests)
-
-character_ascii : (c : ℕ) → is_name_character c ≡ true → c < 128
-character_ascii c h = grind (arith, nat_tests)
 
 end_not_in_name : (c : ℕ) → (c ≡ 46) ⊎ (c ≡ 91) → is_name_character c ≡ false
 end_not_in_name c (inl e) = rw e refl
@@ -34,10 +31,6 @@ end_not_in_name c (inr e) = rw e refl
 pub end_stops_name : (text : List ℕ) → EndsStep text → Stops is_name_character text
 end_stops_name [] e = tt
 end_stops_name (c ∷ text) e = end_not_in_name c e
-
-characters_ascii : (n : List ℕ) → any is_name_character n → IsAscii n
-characters_ascii [] a = IsAscii-nil
-characters_ascii (c ∷ n) a = let s = and_split (is_name_character c) (list_all is_name_character n) a in IsAscii-cons c n (character_ascii c s.0) (characters_ascii n s.1)
 
 -- what a name is, character by character
 pub record IsName (n : List ℕ) : Type 0 where
@@ -63,9 +56,6 @@ pub name_to : (n : List ℕ) → IsName n → id_short n
 name_to [] h = absurd h.begins
 name_to (c ∷ n) h = ((c ∷ [], n, refl, (h.begins, refl), (and_split (is_name_character c) (list_all is_name_character n) h.all).1), h.short)
 
-pub encoded : (n : List ℕ) → id_short n → encode_utf8_all n ≡ n
-encoded n h = encodes-IsAscii n (characters_ascii n (name_from n h).all)
-
 -- ---- a step by name, behind its dot
 
 pub record NameStep (text : List ℕ) (s : PathStep) (rest : List ℕ) : Type 0 where
@@ -84,11 +74,11 @@ dotted_name : (text n m rest : List ℕ) → id_short n → m ≡ n → 46 ∷ t
 dotted_name text n m rest keeps same whole = record { name = n; is = refl; good = name_from n keeps; whole = tails 46 text (m ++ rest) whole ∙ ap (λ (m : List ℕ). m ++ rest) same }
 
 pub dotted : (text : List ℕ) (s : PathStep) (rest : List ℕ) → IsStep (46 ∷ text) s rest → NameStep text s rest
-dotted text (Name n) rest h = dotted_name text n (encode_utf8_all n) rest h.keeps (encoded n h.keeps) h.whole
+dotted text (Name n) rest h = dotted_name text n (encode_utf8_all n) rest h.keeps (name_bytes n h.keeps.0) h.whole
 dotted text (Place i) rest h = absurd (dot_no_bracket text ((decimal i ++ codes "]") ++ rest) h.whole)
 
 pub name_step_text : (n : List ℕ) → id_short n → 46 ∷ n ≡ step_text (Name n)
-name_step_text n h = ap (λ (m : List ℕ). 46 ∷ m) (sym (encoded n h))
+name_step_text n h = ap (λ (m : List ℕ). 46 ∷ m) (sym (name_bytes n h.0))
 
 -- a text that has a name at its front, and what ends a step behind it, is a step
 pub is_name : (text : List ℕ) (n : ℕ) → IsName (take n text) → EndsStep (drop n text) → IsStep (46 ∷ text) (Name (take n text)) (drop n text)
@@ -195,9 +185,6 @@ wrong_end text n run begins short not =
 
 pub good_name : (text : List ℕ) (n : ℕ) → IsRun is_name_character text n → BeginsWith is_ascii_alphabetic text → n ≤ 128 → id_short (take n text)
 good_name text n run begins short = name_to (take n text) (record { begins = begins_run text n run begins; all = run.front; short = omega (arith, length-take-le n text run.within) })
-
-pub name_ascii : (n : List ℕ) → id_short n → IsAscii n
-name_ascii n h = characters_ascii n (name_from n h).all
 
 -- a name that was cut off, with what is behind it
 pub cut_name : (text name : List ℕ) (n : ℕ) → name ≡ take n text → id_short (take n text) → EndsStep (drop n text) → IsStep (46 ∷ text) (Name name) (take (length text - n) (drop n text))

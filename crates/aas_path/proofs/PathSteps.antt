@@ -17,7 +17,8 @@ use Rattle.aas_path.specs.declared.path_fault.PathFault.TheVariants.{BadPath, No
 use Rattle.aas_path.proofs.NameSteps.{dot_no_bracket, NameStep, dotted, end_stops_name}
 use Rattle.aas_path.proofs.PlaceSteps.{PlaceStep, bracketed}
 use Rattle.aas_path.proofs.RunsFound.{same_front}
-use Rattle.aas_path_trees.specs.PathRule.{is_name_character, StepKeepsRule, KeepsRule}
+use Rattle.aas_lexical.specs.Names.{is_name_character}
+use Rattle.aas_path_trees.specs.PathRule.{StepKeepsRule, KeepsRule}
 
 abbrev Keep : List PathStep → Type 0
 Keep p = AllByRecursion StepKeepsRule p

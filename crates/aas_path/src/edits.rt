@@ -1,6 +1,6 @@
 ghost use Rattle.std.specs.Prelude.{◌≡◌, ◌<◌, ◌↔◌, [], ◌∷◌, ◌++◌, length, Some, None, Ok, Err, IfOk, IfErr, OnOk, OnErr, IfSome, MatchOption, true, false};
 ghost use Rattle.aas_path_trees.specs.ElementAt.{element_at, depth_found};
-ghost use Rattle.aas_path_trees.specs.Edits.{fits_role, inserted, is_data, replaced, role_under, role_within, with_last};
+ghost use Rattle.aas_path_trees.specs.Edits.{fits_role, inserted, replaced, role_under, role_within, with_last};
 ghost use Rattle.aas_path_trees.specs.Children.{role_of, with_role};
 ghost use Rattle.aas_model.specs.declared.path.Missing.{Missing};
 ghost use Rattle.aas_path.specs.Refusals.{IsMissing, IsNoContainer, IsUnfit};
@@ -24,20 +24,6 @@ pub enum InsertFault {
     NoMemory,
 }
 
-fn is_data(payload: &Payload) -> bool
-    ensures { result ≡ is_data payload.now }
-{
-    match payload {
-        Payload::Property { .. }
-        | Payload::MultiLanguageProperty { .. }
-        | Payload::Range { .. }
-        | Payload::File { .. }
-        | Payload::Blob { .. }
-        | Payload::ReferenceElement { .. } => true,
-        _ => false,
-    }
-}
-
 fn role_within(payload: &Payload) -> Option<Role>
     ensures { result ≡ role_within payload.now }
 {
@@ -56,7 +42,7 @@ fn fits_role(element: &Element, role: Role) -> bool
     ensures { result ≡ fits_role element.now role }
 {
     match role {
-        Role::Annotation => is_data(&element.payload),
+        Role::Annotation => element.payload.kind().is_data_element(),
         _ => true,
     }
 }

@@ -3,27 +3,14 @@ ghost use Rattle.aas_model.specs.declared.path.PathStep.{PathStep};
 ghost use Rattle.aas_path.specs.ParseFaults.{IsStepFault, IsPathFault, behind};
 ghost use Rattle.aas_path.specs.PathText.{IsPath};
 ghost use Rattle.aas_path.specs.StepText.{EndsStep, IsPlace, IsStep, IsNoStep, most_digits};
-ghost use Rattle.aas_path_trees.specs.PathRule.{id_short};
+ghost use Rattle.aas_lexical.specs.Names.{id_short};
 
 use crate::path_fault::PathFault;
 use crate::runs::{begins_with, run_len};
-use aas_lexical_forms::{Ascii, ByteClass, after_word};
+use aas_lexical::{MOST_NAME_CHARACTERS, NameCharacter};
+use aas_lexical_forms::{Ascii, after_word};
 use aas_model::{Many, NoMemory, Path, PathStep, Text};
 use std::alloc::Global;
-
-/// A letter, a digit or `_`.
-#[derive(Clone, Copy)]
-struct NameCharacter;
-
-impl ByteClass for NameCharacter {
-    ghost use Rattle.aas_path_trees.specs.PathRule.{is_name_character};
-
-    ghost is_in = { λ _. is_name_character };
-
-    fn contains(self, byte: u8) -> bool {
-        byte.is_ascii_alphanumeric() || byte == b'_'
-    }
-}
 
 fn ends_step(rest: &[u8]) -> bool
     ensures { IsTrue result ↔ EndsStep rest.now }
@@ -40,8 +27,8 @@ fn name_len(text: &[u8]) -> Result<usize, usize>
     let len = run_len(NameCharacter, text);
     if !begins_with(Ascii::Letter, text) {
         Err(0)
-    } else if len > 128 {
-        Err(128)
+    } else if len > MOST_NAME_CHARACTERS {
+        Err(MOST_NAME_CHARACTERS)
     } else if ends_step(&text[len..]) {
         Ok(len)
     } else {

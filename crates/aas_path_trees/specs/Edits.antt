@@ -3,6 +3,8 @@
 -- containers, and what a container takes, restates the classes of IDTA-01001-3-0.
 use Rattle.std.specs.Prelude.{ℕ, Bool, true, false, if◌then◌else◌, List, [], ◌∷◌, ◌++◌, remove, Option, Some, None, option_and_then}
 use Rattle.std.specs.Option.{option_map_or}
+use Rattle.aas_model_names.specs.KindNames.{is_data_element}
+use Rattle.aas_model.specs.Payload.{kind_of}
 use Rattle.aas_model.specs.declared.documents.Submodel.{Submodel}
 use Rattle.aas_model.specs.declared.element.Element.{Element, out-Element}
 use Rattle.aas_model.specs.declared.element.Role.{Role}
@@ -14,16 +16,6 @@ use Rattle.aas_path_trees.specs.Children.{kids_of, role_of, is_list, with_kids, 
 use Rattle.aas_path_trees.specs.ElementAt.{child_by, element_at}
 use Rattle.aas_path_trees.specs.WithElement.{with_child, with_element}
 
--- the subclasses of DataElement
-abbrev pub is_data : Payload → Bool
-is_data (payload.Property _ _ _) = true
-is_data (payload.MultiLanguageProperty _ _) = true
-is_data (payload.Range _ _ _) = true
-is_data (payload.File _ _) = true
-is_data (payload.Blob _ _) = true
-is_data (payload.ReferenceElement _) = true
-is_data p = false
-
 -- the role of a new child, for each container; none of other kinds
 abbrev pub role_within : Payload → Option Role
 role_within payload.SubmodelElementCollection = Some Member
@@ -34,7 +26,7 @@ role_within p = None
 
 -- an annotation is a data element
 abbrev pub fits_role : Element → Role → Bool
-fits_role e Annotation = is_data (out-Element e).payload
+fits_role e Annotation = is_data_element (kind_of (out-Element e).payload)
 fits_role e r = true
 
 abbrev pub if_fits : Element → Role → Option Role

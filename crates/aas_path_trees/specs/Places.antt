@@ -6,7 +6,7 @@ use Rattle.aas_model.specs.declared.element.Element.{Element}
 use Rattle.aas_model.specs.declared.path.PathStep.{PathStep}
 use Rattle.aas_path_trees.specs.Children.{kids_of, id_short_of, is_list}
 use Rattle.aas_path_trees.specs.ElementAt.{child_by}
-use Rattle.aas_path_trees.specs.PathRule.{id_short}
+use Rattle.aas_lexical.specs.Names.{id_short}
 
 -- the element in a place, counted from e
 unfoldable pub element_in : List ℕ → Element → Option Element
@@ -41,8 +41,12 @@ pub record SiblingsDiffer (d : Submodel) : Type 0 where
 abbrev pub AreNamed : List Element → Type 0
 AreNamed ks = (i : ℕ) (k : Element) (n : List ℕ) → slice_get ks i ≡ Some k → id_short_of k ≡ Some n → id_short n
 
+-- each place in a list can be written in a path
+abbrev pub PlacesKeepRule : Submodel → Type 0
+PlacesKeepRule d = (q : List ℕ) (e : Element) → element_in_all q d.kids ≡ Some e → is_list e ≡ true → length (kids_of e) ≤ 10 ^ 9
+
 -- each idShort outside lists, and each place in a list, can be written in a path
 pub record StepsKeepRule (d : Submodel) : Type 0 where
   pub first : AreNamed d.kids
   pub below : (q : List ℕ) (e : Element) → element_in_all q d.kids ≡ Some e → is_list e ≡ false → AreNamed (kids_of e)
-  pub lists : (q : List ℕ) (e : Element) → element_in_all q d.kids ≡ Some e → is_list e ≡ true → length (kids_of e) ≤ 10 ^ 9
+  pub lists : PlacesKeepRule d

@@ -11,7 +11,7 @@ use Rattle.aas_json_table.specs.Spelled.{attribute, text_of}
 use Rattle.aas_model.specs.declared.reference.Key.{Key}
 use Rattle.aas_model.specs.declared.reference.Reference.{Reference}
 use Rattle.aas_json_spelling.specs.Values.{IsText, HasTexts}
-use Rattle.aas_json_spelling.proofs.Rows.{and_left, and_right}
+use Rattle.aas_lemmas.proofs.Truth.{and_left, and_right}
 use Rattle.aas_json_spelling.proofs.Objects.{same_members}
 use Rattle.aas_json_spelling.proofs.Exists.{IsSpelled, IsListed, IsWord, Kinds, IsTree, Gives, Object, there, named_there, as_itself, part_tree, tree}
 use Rattle.aas_reference.specs.Spelling.{key_attributes, spell_key, spell_reference}

@@ -6,7 +6,7 @@ use Rattle.aas_json_table.specs.Table.{one, reference}
 use Rattle.aas_json_table.specs.TooDeep.{Levels}
 use Rattle.aas_json_table.specs.Canonical.{canonical}
 use Rattle.aas_model.specs.declared.reference.Reference.{Reference}
-use Rattle.aas_json_spelling.proofs.Rows.{and_left, and_right}
+use Rattle.aas_lemmas.proofs.Truth.{and_left, and_right}
 use Rattle.aas_json_spelling.specs.Mapped.{AnyShape}
 use Rattle.aas_json_spelling.proofs.Exists.{IsSpelled}
 use Rattle.aas_json_spelling.proofs.Laws.{Laws}

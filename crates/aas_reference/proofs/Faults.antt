@@ -6,8 +6,8 @@ use Rattle.aas_model_names.specs.declared.reference_type.ReferenceType.{Referenc
 use Rattle.aas_model.specs.declared.reference.Key.{Key}
 use Rattle.aas_model.specs.declared.reference.Reference.{Reference, out-Reference}
 use Rattle.aas_model.specs.declared.reference.Reference.TheFolds.{fold-roll-Reference}
-use Rattle.aas_reference.specs.Rules.{Level, Rule, reference_rules, levels_of, keeps, first_of_list, first_fault}
-use Rattle.aas_reference.specs.Faults.{level_of, failing, first_broken, least, least_of}
+use Rattle.aas_reference.specs.Rules.{Level, Rule, reference_rules, levels_of, failing, first, first_fault}
+use Rattle.aas_reference.specs.Faults.{level_of, first_broken, least, least_of}
 use Rattle.aas_reference.proofs.Levels.{made, made_out}
 
 -- ---- rows in rising order
@@ -43,57 +43,55 @@ least_right n (Some m) h = ap Some (omega arith)
 
 -- ---- the first row that fails
 
-module _ {R : Type 0} (number : R → ℕ) where
-  first : List R → Option ℕ
-  first rs = first_of_list (map number rs)
+module _ {S : Type 0} where
+  numbers : List (Rule S) → List ℕ
+  numbers rs = map (λ r. r.number) rs
 
-  above_at : (b : Bool) (n : ℕ) (r : R) (rs : List R) → n < number r → IsAbove (number r) (first rs) → IsAbove n (first (cond b (r ∷ rs) rs))
-  unfolding first
+  least_number : List (Rule S) → Option ℕ
+  least_number rs = first (numbers rs)
+
+  above_at : (b : Bool) (n : ℕ) (r : Rule S) (rs : List (Rule S)) → n < r.number → IsAbove r.number (least_number rs) → IsAbove n (least_number (cond b (r ∷ rs) rs))
+  unfolding least_number numbers
   above_at true n r rs lt h = lt
-  above_at false n r rs lt h = above_more n (number r) (first rs) lt h
+  above_at false n r rs lt h = above_more n r.number (least_number rs) lt h
 
-  above_all : (test : R → Bool) (n : ℕ) (rs : List R) → AreAbove n (map number rs) → IsAbove n (first (filter (λ r. not (test r)) rs))
-  unfolding first
+  above_all : (test : S → Bool) (n : ℕ) (rs : List (Rule S)) → AreAbove n (numbers rs) → IsAbove n (least_number (filter (λ r. not (test r.sentence)) rs))
+  unfolding least_number numbers
   above_all test n [] h = tt
-  above_all test n (r ∷ rs) h = above_at (not (test r)) n r (filter (λ x. not (test x)) rs) h.0 (above_all test (number r) rs h.1)
+  above_all test n (r ∷ rs) h = above_at (not (test r.sentence)) n r (filter (λ x. not (test x.sentence)) rs) h.0 (above_all test r.number rs h.1)
 
-  one_row : (p q : Bool) (r : R) (k l m : List R) → IsAbove (number r) (first l) → IsAbove (number r) (first m) → first k ≡ least (first l) (first m)
-      → first (cond (not (p && q)) (r ∷ k) k) ≡ least (first (cond (not p) (r ∷ l) l)) (first (cond (not q) (r ∷ m) m))
-  unfolding first
+  one_row : (p q : Bool) (r : Rule S) (k l m : List (Rule S)) → IsAbove r.number (least_number l) → IsAbove r.number (least_number m) → least_number k ≡ least (least_number l) (least_number m)
+      → least_number (cond (not (p && q)) (r ∷ k) k) ≡ least (least_number (cond (not p) (r ∷ l) l)) (least_number (cond (not q) (r ∷ m) m))
+  unfolding least_number numbers
   one_row true true r k l m a b later = later
-  one_row true false r k l m a b later = least_right (number r) (first l) a
-  one_row false true r k l m a b later = least_left (number r) (first m) b
+  one_row true false r k l m a b later = least_right r.number (least_number l) a
+  one_row false true r k l m a b later = least_left r.number (least_number m) b
   one_row false false r k l m a b later = ap Some (omega arith)
 
-  -- The first row that fails for either of two things is the lesser of the first rows that fail for each.
-  pub least_of_both : (test other : R → Bool) (rs : List R) → Rise (map number rs)
-      → first_of_list (failing number (λ r. test r && other r) rs) ≡ least (first_of_list (failing number test rs)) (first_of_list (failing number other rs))
-  unfolding first
+  -- The first row that fails one of two tests is the lesser of the first rows that fail each.
+  pub least_of_both : (test other : S → Bool) (rs : List (Rule S)) → Rise (map (λ r. r.number) rs)
+      → first (failing (λ s. test s && other s) rs) ≡ least (first (failing test rs)) (first (failing other rs))
+  unfolding least_number numbers
   least_of_both test other [] h = refl
   least_of_both test other (r ∷ rs) h =
-      one_row (test r) (other r) r (filter (λ x. not (test x && other x)) rs) (filter (λ x. not (test x)) rs) (filter (λ x. not (other x)) rs)
-      (above_all test (number r) rs h) (above_all other (number r) rs h) (least_of_both test other rs (rise_on (number r) (map number rs) h))
+      one_row (test r.sentence) (other r.sentence) r (filter (λ x. not (test x.sentence && other x.sentence)) rs) (filter (λ x. not (test x.sentence)) rs) (filter (λ x. not (other x.sentence)) rs)
+      (above_all test r.number rs h) (above_all other r.number rs h) (least_of_both test other rs (rise_on r.number (numbers rs) h))
 
-  none_fails : (rs : List R) → first_of_list (failing number (λ r. true) rs) ≡ None
+  none_fails : (rs : List (Rule S)) → first (failing (λ s. true) rs) ≡ None
   none_fails [] = refl
   none_fails (r ∷ rs) = none_fails rs
 
   -- The first row that fails for any of some things is the least of the first rows that fail for each.
-  pub least_of_each : {X : Type 0} (holds : R → X → Bool) (rs : List R) → Rise (map number rs) → (xs : List X)
-      → first_of_list (failing number (λ r. list_all (holds r) xs) rs) ≡ least_of (map (λ x. first_of_list (failing number (λ r. holds r x) rs)) xs)
+  pub least_of_each : {X : Type 0} (holds : S → X → Bool) (rs : List (Rule S)) → Rise (map (λ r. r.number) rs) → (xs : List X)
+      → first (failing (λ s. list_all (holds s) xs) rs) ≡ least_of (map (λ x. first (failing (λ s. holds s x) rs)) xs)
   least_of_each holds rs h [] = none_fails rs
-  least_of_each holds rs h (x ∷ xs) =
-      least_of_both (λ r. holds r x) (λ r. list_all (holds r) xs) rs h ∙ ap (least (first_of_list (failing number (λ r. holds r x) rs))) (least_of_each holds rs h xs)
+  least_of_each holds rs h (x ∷ xs) = least_of_both (λ s. holds s x) (λ s. list_all (holds s) xs) rs h ∙ ap (least (first (failing (λ s. holds s x) rs))) (least_of_each holds rs h xs)
 
 -- ---- references
 
 -- the numbers of the constraints on references rise
-pub rules_rise : Rise (map (λ (r : Rule). r.number) reference_rules)
+rules_rise : Rise (map (λ (r : Rule (Level → Bool)). r.number) reference_rules)
 rules_rise = (lit< tt, (lit< tt, (lit< tt, (lit< tt, (lit< tt, (lit< tt, (lit< tt, tt)))))))
-
--- The least number that any of some references breaks is the least of their first faults.
-pub fault_among : (rs : List Reference) → first_of_list (failing (λ (r : Rule). r.number) (λ r. list_all (keeps r) rs) reference_rules) ≡ least_of (map first_fault rs)
-fault_among rs = least_of_each (λ (r : Rule). r.number) keeps reference_rules rules_rise rs
 
 levels_at : (t : ReferenceType) (ks : List Key) (o : Option Reference) → levels_of (made t ks o) ≡ record { ref_type = t; keys = ks } ∷ unwrap_or (option_map levels_of o) []
 levels_at t ks None = fold-roll-Reference (List Level) (λ x. record { ref_type = x.ref_type; keys = x.keys } ∷ unwrap_or x.referred []) (record { ref_type = t; keys = ks; referred = None })
@@ -103,11 +101,11 @@ levels_out : (r : Reference) → levels_of r ≡ level_of r ∷ unwrap_or (optio
 levels_out r = ap levels_of (sym (made_out r)) ∙ levels_at (out-Reference r).ref_type (out-Reference r).keys (out-Reference r).referred
 
 fault_of : List Level → Option ℕ
-fault_of ls = first_of_list (failing (λ (r : Rule). r.number) (λ r. list_all r.sentence ls) reference_rules)
+fault_of ls = first (failing (λ s. list_all s ls) reference_rules)
 
 fault_of_more : (l : Level) (ls : List Level) → fault_of (l ∷ ls) ≡ least (first_broken l) (fault_of ls)
 unfolding fault_of
-fault_of_more l ls = least_of_both (λ (r : Rule). r.number) (λ r. r.sentence l) (λ r. list_all r.sentence ls) reference_rules rules_rise
+fault_of_more l ls = least_of_both (λ s. s l) (λ s. list_all s ls) reference_rules rules_rise
 
 least_none : (o : Option ℕ) → least o None ≡ o
 least_none None = refl

@@ -8,7 +8,7 @@ use Rattle.aas_model_names.specs.KeyTypeNames as key_type
 use Rattle.aas_model_names.specs.ReferenceTypeNames as reference_type
 use Rattle.aas_model.specs.declared.reference.Key.{Key}
 use Rattle.aas_model.specs.declared.reference.Reference.{Reference, out-Reference}
-use Rattle.aas_json_spelling.proofs.Rows.{and_left, and_right}
+use Rattle.aas_lemmas.proofs.Truth.{and_left, and_right}
 use Rattle.aas_json_spelling.proofs.MemberTypes.{Found, same_named}
 use Rattle.aas_reference.specs.Same.{IsSame, same_key, same_keys, same}
 

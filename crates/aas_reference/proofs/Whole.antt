@@ -12,7 +12,7 @@ use Rattle.aas_json_table.specs.Spelled.{spelled, list_of}
 use Rattle.aas_model.specs.declared.reference.Key.{Key}
 use Rattle.aas_model.specs.declared.reference.Reference.{Reference}
 use Rattle.aas_json_spelling.specs.Lists.{is_any}
-use Rattle.aas_json_spelling.proofs.Rows.{and_left}
+use Rattle.aas_lemmas.proofs.Truth.{and_left}
 use Rattle.aas_reference.specs.Spelling.{spell_key, spell_reference}
 use Rattle.aas_reference.specs.Whole.{has_keys, reference_levels}
 use Rattle.aas_reference.proofs.Levels.{made, Within, by_levels, Fits, attributes_at, spell_at, keys_at, levels_at}

@@ -1,19 +1,15 @@
 -- The least broken constraint at one level of a reference, and over several things.
-use Rattle.std.specs.Prelude.{ℕ, min, Bool, not, List, [], ◌∷◌, map, filter, Option, Some, None}
+use Rattle.std.specs.Prelude.{ℕ, min, List, [], ◌∷◌, Option, Some, None}
 use Rattle.aas_model.specs.declared.reference.Reference.{Reference, out-Reference}
-use Rattle.aas_reference.specs.Rules.{Level, Rule, reference_rules, first_of_list}
+use Rattle.aas_reference.specs.Rules.{Level, reference_rules, failing, first}
 
 -- a reference without the one within it
 abbrev pub level_of : Reference → Level
 level_of r = record { ref_type = (out-Reference r).ref_type; keys = (out-Reference r).keys }
 
--- the numbers of the rows whose test fails
-abbrev pub failing : {R : Type 0} → (R → ℕ) → (R → Bool) → List R → List ℕ
-failing number test rows = map number (filter (λ r. not (test r)) rows)
-
 -- the least number that is broken at one level
 abbrev pub first_broken : Level → Option ℕ
-first_broken x = first_of_list (failing (λ (r : Rule). r.number) (λ r. r.sentence x) reference_rules)
+first_broken x = first (failing (λ s. s x) reference_rules)
 
 -- the lesser of what is there
 abbrev pub least : Option ℕ → Option ℕ → Option ℕ

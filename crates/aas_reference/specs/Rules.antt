@@ -122,14 +122,15 @@ list_by_place x = is_external x.ref_type || each_pair (λ y z. not (is_list y.ke
 
 -- ---- the table
 
-pub record Rule : Type 0 where
+-- a rule: its number, and its sentence
+pub record Rule (S : Type 0) : Type 0 where
   pub number : ℕ
-  pub sentence : Level → Bool
+  pub sentence : S
 
-abbrev pub row : ℕ → (Level → Bool) → Rule
+abbrev pub row : {S : Type 0} → ℕ → S → Rule S
 row n s = record { number = n; sentence = s }
 
-abbrev pub reference_rules : List Rule
+abbrev pub reference_rules : List (Rule (Level → Bool))
 reference_rules =
     row 121 begins_globally
     ∷ row 122 external_begins
@@ -141,18 +142,18 @@ reference_rules =
     ∷ row 128 list_by_place
     ∷ []
 
+-- the numbers of the rules whose sentences don't pass a test, in the order of the rules
+abbrev pub failing : {S : Type 0} → (S → Bool) → List (Rule S) → List ℕ
+failing test rules = map (λ r. r.number) (filter (λ r. not (test r.sentence)) rules)
+
 -- the reference and those within it keep a sentence
-abbrev pub keeps : Rule → Reference → Bool
-keeps x ref = list_all x.sentence (levels_of ref)
+abbrev pub keeps : (Level → Bool) → Reference → Bool
+keeps sentence ref = list_all sentence (levels_of ref)
 
--- the numbers that a reference, or one within it, breaks, in rising order
-abbrev pub broken : Reference → List ℕ
-broken ref = map (λ x. x.number) (filter (λ x. not (keeps x ref)) reference_rules)
+abbrev pub first : {X : Type 0} → List X → Option X
+first [] = None
+first (x ∷ xs) = Some x
 
-abbrev pub first_of_list : {X : Type 0} → List X → Option X
-first_of_list [] = None
-first_of_list (x ∷ xs) = Some x
-
--- the least number that is broken
+-- the least number that a reference, or one within it, breaks
 abbrev pub first_fault : Reference → Option ℕ
-first_fault ref = first_of_list (broken ref)
+first_fault ref = first (failing (λ s. keeps s ref) reference_rules)

@@ -3,7 +3,7 @@ use Rattle.std.specs.Prelude.{◌≡◌, ◌⊎◌, ℕ, List, [], ◌∷◌, �
 use Rattle.std.specs.Io.KnownBytes.{append_known}
 use Rattle.aas_server.specs.declared.answered.Answered.{Answered}
 use Rattle.aas_server.specs.declared.answered.Answered.TheVariants as answered
-use Rattle.aas_server.specs.Console.{GivesFront}
+use Rattle.aas_outside.specs.Link.{GivesFront}
 
 -- the status of the run, and all that the console gets
 pub record Answer : Type 0 where

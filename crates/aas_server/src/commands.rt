@@ -4,7 +4,7 @@ ghost use Rattle.std.specs.Io.KnownBytes.{append_known};
 ghost use Rattle.aas_outside.specs.Faults.{Rose};
 ghost use Rattle.aas_server.specs.Answer.{answer_of, GivesAnswer, GivesFrontOf};
 ghost use Rattle.aas_server.specs.Commands.{IsValue, not_a_command};
-ghost use Rattle.aas_server.specs.Console.{GivesFront};
+ghost use Rattle.aas_outside.specs.Link.{GivesFront};
 ghost use Rattle.aas_server.specs.Status.{code_of};
 ghost use Rattle.aas_server.specs.ValueAnswer.{IsValueAnswer};
 

@@ -1,13 +1,14 @@
-// The console: its input read to the end, and a text given whole.
-ghost use Rattle.std.specs.Prelude.{◌≡◌, ◌≢◌, ◌<◌, ◌≤◌, ◌⊎◌, length, IfOk, IfSome, OnOk, OnErr, IsErrOf};
+// The console: its input read to the end, and the last text given.
+ghost use Rattle.std.specs.Prelude.{◌≡◌, ◌≢◌, ◌<◌, ◌≤◌, ◌⊎◌, length, IfOk, IfSome, OnOk, IsErrOf};
 ghost use Rattle.std.specs.Io.KnownBytes.{append_known, IsAtEnd};
-ghost use Rattle.aas_outside.specs.Faults.{Rose, HasCause};
-ghost use Rattle.aas_server.specs.Console.{input_limit, GivesFront};
+ghost use Rattle.aas_outside.specs.Faults.{Rose};
+ghost use Rattle.aas_outside.specs.Link.{GivesFront};
+ghost use Rattle.aas_server.specs.Console.{input_limit};
 ghost use Rattle.aas_server.specs.Status.{code_of};
 ghost use Rattle.aas_server.specs.declared.console.InputFault.TheVariants.{LinkFault, NoMemory};
 
 use crate::status::Status;
-use aas_outside::{Failed, Link};
+use aas_outside::{Failed, Link, give_all};
 use std::alloc::{AllocError, Global};
 
 /// The most bytes that an input may have.
@@ -63,21 +64,6 @@ pub fn read_input<L: Link>(alloc: Global, link: &mut L) -> Result<Vec<u8>, Input
         }
         text.extend_from_slice(&buf[..count])?;
     }
-}
-
-/// Gives all the bytes. Where the link fails a front of them was given.
-#[tactic(auto, using(crate::proofs::KnownBytes::given_more))]
-pub fn give_all<L: Link>(link: &mut L, bytes: &[u8]) -> Result<(), Failed>
-    ensures given { OnOk result (L.sent link.new ≡ append_known (L.sent link.old) bytes.now) }
-    ensures front { OnErr result (GivesFront (L.sent link.old) (L.sent link.new) bytes.now) }
-    ensures left { L.left link.new ≡ L.left link.old }
-    ensures cause { HasCause (L.faults link.old) (L.faults link.new) result }
-{
-    let mut given = 0;
-    while given < bytes.len() {
-        given += link.give(&bytes[given..])?;
-    }
-    Ok(())
 }
 
 /// Gives the text and answers the status, or that of a fault where the link fails.

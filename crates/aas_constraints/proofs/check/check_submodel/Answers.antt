@@ -1,4 +1,4 @@
-use Rattle.std.proofs.Common.{◌≡◌, sym, ap, Some, None, [], ◌∙◌}
+use Rattle.std.proofs.Common.{sym, ap, Some, None, [], ◌∙◌}
 use Rattle.aas_constraints.specs.Walk.{found_among}
 use Rattle.aas_constraints.proofs.Walks.{submodel_some, submodel_below}
 use Rattle.aas_constraints.proofs.check.check_submodel.Goals as goal

@@ -1,4 +1,4 @@
-use Rattle.std.proofs.Common.{◌≡◌, ◌<◌, length, flat_map, arith}
+use Rattle.std.proofs.Common.{flat_map, arith}
 use Rattle.aas_constraints.specs.References.{references_fault}
 use Rattle.aas_constraints.proofs.Least.{one_more_fault, no_more_fault}
 use Rattle.aas_constraints.proofs.references.fault_among.Goals as goal

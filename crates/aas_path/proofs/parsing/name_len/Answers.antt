@@ -8,8 +8,8 @@ use Rattle.aas_path.proofs.parsing.name_len.Goals as goal
 pub returns-then-not-begins_with : goal.returns-then-not-begins_with
 returns-then-not-begins_with c = no_letter c.args.text.now (fails c.begins_with.result c.if-not-begins_with.true c.begins_with.ensures)
 
-pub returns-then-len-gt128 : goal.returns-then-len-gt128
-returns-then-len-gt128 c = too_long c.args.text.now c.run_len-len.result c.run_len-len.ensures (holds c.begins_with.result c.if-not-begins_with.false c.begins_with.ensures) (omega arith)
+pub returns-then-len-gt-MOST_NAME_CHARACTERS : goal.returns-then-len-gt-MOST_NAME_CHARACTERS
+returns-then-len-gt-MOST_NAME_CHARACTERS c = too_long c.args.text.now c.run_len-len.result c.run_len-len.ensures (holds c.begins_with.result c.if-not-begins_with.false c.begins_with.ensures) (omega arith)
 
 pub returns-then-ends_step : goal.returns-then-ends_step
 returns-then-ends_step c =

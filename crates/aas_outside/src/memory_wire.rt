@@ -1,0 +1,223 @@
+// A wire in memory, for tests: its inputs, what was sent on each connection, and the calls that fail.
+ghost use Rattle.std.specs.Prelude.{◌≡◌, ◌<◌, ◌≤◌, ◌-◌, ◌⊎◌, ◌↔◌, ◌++◌, [], ◌∷◌, None, Some, length, min, IfOk, OnOk, OnErr, IsErr, MatchResult, slice_get};
+ghost use Rattle.std.specs.Option.{option_copied, option_map};
+ghost use Rattle.aas_outside.specs.Faults.{HasCause};
+ghost use Rattle.aas_outside.specs.Link.{Takes, Gives};
+ghost use Rattle.aas_outside.specs.MemCalls.{IsNextFailing};
+ghost use Rattle.aas_outside.specs.MemWire.{left_on, sent_on, connections_of, surroundings_of, IsLinkCall, IsWireCall};
+ghost use Rattle.aas_outside.specs.Surroundings.{BeginsNext, sent_on_all};
+
+use crate::memory_calls::MemCalls;
+use crate::memory_connection::MemConnection;
+use crate::{Failed, Link, Wire};
+use aas_model_text::NoMemory;
+use std::alloc::Global;
+use std::collections::VecDeque;
+use std::marker::Model;
+
+/// A wire in memory, whose failing calls are chosen when it is made. Only [`MemWire::add`] takes
+/// memory: the storage for a connection.
+///
+/// Contracts see it as a `MemWireState`.
+#[derive(Drop)]
+pub struct MemWire {
+    coming: VecDeque<MemConnection>,
+    present: Option<MemConnection>,
+    // with storage for the others too
+    ended: Vec<MemConnection>,
+    room: usize,
+    piece: usize,
+    calls: MemCalls,
+    faults: u64,
+    wire_faults: u64,
+}
+
+impl Model for MemWire {
+    ghost use Rattle.std.specs.Prelude.{◌<◌, ◌≤◌, ◌+◌, length, map, vec_len, vec_capacity};
+    ghost use Rattle.std.specs.Option.{option_to_list};
+    ghost use Rattle.aas_outside.specs.MemWire.{MemWireState, AreReady};
+
+    ghost Value = { MemWireState };
+
+    ghost view = { λ wire. record {
+      coming = map (λ c. c.left) wire.coming.items;
+      ended = map (λ c. c.sent) wire.ended.items;
+      present = wire.present;
+      room = wire.room;
+      piece = wire.piece;
+      calls = wire.calls;
+      faults = wire.faults;
+      wire_faults = wire.wire_faults;
+    } };
+
+    ghost invariant = { λ wire. (0 < wire.piece)
+        × (length wire.coming.items + length (option_to_list wire.present) + vec_len wire.ended ≤ vec_capacity wire.ended)
+        × AreReady wire.coming.items wire.present wire.room };
+}
+
+impl MemWire {
+    /// A wire without connections, on which each call moves at most `piece` bytes, and which has
+    /// room for `capacity` given bytes in all. The calls with the numbers in `fails` fail, the first
+    /// call being 1. So does a give of which at most `piece` bytes don't fit, and a give where no
+    /// connection is begun; no other call fails.
+    pub fn new(
+        alloc: Global,
+        piece: usize,
+        capacity: usize,
+        fails: &[u64],
+    ) -> Result<MemWire, NoMemory>
+        requires { 1 ≤ piece }
+        ensures { IfOk result (λ wire. wire ≡ record {
+          coming = [];
+          ended = [];
+          present = None;
+          room = capacity;
+          piece = piece;
+          calls = record { fails = fails.now; made = 0 };
+          faults = 0;
+          wire_faults = 0;
+        }) }
+    {
+        Ok(MemWire {
+            coming: VecDeque::new(alloc),
+            present: None,
+            ended: Vec::new(alloc),
+            room: capacity,
+            piece,
+            calls: MemCalls::new(alloc, fails)?,
+            faults: 0,
+            wire_faults: 0,
+        })
+    }
+
+    /// Adds a connection with this input behind those to come.
+    pub fn add(&mut self, input: &[u8]) -> Result<(), NoMemory>
+        ensures ok { OnOk result (self.new ≡ record self.old { coming = self.old.coming ++ input.now ∷ [] }) }
+        ensures err { OnErr result (self.new ≡ self.old) }
+    {
+        let alloc = *self.ended.allocator();
+        let connection = MemConnection::new(alloc, input, self.room)?;
+        self.ended.reserve(self.coming.len() + 2)?;
+        match self.coming.push_back(connection) {
+            Ok(()) => Ok(()),
+            Err(_) => Err(NoMemory),
+        }
+    }
+
+    /// The bytes sent on connection `n`, the first being 0, or `None` where it wasn't begun.
+    pub fn sent(&self, n: usize) -> Option<&[u8]>
+        ensures { option_map (λ bytes. bytes.now) result
+            ≡ slice_get (sent_on_all (connections_of self.now) (sent_on self.now.present)) n }
+    {
+        match self.ended.get(n) {
+            Some(connection) => Some(connection.sent()),
+            None if n == self.ended.len() => self
+                .present
+                .as_ref()
+                .map(|connection| connection.sent()),
+            None => None,
+        }
+    }
+
+    fn end_present(&mut self)
+        ensures { self.new ≡ record self.old {
+          ended = sent_on_all (connections_of self.old) (sent_on self.old.present);
+          present = None;
+        } }
+    {
+        if let Some(connection) = self.present.take() {
+            self.ended.push_reserved(connection);
+        }
+    }
+}
+
+impl Link for MemWire {
+    ghost use Rattle.std.specs.Prelude.{Some};
+    ghost use Rattle.aas_outside.specs.MemWire.{left_on, sent_on, surroundings_of};
+
+    ghost left = { λ wire. Some (left_on wire.present) };
+
+    ghost sent = { λ wire. Some (sent_on wire.present) };
+
+    ghost faults = { λ wire. wire.faults };
+
+    ghost surroundings = { surroundings_of };
+
+    fn take(&mut self, buf: &mut [u8]) -> Result<usize, Failed>
+        ensures taken { Takes (Some (left_on self.old.present)) (Some (left_on self.new.present)) result buf.new }
+        ensures sent { sent_on self.new.present ≡ sent_on self.old.present }
+        ensures surroundings { surroundings_of self.new ≡ surroundings_of self.old }
+        ensures cause { HasCause self.old.faults self.new.faults result }
+        ensures called { IsLinkCall self.old self.new result }
+        ensures fails { IsErr result ↔ IsNextFailing self.old.calls }
+        ensures count { IfOk result (λ n. n ≡ min (min self.old.piece (length buf.old)) (length (left_on self.old.present))) }
+        ensures room { self.new.room ≡ self.old.room }
+    {
+        if self.calls.next_fails() {
+            self.faults = self.faults.saturating_add(1);
+            return Err(Failed);
+        }
+        match &mut self.present {
+            Some(connection) => Ok(connection.take(self.piece, buf)),
+            None => Ok(0),
+        }
+    }
+
+    fn give(&mut self, bytes: &[u8]) -> Result<usize, Failed>
+        ensures given { Gives (Some (sent_on self.old.present)) (Some (sent_on self.new.present)) result bytes.now }
+        ensures left { left_on self.new.present ≡ left_on self.old.present }
+        ensures surroundings { surroundings_of self.new ≡ surroundings_of self.old }
+        ensures cause { HasCause self.old.faults self.new.faults result }
+        ensures called { IsLinkCall self.old self.new result }
+        ensures fails { IsErr result ↔ (IsNextFailing self.old.calls ⊎ ((self.old.present ≡ None)
+            ⊎ (self.old.room < min self.old.piece (length bytes.now)))) }
+        ensures count { IfOk result (λ n. n ≡ min self.old.piece (length bytes.now)) }
+        ensures room { MatchResult result (λ n. self.new.room ≡ self.old.room - n) (λ _. self.new.room ≡ self.old.room) }
+    {
+        let count = self.piece.min(bytes.len());
+        if !self.calls.next_fails() && count <= self.room {
+            if let Some(connection) = &mut self.present {
+                connection.give(&bytes[..count]);
+                self.room -= count;
+                return Ok(count);
+            }
+        }
+        self.faults = self.faults.saturating_add(1);
+        Err(Failed)
+    }
+}
+
+impl Wire for MemWire {
+    fn listen(&mut self, _address: &str) -> Result<(), Failed>
+        ensures connections { connections_of self.new ≡ connections_of self.old }
+        ensures present { self.new.present ≡ self.old.present }
+        ensures faults { self.new.faults ≡ self.old.faults }
+        ensures cause { HasCause self.old.wire_faults self.new.wire_faults result }
+        ensures called { IsWireCall self.old self.new result }
+        ensures fails { IsErr result ↔ IsNextFailing self.old.calls }
+    {
+        if self.calls.next_fails() {
+            self.wire_faults = self.wire_faults.saturating_add(1);
+            return Err(Failed);
+        }
+        Ok(())
+    }
+
+    fn next(&mut self) -> Result<bool, Failed>
+        ensures begins { BeginsNext (Some (connections_of self.old)) (Some (connections_of self.new))
+            (Some (left_on self.old.present)) (Some (left_on self.new.present))
+            (Some (sent_on self.old.present)) (Some (sent_on self.new.present)) result }
+        ensures faults { self.new.faults ≡ self.old.faults }
+        ensures cause { HasCause self.old.wire_faults self.new.wire_faults result }
+        ensures called { IsWireCall self.old self.new result }
+        ensures fails { IsErr result ↔ IsNextFailing self.old.calls }
+    {
+        if self.calls.next_fails() {
+            self.wire_faults = self.wire_faults.saturating_add(1);
+            return Err(Failed);
+        }
+        self.end_present();
+        self.present = self.coming.pop_front();
+        Ok(self.present.is_some())
+    }
+}
