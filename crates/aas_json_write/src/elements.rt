@@ -4,9 +4,7 @@ ghost use Rattle.aas_json_mapping.specs.Elements.{children_attribute, spell_elem
 ghost use Rattle.aas_json_write.specs.Order.{element_in_order, elements_in_order};
 ghost use Rattle.aas_json_write.specs.Variables.{is_variable_of, variable_of};
 
-use crate::children::{
-    childless_object, closed_with, closed_with_variables, is_variable_of,
-};
+use crate::children::{childless_object, closed_with, closed_with_variables, is_variable_of};
 use aas_json_members::{Array, Exact, Object};
 use aas_json_table::name;
 use aas_model::{Element, Many, NoMemory, Payload, Role};
