@@ -9,13 +9,13 @@ ghost use Rattle.aas_json_spelling.specs.Reads.{Reads, ReadsEach};
 ghost use Rattle.aas_reference.specs.Spelling.{spell_key, spell_reference};
 ghost use Rattle.aas_reference.specs.Trees.{references};
 
-use aas_json_table::name;
 use crate::sorts::{Keys, References};
 use aas_json_input::read_part;
 use aas_json_members::{Part, list_member, member, string_member, word_member};
-use aas_model::{Boxed, Key, Many, NoMemory, ReadFault, Reference};
+use aas_json_table::name;
 use aas_json_table::table::Sort;
 use aas_json_table::too_deep::Levels;
+use aas_model::{Boxed, Key, Many, NoMemory, ReadFault, Reference};
 use serde_json::{Map, Value};
 use std::alloc::Global;
 

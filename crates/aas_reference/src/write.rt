@@ -4,9 +4,9 @@ ghost use Rattle.aas_json_members.specs.Exact.{data_of};
 ghost use Rattle.aas_json_members.specs.Writes.{Writes};
 ghost use Rattle.aas_reference.specs.Spelling.{spell_key, spell_reference};
 
-use aas_json_table::name;
 use crate::sorts::{Keys, References};
 use aas_json_members::{Exact, Object, Written, list_value, text_value, word_value};
+use aas_json_table::name;
 use aas_model::{Boxed, Key, NoMemory, Reference};
 use std::alloc::Global;
 
@@ -60,7 +60,11 @@ fn reference_value(alloc: Global, reference: &Reference) -> Result<Exact, NoMemo
         name::REFERRED_SEMANTIC_ID,
         referred_value(alloc, &reference.referred)?,
     )?;
-    object.put(alloc, name::TYPE, Some(word_value(alloc, reference.ref_type)?))?;
+    object.put(
+        alloc,
+        name::TYPE,
+        Some(word_value(alloc, reference.ref_type)?),
+    )?;
     Ok(object.close())
 }
 

@@ -1,6 +1,6 @@
-use crate::name;
 use super::MemberType::{Kept, Many, One, Text};
 use super::{Class, Row, Sort};
+use crate::name;
 
 // Rows that several classes have: those of Referable, Identifiable, HasSemantics, Qualifiable,
 // HasExtensions and HasDataSpecification, and the JSON mapping's modelType.
@@ -13,7 +13,10 @@ pub(super) const DESCRIPTION: Row = optional!(name::DESCRIPTION, Many(Sort::Lang
 
 pub(super) const DISPLAY_NAME: Row = optional!(name::DISPLAY_NAME, Many(Sort::LangText));
 
-pub(super) const EMBEDDED_DATA_SPECIFICATIONS: Row = optional!(name::EMBEDDED_DATA_SPECIFICATIONS, Kept);
+pub(super) const EMBEDDED_DATA_SPECIFICATIONS: Row = optional!(
+    name::EMBEDDED_DATA_SPECIFICATIONS,
+    Kept
+);
 
 pub(super) const EXTENSIONS: Row = optional!(name::EXTENSIONS, Many(Sort::Extension));
 

@@ -3,13 +3,13 @@ ghost use Rattle.aas_json_table.specs.Rows.{sorted, find};
 ghost use Rattle.aas_json_table.specs.Seen.{rows_seen};
 ghost use Rattle.aas_json_table.specs.Table.{model_types, shell, submodel, concept};
 
-use crate::name;
 use super::MemberType::{Many, One, Word};
 use super::common::{
     ADMINISTRATION, CATEGORY, DESCRIPTION, DISPLAY_NAME, EMBEDDED_DATA_SPECIFICATIONS, EXTENSIONS,
     ID, ID_SHORT, MODEL_TYPE, QUALIFIERS, SEMANTIC_ID, SUPPLEMENTAL_SEMANTIC_IDS,
 };
 use super::{Class, Names, Row, Sort};
+use crate::name;
 
 /// AssetAdministrationShell.
 static SHELL: [Row; 12] = [

@@ -5,13 +5,13 @@ ghost use Rattle.aas_json_table.specs.Rows.{sorted, find};
 ghost use Rattle.aas_json_table.specs.Seen.{row_of, rows_seen};
 ghost use Rattle.aas_json_table.specs.Table.{model_types, element, data_element};
 
-use crate::name;
 use super::MemberType::{Flag, Many, One, Text, Word};
 use super::common::{
     CATEGORY, DESCRIPTION, DISPLAY_NAME, EMBEDDED_DATA_SPECIFICATIONS, EXTENSIONS, ID_SHORT,
     MODEL_TYPE, QUALIFIERS, SEMANTIC_ID, SUPPLEMENTAL_SEMANTIC_IDS,
 };
 use super::{Class, Names, Row, Sort};
+use crate::name;
 use aas_model_names::{Kind, Named};
 
 /// Property.
@@ -157,7 +157,11 @@ static ENTITY: [Row; 14] = [
     MODEL_TYPE,
     QUALIFIERS,
     SEMANTIC_ID,
-    optional!(name::SPECIFIC_ASSET_IDS, Many(Sort::SpecificAssetId), Class::V),
+    optional!(
+        name::SPECIFIC_ASSET_IDS,
+        Many(Sort::SpecificAssetId),
+        Class::V
+    ),
     optional!(name::STATEMENTS, Many(Sort::Element), Class::V),
     SUPPLEMENTAL_SEMANTIC_IDS,
 ];
@@ -206,10 +210,22 @@ static OPERATION: [Row; 13] = [
     EMBEDDED_DATA_SPECIFICATIONS,
     EXTENSIONS,
     ID_SHORT,
-    optional!(name::INOUTPUT_VARIABLES, Many(Sort::OperationVariable), Class::V),
-    optional!(name::INPUT_VARIABLES, Many(Sort::OperationVariable), Class::V),
+    optional!(
+        name::INOUTPUT_VARIABLES,
+        Many(Sort::OperationVariable),
+        Class::V
+    ),
+    optional!(
+        name::INPUT_VARIABLES,
+        Many(Sort::OperationVariable),
+        Class::V
+    ),
     MODEL_TYPE,
-    optional!(name::OUTPUT_VARIABLES, Many(Sort::OperationVariable), Class::V),
+    optional!(
+        name::OUTPUT_VARIABLES,
+        Many(Sort::OperationVariable),
+        Class::V
+    ),
     QUALIFIERS,
     SEMANTIC_ID,
     SUPPLEMENTAL_SEMANTIC_IDS,

@@ -1,7 +1,7 @@
-use crate::name;
 use super::MemberType::{Many, One, Text, Word};
 use super::common::{EMBEDDED_DATA_SPECIFICATIONS, SEMANTIC_ID, SUPPLEMENTAL_SEMANTIC_IDS};
 use super::{Class, Names, Row, Sort};
+use crate::name;
 
 /// Reference.
 pub(super) static REFERENCE: [Row; 3] = [
@@ -17,7 +17,10 @@ pub(super) static KEY: [Row; 2] = [
 ];
 
 /// AbstractLangString.
-pub(super) static LANG_TEXT: [Row; 2] = [required!(name::LANGUAGE, Text), required!(name::TEXT, Text)];
+pub(super) static LANG_TEXT: [Row; 2] = [
+    required!(name::LANGUAGE, Text),
+    required!(name::TEXT, Text),
+];
 
 /// Extension.
 pub(super) static EXTENSION: [Row; 6] = [
@@ -68,7 +71,10 @@ pub(super) static ASSET_INFORMATION: [Row; 5] = [
 ];
 
 /// Resource.
-pub(super) static RESOURCE: [Row; 2] = [optional!(name::CONTENT_TYPE, Text), required!(name::PATH, Text)];
+pub(super) static RESOURCE: [Row; 2] = [
+    optional!(name::CONTENT_TYPE, Text),
+    required!(name::PATH, Text),
+];
 
 /// OperationVariable.
 pub(super) static OPERATION_VARIABLE: [Row; 1] = [required!(name::VALUE, One(Sort::Element))];
