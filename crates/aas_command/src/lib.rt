@@ -2,7 +2,9 @@
 
 #![tactic(auto)]
 
+mod command;
 mod refusal;
 mod text;
 
+pub use command::Command;
 pub use refusal::{Absent, Refusal};

@@ -1,5 +1,5 @@
 -- Lists before items.
-use Rattle.std.proofs.Common.{◌≡◌, List, [], ◌∷◌, ◌++◌, ◌==◌, map, not, length, is_some, refl, ap, append_assoc, arith}
+use Rattle.std.proofs.Common.{◌≡◌, List, [], ◌∷◌, ◌++◌, ◌==◌, map, not, length, is_some, refl, ap, arith}
 use Rattle.serde_json.specs.Data.{Data, Items, no_items, item}
 use Rattle.serde_json.specs.View.{items_of}
 use Rattle.aas_json_table.specs.Spelled.{onto, list_of}
@@ -13,10 +13,6 @@ one_more f (y ∷ xs) x rest = ap (item (f y)) (one_more f xs x rest)
 pub is_some_list : {A : Type 0} (f : A → Data) (xs : List A) → is_some (list_of f xs) ≡ not (length xs == 0)
 is_some_list f [] = refl
 is_some_list f (x ∷ xs) = grind arith
-
--- an item at the end is the first of what follows
-pub one_last : {A : Type 0} (xs : List A) (x : A) (rest : List A) → (xs ++ x ∷ []) ++ rest ≡ xs ++ x ∷ rest
-one_last xs x rest = append_assoc xs (x ∷ []) rest
 
 -- values before no items
 pub onto_none : (ds : List Data) → onto ds no_items ≡ items_of ds

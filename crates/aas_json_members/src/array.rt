@@ -45,7 +45,7 @@ impl Array {
     }
 
     /// Adds a value at the end, if there is one. So whatever follows what there was follows the value.
-    #[tactic(auto, using(crate::proofs::Lists::one_last))]
+    #[tactic(auto, using(aas_lemmas::proofs::Lists::append_one))]
     pub fn push_some(&mut self, value: Option<Exact>) -> Result<(), NoMemory>
         ensures ok { OnOk result ((rest : List Data) → items_of self.new ++ rest ≡ items_of self.old ++ cons_option (option_map data_of value) rest) }
         ensures err { OnErr result (items_of self.new ≡ items_of self.old) }

@@ -21,14 +21,14 @@ pub record Passes {I : Type 0} (before : ℕ) (old : ℕ → I → Type 0) (now 
   pub past : (t : ℕ) → t ≤ before → (image : I) → new t image ↔ old t image
 
 -- These payloads are kept, and a stop now leaves an image of them alone.
-pub record IsSettled {K I : Type 0} (stands_for : I → List (List ℕ) → Type 0) (kept : K → List (List ℕ) → Type 0) (moment : K → ℕ) (left_at : K → ℕ → I → Type 0) (keeper : K) (payloads : List (List ℕ)) : Type 0 where
-  pub told : kept keeper payloads
-  pub alone : (image : I) → left_at keeper (moment keeper) image → stands_for image payloads
+pub record IsSettled {I : Type 0} (stands_for : I → List (List ℕ) → Type 0) (kept : List (List ℕ) → Type 0) (moment : ℕ) (left_at : ℕ → I → Type 0) (payloads : List (List ℕ)) : Type 0 where
+  pub told : kept payloads
+  pub alone : (image : I) → left_at moment image → stands_for image payloads
 
 -- A call on a settled keeper adds the payload in turn. Where it fails a stop may leave it or not.
 abbrev pub KeepsInTurn : {K I T E : Type 0} → (I → List (List ℕ) → Type 0) → (K → List (List ℕ) → Type 0) → (K → ℕ) → (K → ℕ → I → Type 0)
     → (old new : K) → List ℕ → Result T E → Type 0
 KeepsInTurn stands_for kept moment left_at old new payload result =
-    (payloads : List (List ℕ)) → IsSettled stands_for kept moment left_at old payloads → MatchResult result
+    (payloads : List (List ℕ)) → IsSettled stands_for (kept old) (moment old) (left_at old) payloads → MatchResult result
     (λ _. InTurn stands_for (left_at new) (moment old) (moment new) payloads (payload ∷ []) [])
     (λ _. InTurn stands_for (left_at new) (moment old) (moment new) payloads [] (payload ∷ []))

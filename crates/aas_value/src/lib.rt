@@ -3,7 +3,9 @@
 #![tactic(auto)]
 
 mod form;
+mod kind;
 mod kinds;
 mod single;
 
 pub use form::{value_form, value_of, value_of_submodel};
+pub use kind::has_value_form;

@@ -1,0 +1,49 @@
+-- Which commands are well formed, and the payloads in which they are kept: a tag byte, and then fields, each with its length as four bytes, greatest first, before
+-- it. Documents are canonical texts, identifiers are UTF-8. This profile's own rule.
+use Rattle.std.specs.Prelude.{ℕ, List, [], ◌∷◌, ◌++◌, length, flat_map, ⊤}
+use Rattle.std.specs.Int.{to_be_bytes, w32}
+use Rattle.std.specs.Str.{encode_utf8_all}
+use Rattle.aas_json_table.specs.TooDeep.{limits}
+use Rattle.aas_json_spelling.specs.Spells.{canonical_text}
+use Rattle.aas_json_mapping.specs.Trees.{asset_informations, concepts, shells, submodels}
+use Rattle.aas_command.specs.declared.command.Command.{Command}
+use Rattle.aas_command.specs.declared.command.Command.TheVariants.{CreateShell, CreateSubmodel, CreateConcept, ReplaceShell, ReplaceSubmodel, ReplaceConcept, DeleteShell, DeleteSubmodel, DeleteConcept, SetAsset}
+
+-- what it brings is whole
+unfoldable pub IsWellFormed : Command → Type 0
+IsWellFormed (CreateShell d) = shells.IsWhole limits d
+IsWellFormed (CreateSubmodel d) = submodels.IsWhole limits d
+IsWellFormed (CreateConcept d) = concepts.IsWhole limits d
+IsWellFormed (ReplaceShell d) = shells.IsWhole limits d
+IsWellFormed (ReplaceSubmodel d) = submodels.IsWhole limits d
+IsWellFormed (ReplaceConcept d) = concepts.IsWhole limits d
+IsWellFormed (DeleteShell id) = ⊤
+IsWellFormed (DeleteSubmodel id) = ⊤
+IsWellFormed (DeleteConcept id) = ⊤
+IsWellFormed (SetAsset shell asset) = asset_informations.IsWhole limits asset
+
+-- a tag, and the fields behind it
+pub record Row : Type 0 where
+  pub tag : ℕ
+  pub fields : List (List ℕ)
+
+abbrev pub row : ℕ → List (List ℕ) → Row
+row tag fields = record { tag = tag; fields = fields }
+
+abbrev pub row_of : Command → Row
+row_of (CreateShell d) = row 1 (canonical_text shells d ∷ [])
+row_of (CreateSubmodel d) = row 2 (canonical_text submodels d ∷ [])
+row_of (CreateConcept d) = row 3 (canonical_text concepts d ∷ [])
+row_of (ReplaceShell d) = row 4 (canonical_text shells d ∷ [])
+row_of (ReplaceSubmodel d) = row 5 (canonical_text submodels d ∷ [])
+row_of (ReplaceConcept d) = row 6 (canonical_text concepts d ∷ [])
+row_of (DeleteShell id) = row 7 (encode_utf8_all id ∷ [])
+row_of (DeleteSubmodel id) = row 8 (encode_utf8_all id ∷ [])
+row_of (DeleteConcept id) = row 9 (encode_utf8_all id ∷ [])
+row_of (SetAsset shell asset) = row 10 (encode_utf8_all shell ∷ canonical_text asset_informations asset ∷ [])
+
+abbrev pub field : List ℕ → List ℕ
+field bytes = to_be_bytes w32 (length bytes) ++ bytes
+
+unfoldable pub payload_of : Command → List ℕ
+payload_of c = (row_of c).tag ∷ flat_map field (row_of c).fields

@@ -1,0 +1,2 @@
+//! Definitions alone: a repository, what a request comes to in it, and what a machine that takes the requests holds.
+#![tactic(auto)]

@@ -1,0 +1,15 @@
+//! Stores: for each of the three collections a map from identifiers to documents.
+//!
+//! [`Store`] says what a store is, by the three maps that it holds; [`TreeStore`] is one that keeps trees.
+
+#![tactic(auto)]
+
+mod shelf;
+mod store;
+mod tree_store;
+
+pub use store::Store;
+pub use tree_store::TreeStore;
+
+#[cfg(test)]
+mod tests;

@@ -1,0 +1,99 @@
+ghost use Rattle.std.specs.Prelude.{◌≡◌};
+ghost use Rattle.aas_store.specs.Documents.{empty};
+ghost use Rattle.aas_store.specs.TreeStore.{documents};
+
+use crate::shelf::Shelf;
+use crate::store::Store;
+use aas_model::{Collection, Concept, Duplicate, NoMemory, Shell, Submodel};
+use std::alloc::Global;
+
+/// A store that keeps each document as its tree.
+///
+/// A look-up costs the logarithm of the collection's size. A put and a delete also move 32 bytes for each document
+/// behind the one that they meet.
+#[derive(Drop)]
+pub struct TreeStore {
+    shells: Shelf<Shell>,
+    submodels: Shelf<Submodel>,
+    concepts: Shelf<Concept>,
+}
+
+impl TreeStore {
+    /// A store of no documents, which takes no memory.
+    pub fn new(alloc: Global) -> TreeStore
+        ensures { documents result ≡ empty }
+    {
+        TreeStore {
+            shells: Shelf::new(alloc),
+            submodels: Shelf::new(alloc),
+            concepts: Shelf::new(alloc),
+        }
+    }
+}
+
+impl Store for TreeStore {
+    ghost documents = { documents };
+
+    fn count(&self, collection: Collection) -> u64 {
+        let count = match collection {
+            Collection::Shells => self.shells.len(),
+            Collection::Submodels => self.submodels.len(),
+            Collection::Concepts => self.concepts.len(),
+        };
+        count as u64
+    }
+
+    fn has(&self, collection: Collection, id: &str) -> bool {
+        match collection {
+            Collection::Shells => self.shells.get(id).is_some(),
+            Collection::Submodels => self.submodels.get(id).is_some(),
+            Collection::Concepts => self.concepts.get(id).is_some(),
+        }
+    }
+
+    fn id_after(&self, collection: Collection, after: Option<&str>) -> Option<&str> {
+        match collection {
+            Collection::Shells => self.shells.id_after(after),
+            Collection::Submodels => self.submodels.id_after(after),
+            Collection::Concepts => self.concepts.id_after(after),
+        }
+    }
+
+    fn shell(&self, id: &str) -> Option<&Shell> {
+        self.shells.get(id)
+    }
+
+    fn concept(&self, id: &str) -> Option<&Concept> {
+        self.concepts.get(id)
+    }
+
+    fn submodel(&self, id: &str) -> Result<Option<Submodel>, NoMemory> {
+        match self.submodels.get(id) {
+            Some(submodel) => Ok(Some(submodel.copy()?)),
+            None => Ok(None),
+        }
+    }
+
+    fn put_shell(&mut self, shell: Shell) -> Result<(), NoMemory> {
+        let id = shell.head.id.copy()?;
+        self.shells.put(id, shell)
+    }
+
+    fn put_submodel(&mut self, submodel: Submodel) -> Result<(), NoMemory> {
+        let id = submodel.head.id.copy()?;
+        self.submodels.put(id, submodel)
+    }
+
+    fn put_concept(&mut self, concept: Concept) -> Result<(), NoMemory> {
+        let id = concept.head.id.copy()?;
+        self.concepts.put(id, concept)
+    }
+
+    fn delete(&mut self, collection: Collection, id: &str) {
+        match collection {
+            Collection::Shells => self.shells.remove(id),
+            Collection::Submodels => self.submodels.remove(id),
+            Collection::Concepts => self.concepts.remove(id),
+        }
+    }
+}
