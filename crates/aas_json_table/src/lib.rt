@@ -10,6 +10,8 @@
 
 /// Where a value first departs from the table.
 pub mod misfit;
+/// The names of the members of the JSON mapping.
+pub mod name;
 /// The way to a place in a value, and its text.
 pub mod pointer;
 /// The table.
