@@ -3,7 +3,7 @@ ghost use Rattle.std.specs.Prelude.{◌≡◌, Bool, true, IfOk};
 
 use crate::text::{done, text, text_of};
 use aas_command::Refusal;
-use aas_json_members::read_value;
+use aas_json_input::read_value;
 use aas_json_read::{
     read_asset_information, read_concept, read_element, read_environment, read_shell, read_submodel,
 };
