@@ -11,11 +11,11 @@ use Rattle.aas_http.specs.Laws.{BeginsWithOne, EndsUnfinished, FitsLimits}
 use Rattle.aas_http.specs.FirstRequest.{Nothing, Bad, IsBlank, first_by_length, first_of_head, IsFirstRequest}
 use Rattle.aas_http.specs.Steps.{AwaitsHead, AwaitsBody}
 
-blank_first : (b : List ℕ) → IsBlank b → IsFirstRequest b Nothing
+pub blank_first : (b : List ℕ) → IsBlank b → IsFirstRequest b Nothing
 unfolding IsFirstRequest
 blank_first b blank = inl (blank, refl)
 
-unfinished : (b : List ℕ) → ¬ (IsBlank b) → AwaitsHead b ⊎ AwaitsBody b → IsFirstRequest b Bad
+pub unfinished : (b : List ℕ) → ¬ (IsBlank b) → AwaitsHead b ⊎ AwaitsBody b → IsFirstRequest b Bad
 unfolding IsFirstRequest
 unfinished b some (inl head) = inr (inl (some, head.none, refl))
 unfinished b some (inr body) =

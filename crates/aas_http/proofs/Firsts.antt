@@ -32,7 +32,7 @@ not_blank b more some blank = some (record {
   short = omega (arith, blank.short, length-append b more);
 })
 
-admits_more : (b : List ℕ) (h : RequestHead) (rest more : List ℕ) → Admits b h rest → Admits (b ++ more) h (rest ++ more)
+pub admits_more : (b : List ℕ) (h : RequestHead) (rest more : List ℕ) → Admits b h rest → Admits (b ++ more) h (rest ++ more)
 admits_more b h rest more a = record { reads = ReadsRequest-append b h rest more a.reads; fields = a.fields; size = a.size }
 
 by_head : (b : List ℕ) (h : RequestHead) (rest : List ℕ) → ¬ (IsBlank b) → Admits b h rest → (more : List ℕ) (first : FirstRequest) → first ≡ first_of_head h (rest ++ more) → IsFirstRequest (b ++ more) first

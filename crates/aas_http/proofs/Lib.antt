@@ -1,4 +1,5 @@
 mod Adding
+mod Awaiting
 pub mod FirstLaws
 mod Firsts
 mod Lengths

@@ -9,3 +9,4 @@ pub mod NotImplemented
 pub mod OnlyValue
 pub mod ReplyText
 pub mod Steps
+pub mod WholeLength

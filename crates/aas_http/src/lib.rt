@@ -7,11 +7,13 @@
 mod fields;
 mod gathering;
 mod laws;
+mod length;
 mod replies;
 mod request;
 mod send;
 
 pub use laws::{begins_with_one, ends_unfinished, fits_limits};
+pub use length::whole_length;
 pub use replies::Reply;
 pub use request::{Request, Step, is_blank, next_request};
 pub use send::reply;

@@ -11,10 +11,10 @@ use httparse::Status;
 use httparse::spans::{EMPTY_HEADER_SPAN, HeaderSpan, RequestSpans, parse_request};
 
 /// The most bytes that a head may have.
-const HEAD_LIMIT: usize = 16_384;
+pub const HEAD_LIMIT: usize = 16_384;
 
 /// The most fields that a head may have.
-const FIELD_LIMIT: usize = 64;
+pub const FIELD_LIMIT: usize = 64;
 
 /// The most bytes that a body may have.
 const BODY_LIMIT: u64 = 4_194_304;
