@@ -1,6 +1,6 @@
 mod Adding
-pub mod FirstLaws
 mod Awaiting
+pub mod FirstLaws
 mod Firsts
 mod Lengths
 mod Texts

@@ -1,5 +1,5 @@
 -- What a value says as a specific asset identifier is whole, whatever the order of names in it: it has no kept data.
-use Rattle.std.proofs.Common.{◌≡◌, ℕ, ◌+◌, List, [], ◌∷◌, ◌&&◌, Bool, true, Option, Some, None, option_map, map, codes, Result, Ok, Err, refl, ap, ◌∙◌}
+use Rattle.std.proofs.Common.{◌≡◌, ℕ, ◌+◌, List, [], ◌∷◌, true, Option, Some, None, option_map, map, codes, Result, Ok, Err, refl, ap, ◌∙◌}
 use Rattle.std.proofs.lemmas.Bool.{and_from}
 use Rattle.std.specs.List.{list_all}
 use Rattle.serde_json.specs.Data.{Data, null, boolean, number, string, array, object, Items, no_items, item, Members}
@@ -18,7 +18,7 @@ use Rattle.aas_reference.proofs.Whole.{said_whole}
 use Rattle.aas_json_mapping.specs.Parts.{spell_specific_asset_id, specific_asset_id_attributes}
 use Rattle.aas_json_mapping.specs.Trees.{specific_asset_ids}
 use Rattle.aas_json_mapping.specs.Whole.{whole_specific_asset_id}
-use Rattle.aas_json_members.specs.Said.{said}
+use Rattle.aas_json_input.specs.Said.{said}
 use Rattle.aas_model.specs.declared.parts.SpecificAssetId.{SpecificAssetId}
 use Rattle.aas_model.specs.declared.reference.Reference.{Reference}
 use Rattle.aas_model.specs.declared.read_fault.ReadFault.{ReadFault}

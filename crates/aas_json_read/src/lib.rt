@@ -9,10 +9,8 @@ mod common;
 mod documents;
 mod elements;
 mod found;
-mod parts;
 mod payload;
 mod read;
-mod semantics;
 mod sorts;
 
 ghost use Rattle.std.specs.Prelude.{◌-◌};
@@ -22,15 +20,14 @@ ghost use Rattle.aas_json_spelling.specs.Reads.{Reads, ReadsEach, ReadsBytes, Re
 ghost use Rattle.aas_json_mapping.specs.Trees.{asset_informations, concepts, elements, environments, shells, specific_asset_ids, submodels};
 
 use crate::read::read_shaped;
-use crate::sorts::{
-    AssetInformations, Concepts, Elements, Environments, Shells, SpecificAssetIds, Submodels,
-};
-use aas_json_members::{read_bytes, read_part};
+use crate::sorts::{Concepts, Elements, Environments, Shells, Submodels};
+use aas_json_input::{read_bytes, read_part};
+use aas_json_parts::{AssetInformations, SpecificAssetIds};
+use aas_json_table::table::Sort;
+use aas_json_table::too_deep::Levels;
 use aas_model::{
     AssetInformation, Concept, Element, Environment, ReadFault, Shell, SpecificAssetId, Submodel,
 };
-use aas_json_table::table::Sort;
-use aas_json_table::too_deep::Levels;
 use serde_json::Value;
 use std::alloc::Global;
 

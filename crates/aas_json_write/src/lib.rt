@@ -11,15 +11,13 @@ mod common;
 mod documents;
 mod elements;
 mod environment;
+mod kept;
 mod kinds;
 mod laws;
-mod parts;
-mod sorts;
 mod write;
 
-pub use elements::element_value;
+pub use elements::element_json;
 pub use laws::{forms_are_in_order, whole_trees_are_in_order};
-pub use sorts::SpecificAssetIds;
 pub use write::{
     write_asset_information, write_concept, write_element, write_environment, write_shell,
     write_submodel,

@@ -2,11 +2,10 @@
 
 #![tactic(auto)]
 
-mod children;
 mod form;
 mod kind;
 mod kinds;
 mod single;
 
-pub use form::{element_value, value_of, value_of_submodel};
+pub use form::{value_form, value_of, value_of_submodel};
 pub use kind::has_value_form;
