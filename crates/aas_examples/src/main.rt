@@ -5,8 +5,11 @@
 
 mod answer;
 mod changes;
-mod documents;
+mod document;
 mod faults;
+mod forms;
+mod parts;
+mod text;
 
 ghost use Rattle.std.specs.Prelude.{◌≡◌, MatchOption, string_bytes};
 

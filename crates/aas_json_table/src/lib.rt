@@ -17,6 +17,4 @@ pub mod pointer;
 /// The table.
 pub mod table;
 /// Where a value first lies too deep.
-#[cfg(test)]
-mod tests;
 pub mod too_deep;

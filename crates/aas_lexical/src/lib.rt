@@ -23,6 +23,3 @@ pub use name::{
 pub use natives::Native;
 pub use time::is_utc_date_time;
 pub use value::{fits, native};
-
-#[cfg(test)]
-mod tests;

@@ -13,6 +13,3 @@ pub use cut::{
     after_any, after_four_digits, after_one, after_run, after_two_digits, after_word, is_whole,
     shorter, within,
 };
-
-#[cfg(test)]
-mod tests;

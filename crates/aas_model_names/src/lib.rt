@@ -31,6 +31,3 @@ pub use qualifier_kind::QualifierKind;
 pub use reference_type::ReferenceType;
 pub use state_of_event::StateOfEvent;
 pub use value_type::ValueType;
-
-#[cfg(test)]
-mod tests;

@@ -16,6 +16,3 @@ pub use duplicate::{Duplicate, copy_option};
 pub use many::Many;
 pub use no_memory::NoMemory;
 pub use text::{Text, same_text};
-
-#[cfg(test)]
-mod tests;
