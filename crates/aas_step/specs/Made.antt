@@ -1,0 +1,45 @@
+-- What a command makes of the documents, where it isn't refused. This profile's own rule.
+use Rattle.std.specs.Prelude.{◌≡◌, ℕ, List, [], ◌∷◌}
+use Rattle.std.specs.Str.{encode_utf8_all}
+use Rattle.std.specs.Option.{option_map_or}
+use Rattle.std.specs.FinMap as map
+use Rattle.aas_model_names.specs.declared.collection.Collection.TheVariants.{Shells, Submodels, Concepts}
+use Rattle.aas_model.specs.declared.documents.Shell.{Shell}
+use Rattle.aas_constraint_rules.specs.Faults.{Document, shell, submodel, concept}
+use Rattle.aas_command.specs.declared.command.Command.{Command}
+use Rattle.aas_command.specs.declared.command.Command.TheVariants.{CreateShell, CreateSubmodel, CreateConcept, ReplaceShell, ReplaceSubmodel, ReplaceConcept, DeleteShell, DeleteSubmodel, DeleteConcept, SetAsset}
+use Rattle.aas_store.specs.Documents.{Documents, without, with_shell, with_submodel, with_concept}
+
+-- the shell of an identifier, changed
+abbrev pub changed_shell : Documents → List ℕ → (Shell → Shell) → List Document
+changed_shell d id change = option_map_or (λ s. shell (change s) ∷ []) (map.get d.shells (encode_utf8_all id)) []
+
+-- these are the new documents, in their order
+abbrev pub IsMade : Documents → Command → List Document → Type 0
+IsMade d (CreateShell s) new = new ≡ shell s ∷ []
+IsMade d (CreateSubmodel s) new = new ≡ submodel s ∷ []
+IsMade d (CreateConcept c) new = new ≡ concept c ∷ []
+IsMade d (ReplaceShell s) new = new ≡ shell s ∷ []
+IsMade d (ReplaceSubmodel s) new = new ≡ submodel s ∷ []
+IsMade d (ReplaceConcept c) new = new ≡ concept c ∷ []
+IsMade d (DeleteShell id) new = new ≡ []
+IsMade d (DeleteSubmodel id) new = new ≡ []
+IsMade d (DeleteConcept id) new = new ≡ []
+IsMade d (SetAsset id asset) new = new ≡ changed_shell d id (λ s. record s { asset = asset })
+
+-- the documents without the one that it takes away
+abbrev pub left : Documents → Command → Documents
+left d (DeleteShell id) = without Shells (encode_utf8_all id) d
+left d (DeleteSubmodel id) = without Submodels (encode_utf8_all id) d
+left d (DeleteConcept id) = without Concepts (encode_utf8_all id) d
+left d c = d
+
+abbrev pub with_document : Documents → Document → Documents
+with_document d (shell s) = with_shell d s
+with_document d (submodel s) = with_submodel d s
+with_document d (concept c) = with_concept d c
+
+-- each put in under its own identifier, in their order
+abbrev pub with_documents : Documents → List Document → Documents
+with_documents d [] = d
+with_documents d (x ∷ xs) = with_documents (with_document d x) xs
