@@ -5,6 +5,8 @@ use Rattle.aas_model.specs.declared.path.Fault.{Fault}
 use Rattle.aas_model.specs.declared.read_fault.ReadFault.{ReadFault}
 use Rattle.aas_model.specs.declared.read_fault.ReadFault.TheVariants as read
 use Rattle.aas_path.specs.PathText.{fault_path_text}
+use Rattle.aas_path.specs.declared.path_fault.PathFault.{PathFault}
+use Rattle.aas_path.specs.declared.path_fault.PathFault.TheVariants as path
 use Rattle.aas_command.specs.declared.refusal.Absent.{Absent}
 use Rattle.aas_command.specs.declared.refusal.Absent.TheVariants as absent
 use Rattle.aas_command.specs.declared.refusal.Refusal.{Refusal}
@@ -69,6 +71,10 @@ refusal_of_read read.NotJson = NotJson
 refusal_of_read (read.NotMapping pointer) = NotMapping pointer
 refusal_of_read (read.TooDeep pointer) = TooDeep pointer
 refusal_of_read read.NoMemory = NoMemory
+
+abbrev pub refusal_of_path : PathFault → Refusal
+refusal_of_path (path.BadPath n) = BadPath n
+refusal_of_path path.NoMemory = NoMemory
 
 -- number 0 stands for the lexical rules
 abbrev pub refusal_of_fault : Fault → Refusal

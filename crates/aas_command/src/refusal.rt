@@ -2,6 +2,7 @@
 ghost use Rattle.std.specs.Prelude.{◌≡◌};
 
 use aas_model::{Fault, NoMemory, Path, ReadFault, Text};
+use aas_path::PathFault;
 use std::alloc::AllocError;
 
 /// What isn't there.
@@ -150,6 +151,19 @@ impl From<Fault> for Refusal {
             Refusal::Lexical { path: fault.path }
         } else {
             Refusal::Constraint { fault }
+        }
+    }
+}
+
+impl From<PathFault> for Refusal {
+    ghost use Rattle.aas_command.specs.Refusals.{refusal_of_path};
+
+    ghost from_gives = { λ fault refusal. refusal ≡ refusal_of_path fault };
+
+    fn from(fault: PathFault) -> Refusal {
+        match fault {
+            PathFault::BadPath { at } => Refusal::BadPath { at },
+            PathFault::NoMemory => Refusal::NoMemory,
         }
     }
 }

@@ -2,11 +2,13 @@
 use Rattle.std.proofs.Common.{◌≡◌, ℕ, Bool, List, [], ◌∷◌, ◌++◌, length, map, Option, Some, None, option_map, refl, sym, ap, ap₂, ◌∙◌}
 use Rattle.std.specs.Prelude.{if◌then◌else◌}
 use Rattle.std.proofs.lemmas.List.{map-append, length-map}
-use Rattle.aas_model.specs.declared.element.Element.{Element, out-Element, roll-Element, out-roll-Element, fold_out-Element, ind-Element}
+use Rattle.std.proofs.lemmas.Simd.{map-map}
+use Rattle.aas_model.specs.declared.element.Element.{Element, roll-Element, out-roll-Element, fold_out-Element, ind-Element}
 use Rattle.aas_model.specs.declared.payload.Payload.{Payload}
 use Rattle.aas_model.specs.declared.payload.Payload.TheVariants as p
 use Rattle.aas_model.specs.declared.path.PathStep.TheVariants.{Place}
-use Rattle.aas_constraint_rules.specs.Sites.{Own, Site, Tree, Trees, node, none, first, root, sites, sites_among, step_to, named_or, stands_in_list, is_list, under, trees, tree_over, tree_of}
+use Rattle.aas_constraint_rules.specs.Sites.{Own, own_of, Site, Tree, Trees, node, none, first, root, sites, sites_among, step_to, named_or, stands_in_list, is_list, under, trees, tree_of}
+use Rattle.aas_constraint_rules.proofs.Elements.{tree_out}
 use Rattle.aas_path_trees.specs.Children.{kids_of}
 use Rattle.aas_constraint_laws.specs.Values.{without_values, bare_over, bare, DifferInValues}
 
@@ -23,12 +25,6 @@ unfoldable mutual
   pub bare_trees : Trees → Trees
   bare_trees none = none
   bare_trees (first t ts) = first (bare_tree t) (bare_trees ts)
-
--- ---- lists
-
-pub map_twice : {X Y Z : Type 0} (f : Y → Z) (g : X → Y) (xs : List X) → map f (map g xs) ≡ map (λ x. f (g x)) xs
-map_twice f g [] = refl
-map_twice f g (x ∷ xs) = ap (λ l. f (g x) ∷ l) (map_twice f g xs)
 
 -- ---- the places of a bare tree
 
@@ -66,19 +62,11 @@ mutual
       step_bare a (length b) (root t) ∙ ap₂ (λ n o. step_to (option_map bare_own a) n o) (length_bare b) (root_bare t) in
       map-append bare_site (map (under s) (sites c a b t)) (sites_among c a (b ++ root t ∷ []) ts)
       ∙ ap₂ (λ u v. u ++ v)
-      (map_twice bare_site (under s) (sites c a b t) ∙ sym (map_twice (under s) bare_site (sites c a b t)) ∙ ap₂ (λ k l. map (under k) l) step (sites_bare c a b t))
+      (map-map bare_site (under s) (sites c a b t) ∙ sym (map-map (under s) bare_site (sites c a b t)) ∙ ap₂ (λ k l. map (under k) l) step (sites_bare c a b t))
       (among_bare c a (b ++ root t ∷ []) ts
       ∙ ap (λ l. sites_among c (option_map bare_own a) l (bare_trees ts)) (map-append bare_own b (root t ∷ []) ∙ ap (λ o. map bare_own b ++ o ∷ []) (root_bare t)))
 
 -- ---- elements as trees
-
--- an element without its children
-abbrev pub own_of : Element → Own
-own_of e = record { common = (out-Element e).common; payload = (out-Element e).payload; role = (out-Element e).role }
-
-pub tree_out : (e : Element) → tree_of e ≡ node (own_of e) (trees (map tree_of (kids_of e)))
-unfolding tree_of
-tree_out e = fold_out-Element Tree tree_over e
 
 -- an element of these attributes and children
 abbrev pub made : Own → List Element → Element

@@ -15,17 +15,19 @@ use Rattle.aas_constraint_rules.specs.Decided.{is_id_short}
 use Rattle.aas_reference.specs.Rules.{if_any}
 use Rattle.aas_constraint_rules.specs.Attributes.{seen_of_submodel}
 use Rattle.aas_constraint_rules.specs.Faults.{fault, faults, faults_at, document_faults, submodel_rules, is_template, submodel, HasNoFault}
-use Rattle.aas_constraint_rules.specs.Sites.{Own, Tree, Trees, node, none, first, root, sites_among, step_to, stands_in_list, named_or, tree_of, trees, is_list as is_list_of}
+use Rattle.aas_constraint_rules.specs.Sites.{Own, own_of, Tree, Trees, node, none, first, root, sites_among, step_to, stands_in_list, named_or, tree_of, trees, is_list as is_list_of}
 use Rattle.aas_path_trees.specs.Children.{kids_of, id_short_of, is_list, is_list_payload}
 use Rattle.aas_path_trees.specs.ElementAt.{is_text, place_of, child_by, element_below, element_at}
 use Rattle.aas_path_trees.specs.WithElement.{with_child as with_child_by, with_below, with_element}
 use Rattle.aas_path_trees.proofs.Paths.{child_by-there}
+use Rattle.aas_lemmas.proofs.Lists.{no_first, no_second, no_map}
+use Rattle.aas_constraint_rules.proofs.Elements.{tree_out}
 use Rattle.aas_constraint_laws.specs.Law.{behind, local_faults}
 use Rattle.aas_constraint_laws.specs.Values.{DifferInValues}
-use Rattle.aas_constraint_laws.proofs.Bare.{own_of, tree_out, tree_made, same_bare}
+use Rattle.aas_constraint_laws.proofs.Bare.{tree_made, same_bare}
 use Rattle.aas_constraint_laws.proofs.Changed.{child, with_child, tree_at, with_tree, path_by, path_to, local_here, local_among, free, free_among, place_law}
 use Rattle.aas_constraint_laws.proofs.PathNames.{named_own}
-use Rattle.aas_constraint_laws.proofs.Places.{no_first, no_second, no_map, locally_broken, all_none_local}
+use Rattle.aas_constraint_laws.proofs.Places.{locally_broken, all_none_local}
 
 abbrev Child : Type 0
 Child = ℕ × Element

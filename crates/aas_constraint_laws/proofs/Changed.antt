@@ -2,13 +2,16 @@
 use Rattle.std.proofs.Common.{◌≡◌, ℕ, zero, suc, ◌+◌, Bool, List, [], ◌∷◌, ◌++◌, length, map, flat_map, Option, Some, None, option_map, option_and_then, refl, sym, ap, ap₂, ◌∙◌, arith}
 use Rattle.std.proofs.lemmas.List.{append-nil, map-append}
 use Rattle.std.proofs.lemmas.Grind.{flat_map-append}
+use Rattle.std.proofs.lemmas.Simd.{map-map}
 use Rattle.aas_model.specs.declared.path.Fault.{Fault}
 use Rattle.aas_model.specs.declared.path.PathStep.{PathStep}
 use Rattle.aas_constraint_rules.specs.Faults.{fault, faults_at}
 use Rattle.aas_constraint_rules.specs.Sites.{Own, Site, Tree, Trees, node, none, first, root, sites, sites_among, step_to, under}
 use Rattle.aas_constraint_laws.specs.Law.{local_faults_at, behind}
-use Rattle.aas_constraint_laws.proofs.Bare.{bare_own, bare_tree, bare_trees, map_twice, step_bare, root_bare}
-use Rattle.aas_constraint_laws.proofs.Places.{no_first, no_second, no_map, locally_broken, all_none_placed, all_none_local, all_local, same_placed}
+use Rattle.aas_constraint_laws.proofs.Bare.{bare_own, bare_tree, bare_trees, step_bare, root_bare}
+use Rattle.aas_lemmas.proofs.Lists.{no_first, no_second, no_map}
+use Rattle.aas_constraint_rules.proofs.Elements.{under_fault}
+use Rattle.aas_constraint_laws.proofs.Places.{locally_broken, all_none_placed, all_none_local, all_local, same_placed}
 
 -- ---- places by numbers
 
@@ -42,10 +45,6 @@ path_to (i ∷ q) (node o ts) = path_by (λ k. step_to (Some o) i (root k) ∷ p
 
 -- ---- local faults, by trees alone
 
--- a fault, seen from one step above
-abbrev pub under_fault : PathStep → Fault → Fault
-under_fault s f = record f { path = record { steps = s ∷ f.path.steps } }
-
 unfoldable mutual
   pub local_here : Tree → List Fault
   local_here (node o ts) = map (fault []) (locally_broken o) ++ local_among (Some o) 0 ts
@@ -57,7 +56,7 @@ unfoldable mutual
 local_under : (s : PathStep) (xs : List Site) → flat_map local_faults_at (map (under s) xs) ≡ map (under_fault s) (flat_map local_faults_at xs)
 local_under s [] = refl
 local_under s (x ∷ xs) =
-    ap₂ (λ a b. a ++ b) (sym (map_twice (under_fault s) (fault x.path) (locally_broken x.own))) (local_under s xs) ∙ sym (map-append (under_fault s) (local_faults_at x) (flat_map local_faults_at xs))
+    ap₂ (λ a b. a ++ b) (sym (map-map (under_fault s) (fault x.path) (locally_broken x.own))) (local_under s xs) ∙ sym (map-append (under_fault s) (local_faults_at x) (flat_map local_faults_at xs))
 
 one_longer : (b : List Own) (o : Own) → length (b ++ o ∷ []) ≡ suc (length b)
 one_longer [] o = refl
@@ -110,7 +109,7 @@ changed_child a n m zero q (first t ts) e u same ih at is clean =
     let at_n : n ≡ m = omega arith in
     ap (λ l. map (under_fault (step_to a n (root t'))) (local_here t') ++ l) rest ∙ append-nil _
     ∙ ap₂ (λ k l. map (under_fault k) l) (step_same a n t' t (bare_with q e u t same at) ∙ ap (λ k. step_to a k (root t)) at_n) (ih t at here)
-    ∙ map_twice (under_fault (step_to a m (root t))) (behind (path_to q t)) (local_here u)
+    ∙ map-map (under_fault (step_to a m (root t))) (behind (path_to q t)) (local_here u)
 changed_child a n m (suc i) q (first t ts) e u same ih at is clean =
     let s = step_to a n (root t) in
     let here : map (under_fault s) (local_here t) ≡ [] = no_first (map (under_fault s) (local_here t)) (local_among a (suc n) ts) clean in

@@ -3,6 +3,7 @@ use Rattle.std.proofs.Common.{◌≡◌, ℕ, ◌≤◌, ◌&&◌, Bool, true, f
 use Rattle.std.specs.Prelude.{nat_le, encode_utf8_all}
 use Rattle.std.specs.List.{list_all}
 use Rattle.std.proofs.lemmas.Bool.Decides.{nat_tests}
+use Rattle.aas_lemmas.proofs.Truth.{and_left}
 use Rattle.aas_lexical.specs.Names.{most_name_characters, name, id_short}
 use Rattle.aas_lexical.proofs.NamesAscii.{bytes_name}
 use Rattle.aas_reference.specs.Rules.{if_any}
@@ -13,10 +14,6 @@ use Rattle.aas_constraint_rules.specs.Rules.{holds_locally, element_has_form, id
 use Rattle.aas_constraint_rules.specs.Sites.{Own}
 use Rattle.aas_constraint_rules.proofs.Forms.{name_tells, id_short_tells}
 use Rattle.aas_constraint_laws.proofs.Places.{each_passes, locally_broken}
-
-and_first : (a b : Bool) → a && b ≡ true → a ≡ true
-and_first true b e = refl
-and_first false b e = e
 
 short : (n : ℕ) → nat_le n most_name_characters ≡ true → n ≤ 128
 short n e = grind (arith, nat_tests)
@@ -47,6 +44,6 @@ short_name x e =
 pub named_own : (o : Own) → locally_broken o ≡ [] → if_any is_id_short o.common.id_short ≡ true
 named_own o e =
     let all = each_passes (λ s. holds_locally s o) rules e in
-    let form = and_first (element_has_form o) (list_all reference_has_form (references_of o)) all.0 in
-    path_name_if o.common.id_short (and_first (id_short_is_name (seen_of o)) (list_all (λ r. true) (references_of o)) all.1.0)
-    (short_name (seen_of o) (and_first (seen_has_form (seen_of o)) (payload_has_form o.payload) form))
+    let form = and_left (element_has_form o) (list_all reference_has_form (references_of o)) all.0 in
+    path_name_if o.common.id_short (and_left (id_short_is_name (seen_of o)) (list_all (λ r. true) (references_of o)) all.1.0)
+    (short_name (seen_of o) (and_left (seen_has_form (seen_of o)) (payload_has_form o.payload) form))

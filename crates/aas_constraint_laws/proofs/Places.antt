@@ -6,23 +6,10 @@ use Rattle.aas_reference.specs.Rules.{Rule, failing}
 use Rattle.aas_constraint_rules.specs.Faults.{fault, broken, faults_at}
 use Rattle.aas_constraint_rules.specs.Rules.{ElementSentence, local, placed, holds, holds_locally, rules}
 use Rattle.aas_constraint_rules.specs.Sites.{Own, Site, Trees, sites_among}
+use Rattle.aas_lemmas.proofs.Lists.{no_first, no_second, no_map}
 use Rattle.aas_constraint_laws.specs.Law.{local_faults_at}
 use Rattle.aas_constraint_laws.proofs.Bare.{bare_site, bare_trees, among_bare}
 use Rattle.aas_constraint_laws.proofs.PlacedRows.{holds_in_place, placed_bare}
-
--- ---- nothing
-
-pub no_first : {X : Type 0} (xs ys : List X) → xs ++ ys ≡ [] → xs ≡ []
-no_first [] ys e = refl
-no_first (x ∷ xs) ys e = cc
-
-pub no_second : {X : Type 0} (xs ys : List X) → xs ++ ys ≡ [] → ys ≡ []
-no_second [] ys e = e
-no_second (x ∷ xs) ys e = cc
-
-pub no_map : {X Y : Type 0} (f : X → Y) (xs : List X) → map f xs ≡ [] → xs ≡ []
-no_map f [] e = refl
-no_map f (x ∷ xs) e = cc
 
 -- ---- rows
 

@@ -17,16 +17,17 @@ use Rattle.aas_constraint_rules.specs.Decided.{is_id_short}
 use Rattle.aas_constraint_rules.specs.Faults.{fault, broken, faults_at, document_faults, submodel_rules, is_template, sites_of, submodel, HasNoFault}
 use Rattle.aas_constraint_rules.specs.Rules.{holds, name_of, is_repeat, name_is_new, is_named, variable_is_new, stands_in_operation, rules}
 use Rattle.aas_constraint_rules.specs.Sites as site
-use Rattle.aas_constraint_rules.specs.Sites.{Own, Site, Tree, node, root, under, step_to, stands_in_list, sites, sites_among, trees, tree_over, tree_of}
+use Rattle.aas_constraint_rules.specs.Sites.{Own, own_of, Site, Tree, node, root, under, step_to, stands_in_list, sites, sites_among, trees, tree_over, tree_of}
 use Rattle.aas_constraint_rules.specs.Texts.{is_among}
 use Rattle.aas_path_trees.specs.Children.{kids_of, id_short_of, is_list_payload}
 use Rattle.aas_path_trees.specs.Laws.{HasOnePath}
 use Rattle.aas_path_trees.specs.Places.{element_in, element_in_all, AreNamed, Differ, PlacesKeepRule, SiblingsDiffer, StepsKeepRule}
 use Rattle.aas_path_trees.proofs.OnePath.{one_path}
-use Rattle.aas_constraint_laws.proofs.Bare.{own_of, tree_out}
+use Rattle.aas_constraint_rules.proofs.Elements.{tree_out}
+use Rattle.aas_lemmas.proofs.Lists.{no_first, no_second, no_map}
 use Rattle.aas_constraint_laws.specs.OnePath.{HasOneWrittenPath}
 use Rattle.aas_constraint_laws.proofs.PathNames.{id_short_is, named_own}
-use Rattle.aas_constraint_laws.proofs.Places.{no_first, no_second, no_map, Passes, each_passes, none_local}
+use Rattle.aas_constraint_laws.proofs.Places.{Passes, each_passes, none_local}
 
 -- ---- what holds at a place without faults
 

@@ -14,15 +14,14 @@ use Rattle.aas_model.specs.declared.element.Role.{Role}
 use Rattle.aas_model.specs.declared.path.PathStep.{PathStep}
 use Rattle.aas_model.specs.declared.payload.Payload.{Payload}
 use Rattle.aas_model.specs.declared.payload.Payload.TheVariants as p
-use Rattle.aas_constraint_rules.specs.Faults.{submodel}
-use Rattle.aas_constraint_rules.specs.Sites.{Own}
+use Rattle.aas_constraint_rules.specs.Sites.{Own, own_of}
 use Rattle.aas_path_trees.specs.Children.{kids_of, is_list}
 use Rattle.aas_path_trees.specs.ElementAt.{child_by, element_below, element_at}
 use Rattle.aas_path_trees.specs.WithElement.{with_child, with_below, with_element}
 use Rattle.aas_path_trees.proofs.Paths.{child_by-there}
 use Rattle.aas_constraint_laws.specs.Law.{behind, ValidAfterChange}
 use Rattle.aas_constraint_laws.specs.Values.{without_values, bare, DifferInValues}
-use Rattle.aas_constraint_laws.proofs.Bare.{own_of, made, bare_own, bare_out}
+use Rattle.aas_constraint_laws.proofs.Bare.{made, bare_own, bare_out}
 use Rattle.aas_constraint_laws.proofs.Bridge.{law}
 
 abbrev Child : Type 0

@@ -25,7 +25,8 @@ use Rattle.aas_lexical.proofs.TimesExact.{time_exact, date_time_exact, utc_date_
 use Rattle.aas_lexical.proofs.DurationsExact.{duration_exact}
 use Rattle.aas_lexical.proofs.MediaExact.{media_type_exact}
 use Rattle.aas_lexical.proofs.NamesExact.{language_exact, version_exact, name_exact, id_short_exact}
-use Rattle.aas_constraint_rules.specs.Decided.{is_identifier, is_language, is_version, is_media_type, is_utc_date_time, is_name, is_id_short, is_string, is_end, is_one_of, is_float, is_from, is_up_to, is_between, bytes_have_form}
+use Rattle.aas_constraint_rules.specs.Texts.{is_among}
+use Rattle.aas_constraint_rules.specs.Decided.{is_identifier, is_language, is_version, is_media_type, is_utc_date_time, is_name, is_id_short, is_string, is_end, is_float, is_from, is_up_to, is_between, bytes_have_form}
 
 -- a cut that leaves nothing
 pub end_tells : {P : Type 0} (o : Option (List ℕ)) → (o ≡ Some []) ↔ P → Decides (is_end o) P
@@ -42,7 +43,7 @@ last_word text word = by_test (bytes_eq text word) (bytes_eq-Decides text word)
     by_test true d = d
     by_test false d = d
 
-one_of_four : (a b c d text : List ℕ) → Decides (is_one_of (a ∷ b ∷ c ∷ d ∷ []) text) ((text ≡ a) ⊎ ((text ≡ b) ⊎ ((text ≡ c) ⊎ (text ≡ d))))
+one_of_four : (a b c d text : List ℕ) → Decides (is_among text (a ∷ b ∷ c ∷ d ∷ [])) ((text ≡ a) ⊎ ((text ≡ b) ⊎ ((text ≡ c) ⊎ (text ≡ d))))
 one_of_four a b c d text =
     Decides-or (bytes_eq text a) _ (bytes_eq-Decides text a)
     (Decides-or (bytes_eq text b) _ (bytes_eq-Decides text b) (Decides-or (bytes_eq text c) _ (bytes_eq-Decides text c) (last_word text d)))

@@ -1,5 +1,5 @@
 -- The forms of texts as tests: each is true exactly where the text has the form. A text is given by its characters.
-use Rattle.std.specs.Prelude.{ℕ, ℤ, pos, neg_ℤ, ◌-◌, ◌^◌, ◌%◌, ◌==◌, ◌&&◌, ◌||◌, int_le, nat_le, Bool, true, false, List, [], ◌∷◌, length, codes, bytes_eq, Option, Some}
+use Rattle.std.specs.Prelude.{ℕ, ℤ, pos, neg_ℤ, ◌-◌, ◌^◌, ◌%◌, ◌==◌, ◌&&◌, ◌||◌, int_le, nat_le, Bool, true, false, List, [], ◌∷◌, length, codes, Option, Some}
 use Rattle.std.specs.Char.{is_ascii_hexdigit}
 use Rattle.std.specs.List.{list_all}
 use Rattle.std.specs.Str.{encode_utf8_all}
@@ -14,20 +14,17 @@ use Rattle.aas_lexical.specs.Cut.Times.{after_time, after_date_time, after_utc_d
 use Rattle.aas_lexical.specs.Cut.Durations.{after_duration}
 use Rattle.aas_lexical.specs.Cut.Media.{after_media_type}
 use Rattle.aas_lexical.specs.Cut.Names.{after_language, after_version, after_name, after_id_short}
+use Rattle.aas_constraint_rules.specs.Texts.{is_among}
 
 -- nothing is left
 abbrev pub is_end : Option (List ℕ) → Bool
 is_end (Some []) = true
 is_end rest = false
 
-abbrev pub is_one_of : List (List ℕ) → List ℕ → Bool
-is_one_of [] text = false
-is_one_of (word ∷ words) text = bytes_eq text word || is_one_of words text
-
 -- ---- the value types, by the bytes of the text
 
 abbrev pub is_float : List ℕ → Bool
-is_float text = is_end (after_decimal_with_exponent text) || is_one_of (codes "INF" ∷ codes "+INF" ∷ codes "-INF" ∷ codes "NaN" ∷ []) text
+is_float text = is_end (after_decimal_with_exponent text) || is_among text (codes "INF" ∷ codes "+INF" ∷ codes "-INF" ∷ codes "NaN" ∷ [])
 
 abbrev pub is_from : ℤ → List ℕ → Bool
 is_from least text = is_end (after_integer text) && int_le least (integer_value text)
@@ -47,7 +44,7 @@ is_unsigned bits = is_between (pos 0) (pos (2 ^ bits - 1))
 abbrev pub bytes_have_form : ValueType → List ℕ → Bool
 bytes_have_form xs.AnyUri text = true
 bytes_have_form xs.Base64Binary text = is_end (after_base64 text)
-bytes_have_form xs.Boolean text = is_one_of (codes "true" ∷ codes "false" ∷ codes "1" ∷ codes "0" ∷ []) text
+bytes_have_form xs.Boolean text = is_among text (codes "true" ∷ codes "false" ∷ codes "1" ∷ codes "0" ∷ [])
 bytes_have_form xs.Byte text = is_signed 8 text
 bytes_have_form xs.Date text = is_end (after_date text)
 bytes_have_form xs.DateTime text = is_end (after_date_time text)

@@ -2,7 +2,7 @@
 use Rattle.std.specs.Prelude.{ℕ, Bool, true, false, List, [], ◌∷◌, ◌++◌, map, length, Option, Some, None, if◌then◌else◌}
 use Rattle.aas_constraint_rules.specs.Decided.{is_id_short}
 use Rattle.aas_model.specs.declared.common.Common.{Common}
-use Rattle.aas_model.specs.declared.element.Element.{Element, fold-Element}
+use Rattle.aas_model.specs.declared.element.Element.{Element, fold-Element, out-Element}
 use Rattle.aas_model.specs.declared.element.Element.TheOpen.{Element-F}
 use Rattle.aas_model.specs.declared.element.Role.{Role}
 use Rattle.aas_model.specs.declared.payload.Payload.{Payload}
@@ -15,6 +15,9 @@ pub record Own : Type 0 where
   pub common : Common
   pub payload : Payload
   pub role : Role
+
+abbrev pub own_of : Element → Own
+own_of e = record { common = (out-Element e).common; payload = (out-Element e).payload; role = (out-Element e).role }
 
 -- a place: whether the document has kind Template, its path, its parent (none under the document), its earlier siblings in order, and what stands there
 pub record Site : Type 0 where

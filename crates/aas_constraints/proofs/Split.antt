@@ -1,46 +1,23 @@
 -- The least broken number is the lesser of what is broken apart from references and what the references break.
-use Rattle.std.proofs.Common.{◌≡◌, ℕ, ◌&&◌, not, cond, List, [], ◌∷◌, ◌++◌, map, filter, Bool, true, false, Some, None, refl, sym, ap, ap₂, ◌∙◌}
-use Rattle.std.specs.Prelude.{nat_lt, if◌then◌else◌}
-use Rattle.std.specs.List.{list_all, find}
-use Rattle.std.specs.Option.{option_map}
+use Rattle.std.proofs.Common.{◌≡◌, ℕ, ◌&&◌, not, cond, List, [], ◌∷◌, map, filter, Bool, true, false, refl, ap, ap₂, ◌∙◌}
+use Rattle.std.specs.Prelude.{nat_lt}
+use Rattle.std.specs.List.{list_all}
 use Rattle.std.proofs.lemmas.Bool.{and_parts, ltb-true}
 use Rattle.aas_model.specs.declared.reference.Reference.{Reference}
 use Rattle.aas_model.specs.declared.documents.Submodel.{Submodel}
 use Rattle.aas_model.specs.declared.documents.Shell.{Shell}
 use Rattle.aas_model.specs.declared.documents.Concept.{Concept}
-use Rattle.aas_reference.specs.Rules.{Rule, failing, first, first_fault, keeps, reference_rules}
+use Rattle.aas_reference.specs.Rules.{Rule, failing, first}
 use Rattle.aas_reference.specs.Faults.{least, least_of}
 use Rattle.aas_reference.proofs.Faults.{AreAbove, Rise, least_of_both, least_of_each}
 use Rattle.aas_constraint_rules.specs.Attributes.{references_of, seen_of_submodel, seen_of_shell, seen_of_concept}
 use Rattle.aas_constraint_rules.specs.Faults.{broken, submodel_rules, shell_rules, concept_rules}
-use Rattle.aas_constraint_rules.specs.Lexical.{reference_has_form}
-use Rattle.aas_constraint_rules.specs.Rules.{ElementSentence, local, placed, holds, rules, reference_is_string}
+use Rattle.aas_constraint_rules.specs.Rules.{ElementSentence, local, placed, holds, rules}
 use Rattle.aas_constraint_rules.specs.Sites.{Site}
-use Rattle.aas_constraints.specs.Own.{first_failed, tests, itself, each_reference, own_fault, own_element_fault}
-use Rattle.aas_constraints.specs.References.{reference_fault, references_fault, least_broken}
-use Rattle.aas_constraints.specs.Walk.{or_next}
-
--- ---- the tests of a table
-
-module _ {S : Type 0} (test : S → Bool) where
-  pub first_failing : (rs : List (Rule S)) → first (failing test rs) ≡ first_failed (tests test rs)
-  first_failing [] = refl
-  first_failing (r ∷ rs) = by_test (test r.sentence) (first_failing rs)
-    where
-      by_test : (b : Bool) → first (failing test rs) ≡ first_failed (tests test rs)
-          → first (map (λ r. r.number) (cond (not b) (r ∷ filter (λ r. not (test r.sentence)) rs) (filter (λ r. not (test r.sentence)) rs)))
-          ≡ option_map (λ t. t.0) (cond (not b) (Some (r.number, b)) (find (λ t. not t.1) (tests test rs)))
-      by_test true e = e
-      by_test false e = refl
-
-first_failed-append : (ts us : List (ℕ × Bool)) → first_failed (ts ++ us) ≡ or_next (first_failed ts) (first_failed us)
-first_failed-append [] us = refl
-first_failed-append (t ∷ ts) us = by_test t.1 (first_failed-append ts us)
-  where
-    by_test : (b : Bool) → first_failed (ts ++ us) ≡ or_next (first_failed ts) (first_failed us)
-        → option_map (λ t. t.0) (cond (not b) (Some t) (find (λ t. not t.1) (ts ++ us))) ≡ or_next (option_map (λ t. t.0) (cond (not b) (Some t) (find (λ t. not t.1) ts))) (first_failed us)
-    by_test true e = e
-    by_test false e = refl
+use Rattle.aas_constraint_parts.specs.References.{each_reference, reference_fault, references_fault}
+use Rattle.aas_constraint_parts.specs.Tests.{first_failed, tests}
+use Rattle.aas_constraint_parts.proofs.Tests.{first_failing}
+use Rattle.aas_constraints.specs.Own.{itself, least_broken, own_fault, own_element_fault}
 
 -- ---- a table in two
 
@@ -104,20 +81,3 @@ pub element_split : (x : Site) → first (broken x) ≡ least (own_element_fault
 element_split x =
     ap (λ rs. first (map (λ r. r.number) rs)) (failing_same (λ s. holds s x) (λ s. itself s x && list_all (each_reference s) (references_of x.own)) (in_two x) rules)
     ∙ split (λ s. itself s x) each_reference rules (references_of x.own) refl (λ r. refl)
-
--- ---- a reference
-
-if_string : (b : Bool) → first_failed ((130, b) ∷ []) ≡ (if b then None else Some 130)
-if_string true = refl
-if_string false = refl
-
-abbrev tests_of : Reference → List (ℕ × Bool)
-tests_of r = tests (λ s. keeps s r) reference_rules
-
-by_form : (r : Reference) (b : Bool)
-    → first_failed ((0, b) ∷ tests_of r ++ (130, reference_is_string r) ∷ []) ≡ (if b then or_next (first_fault r) (if reference_is_string r then None else Some 130) else Some 0)
-by_form r true = first_failed-append (tests_of r) ((130, reference_is_string r) ∷ []) ∙ ap₂ or_next (sym (first_failing (λ s. keeps s r) reference_rules)) (if_string (reference_is_string r))
-by_form r false = refl
-
-pub reference_fault_is : (r : Reference) → reference_fault r ≡ (if reference_has_form r then or_next (first_fault r) (if reference_is_string r then None else Some 130) else Some 0)
-reference_fault_is r = by_form r (reference_has_form r)

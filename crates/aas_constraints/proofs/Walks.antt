@@ -1,58 +1,55 @@
 -- The first fault, one level and one child at a time.
 use Rattle.std.proofs.Common.{◌≡◌, ℕ, ◌+◌, ◌<◌, ◌≤◌, length-drop, List, [], ◌∷◌, ◌++◌, length, take, drop, get_or, map, flat_map, Option, Some, None, Bool, true, option_map, refl, sym, ap, ap₂, ◌∙◌, arith}
-use Rattle.std.proofs.lemmas.List.{length-take, nil_from_length}
-use Rattle.aas_model.specs.declared.element.Element.{Element, out-Element, fold_out-Element}
+use Rattle.std.proofs.lemmas.Grind.{flat_map-append}
+use Rattle.std.proofs.lemmas.List.{length-map, length-take, map-append, nil_from_length}
+use Rattle.std.proofs.lemmas.Simd.{map-map}
+use Rattle.aas_model.specs.declared.element.Element.{Element, out-Element}
 use Rattle.aas_model.specs.declared.path.Fault.{Fault}
 use Rattle.aas_model.specs.declared.path.PathStep.{PathStep}
 use Rattle.aas_model.specs.declared.reference.Reference.{Reference}
-use Rattle.aas_constraint_rules.specs.Sites.{Own, Site, under, step_to, Tree, node, root, sites, sites_among, trees, tree_over, tree_of}
+use Rattle.aas_constraint_rules.specs.Sites.{Own, own_of, Site, under, step_to, root, sites, sites_among, trees, tree_of}
 use Rattle.aas_model.specs.declared.documents.Submodel.{Submodel}
 use Rattle.aas_reference.specs.Rules.{Rule, failing, first}
 use Rattle.aas_constraint_rules.specs.Attributes.{seen_of_submodel}
 use Rattle.aas_constraint_rules.specs.Faults.{document_faults, submodel_rules, is_template, sites_of, faults, fault, broken, faults_at, element_faults}
 use Rattle.aas_constraint_rules.specs.Sentences.{Sentence, holds_of}
-use Rattle.aas_constraints.specs.References.{least_broken}
+use Rattle.aas_constraints.specs.Own.{least_broken}
 use Rattle.aas_constraint_rules.specs.Rules.{semantics_of, first_some}
-use Rattle.aas_constraints.specs.Walk.{or_next, own_of, first_broken, found_in, found_among}
-use Rattle.aas_constraints.proofs.Lists.{first-append, first_some-last, first-map, map_append, map_twice, flat_append, length_map, left, taken_map}
-
-pub tree_out : (e : Element) → tree_of e ≡ node (own_of e) (trees (map tree_of (out-Element e).kids))
-unfolding tree_of
-tree_out e = fold_out-Element Tree tree_over e
-
--- a fault, seen from one step above
-abbrev pub under_fault : PathStep → Fault → Fault
-under_fault s f = record f { path = record { steps = s ∷ f.path.steps } }
+use Rattle.aas_constraint_parts.proofs.Lists.{left}
+use Rattle.aas_json_table.specs.Rows.{first_of}
+use Rattle.aas_constraint_rules.proofs.Elements.{tree_out, under_fault}
+use Rattle.aas_constraints.specs.Walk.{first_broken, found_in, found_among}
+use Rattle.aas_constraints.proofs.Lists.{first-append, first_some-last, first-map, taken_map}
 
 faults_under : (s : PathStep) (xs : List Site) → flat_map faults_at (map (under s) xs) ≡ map (under_fault s) (flat_map faults_at xs)
 faults_under s [] = refl
 faults_under s (x ∷ xs) =
-    ap₂ (λ a b. a ++ b) (sym (map_twice (under_fault s) (fault x.path) (broken x))) (faults_under s xs) ∙ sym (map_append (under_fault s) (faults_at x) (flat_map faults_at xs))
+    ap₂ (λ a b. a ++ b) (sym (map-map (under_fault s) (fault x.path) (broken x))) (faults_under s xs) ∙ sym (map-append (under_fault s) (faults_at x) (flat_map faults_at xs))
 
 -- ---- one level
 
 pub found_in_out : (t : Bool) (a : Option Own) (b : List Own) (e : Element)
-    → found_in t a b e ≡ or_next (option_map (fault []) (first_broken t a b (own_of e))) (found_among t (Some (own_of e)) [] (out-Element e).kids)
+    → found_in t a b e ≡ first_of (option_map (fault []) (first_broken t a b (own_of e))) (found_among t (Some (own_of e)) [] (out-Element e).kids)
 unfolding found_in found_among sites sites_among
 found_in_out t a b e =
     let x : Site = record { in_template = t; path = []; above = a; before = b; own = own_of e } in
     let below = flat_map faults_at (sites_among t (Some (own_of e)) [] (trees (map tree_of (out-Element e).kids))) in
-    ap (λ k. first (flat_map faults_at (sites t a b k))) (tree_out e) ∙ first-append (faults_at x) below ∙ ap (λ h. or_next h (first below)) (first-map (fault []) (broken x))
+    ap (λ k. first (flat_map faults_at (sites t a b k))) (tree_out e) ∙ first-append (faults_at x) below ∙ ap (λ h. first_of h (first below)) (first-map (fault []) (broken x))
 
 -- ---- one child
 
 pub found_among_cons : (t : Bool) (a : Option Own) (b : List Own) (k : Element) (ks : List Element)
-    → found_among t a b (k ∷ ks) ≡ or_next (option_map (under_fault (step_to a (length b) (own_of k))) (found_in t a b k)) (found_among t a (b ++ own_of k ∷ []) ks)
+    → found_among t a b (k ∷ ks) ≡ first_of (option_map (under_fault (step_to a (length b) (own_of k))) (found_in t a b k)) (found_among t a (b ++ own_of k ∷ []) ks)
 unfolding found_in found_among sites sites_among
 found_among_cons t a b k ks =
     let step = step_to a (length b) (own_of k) in
     let more : List Own → List Site = λ bs. sites_among t a bs (trees (map tree_of ks)) in
     let later = first (flat_map faults_at (more (b ++ own_of k ∷ []))) in
     (λ i. first (flat_map faults_at (map (under (step_to a (length b) (root (tree_out k i)))) (sites t a b (tree_of k)) ++ more (b ++ root (tree_out k i) ∷ []))))
-    ∙ ap first (flat_append faults_at (map (under step) (sites t a b (tree_of k))) (more (b ++ own_of k ∷ [])))
+    ∙ ap first (flat_map-append faults_at (map (under step) (sites t a b (tree_of k))) (more (b ++ own_of k ∷ [])))
     ∙ first-append _ _
-    ∙ ap (λ l. or_next (first l) later) (faults_under step (sites t a b (tree_of k)))
-    ∙ ap (λ h. or_next h later) (first-map (under_fault step) (flat_map faults_at (sites t a b (tree_of k))))
+    ∙ ap (λ l. first_of (first l) later) (faults_under step (sites t a b (tree_of k)))
+    ∙ ap (λ h. first_of h later) (first-map (under_fault step) (flat_map faults_at (sites t a b (tree_of k))))
 
 pub found_among_none : (t : Bool) (a : Option Own) (b : List Own) → found_among t a b [] ≡ None
 unfolding found_among sites_among
@@ -61,42 +58,42 @@ found_among_none t a b = refl
 -- one turn of the walk among the children
 pub turn : (t : Bool) (a : Option Own) (all : Option Fault) (ks : List Element) (i : ℕ) (k : Element) → i < length ks → k ≡ get_or ks i k
     → all ≡ found_among t a (map own_of (take i ks)) (drop i ks)
-    → all ≡ or_next (option_map (under_fault (step_to a i (own_of k))) (found_in t a (map own_of (take i ks)) k)) (found_among t a (map own_of (take (i + 1) ks)) (drop (i + 1) ks))
+    → all ≡ first_of (option_map (under_fault (step_to a i (own_of k))) (found_in t a (map own_of (take i ks)) k)) (found_among t a (map own_of (take (i + 1) ks)) (drop (i + 1) ks))
 turn t a all ks i k lt at so_far =
-    let long : length (map own_of (take i ks)) ≡ i = length_map own_of (take i ks) ∙ omega (arith, length-take i ks) in
+    let long : length (map own_of (take i ks)) ≡ i = length-map (take i ks) own_of ∙ omega (arith, length-take i ks) in
     so_far ∙ ap (found_among t a (map own_of (take i ks))) (left ks i k lt at) ∙ found_among_cons t a (map own_of (take i ks)) k (drop (i + 1) ks)
-    ∙ (λ j. or_next (option_map (under_fault (step_to a (long j) (own_of k))) (found_in t a (map own_of (take i ks)) k)) (found_among t a (sym (taken_map own_of ks i k lt at) j) (drop (i + 1) ks)))
+    ∙ (λ j. first_of (option_map (under_fault (step_to a (long j) (own_of k))) (found_in t a (map own_of (take i ks)) k)) (found_among t a (sym (taken_map own_of ks i k lt at) j) (drop (i + 1) ks)))
 
 -- ---- what the walk answers
 
 pub found_here : (t : Bool) (a : Option Own) (b : List Own) (e : Element) (n : ℕ) → Some n ≡ first_broken t a b (own_of e) → Some (fault [] n) ≡ found_in t a b e
-found_here t a b e n h = sym (found_in_out t a b e ∙ ap (λ o. or_next (option_map (fault []) o) (found_among t (Some (own_of e)) [] (out-Element e).kids)) (sym h))
+found_here t a b e n h = sym (found_in_out t a b e ∙ ap (λ o. first_of (option_map (fault []) o) (found_among t (Some (own_of e)) [] (out-Element e).kids)) (sym h))
 
 pub found_below : (t : Bool) (a : Option Own) (b : List Own) (e : Element) → None ≡ first_broken t a b (own_of e) → found_among t (Some (own_of e)) [] (out-Element e).kids ≡ found_in t a b e
-found_below t a b e h = sym (found_in_out t a b e ∙ ap (λ o. or_next (option_map (fault []) o) (found_among t (Some (own_of e)) [] (out-Element e).kids)) (sym h))
+found_below t a b e h = sym (found_in_out t a b e ∙ ap (λ o. first_of (option_map (fault []) o) (found_among t (Some (own_of e)) [] (out-Element e).kids)) (sym h))
 
-pub found_child : (all here rest : Option Fault) (s : PathStep) (f : Fault) → all ≡ or_next (option_map (under_fault s) here) rest → Some f ≡ here → Some (under_fault s f) ≡ all
-found_child all here rest s f h is = sym (h ∙ ap (λ o. or_next (option_map (under_fault s) o) rest) (sym is))
+pub found_child : (all here rest : Option Fault) (s : PathStep) (f : Fault) → all ≡ first_of (option_map (under_fault s) here) rest → Some f ≡ here → Some (under_fault s f) ≡ all
+found_child all here rest s f h is = sym (h ∙ ap (λ o. first_of (option_map (under_fault s) o) rest) (sym is))
 
-pub none_in_child : (all here rest : Option Fault) (s : PathStep) → all ≡ or_next (option_map (under_fault s) here) rest → None ≡ here → all ≡ rest
-none_in_child all here rest s h is = h ∙ ap (λ o. or_next (option_map (under_fault s) o) rest) (sym is)
+pub none_in_child : (all here rest : Option Fault) (s : PathStep) → all ≡ first_of (option_map (under_fault s) here) rest → None ≡ here → all ≡ rest
+none_in_child all here rest s h is = h ∙ ap (λ o. first_of (option_map (under_fault s) o) rest) (sym is)
 
 pub ended : (t : Bool) (a : Option Own) (all : Option Fault) (b : List Own) (ks : List Element) (i : ℕ) → length ks ≤ i → all ≡ found_among t a b (drop i ks) → None ≡ all
 ended t a all b ks i le h = let none_left : drop i ks ≡ [] = nil_from_length (drop i ks) (omega (arith, length-drop i ks)) in
     sym (h ∙ ap (found_among t a b) none_left ∙ found_among_none t a b)
 
 pub lead_next : (ks : List Element) (i : ℕ) (k : Element) (l : Option Reference) → i < length ks → k ≡ get_or ks i k → l ≡ first_some (map semantics_of (map own_of (take i ks)))
-    → or_next l (semantics_of (own_of k)) ≡ first_some (map semantics_of (map own_of (take (i + 1) ks)))
+    → first_of l (semantics_of (own_of k)) ≡ first_some (map semantics_of (map own_of (take (i + 1) ks)))
 lead_next ks i k l lt at h =
     let b = map own_of (take i ks) in
-    ap (λ x. or_next x (semantics_of (own_of k))) h ∙ sym (first_some-last (map semantics_of b) (semantics_of (own_of k)))
-    ∙ ap first_some (sym (map_append semantics_of b (own_of k ∷ []))) ∙ ap (λ bs. first_some (map semantics_of bs)) (sym (taken_map own_of ks i k lt at))
+    ap (λ x. first_of x (semantics_of (own_of k))) h ∙ sym (first_some-last (map semantics_of b) (semantics_of (own_of k)))
+    ∙ ap first_some (sym (map-append semantics_of b (own_of k ∷ []))) ∙ ap (λ bs. first_some (map semantics_of bs)) (sym (taken_map own_of ks i k lt at))
 
 -- ---- an element alone
 
-pub alone : (e : Element) → first (element_faults e) ≡ or_next (option_map (under_fault (step_to None 0 (own_of e))) (found_in true None [] e)) None
+pub alone : (e : Element) → first (element_faults e) ≡ first_of (option_map (under_fault (step_to None 0 (own_of e))) (found_in true None [] e)) None
 unfolding found_among
-alone e = found_among_cons true None [] e [] ∙ ap (or_next (option_map (under_fault (step_to None 0 (own_of e))) (found_in true None [] e))) (found_among_none true None (own_of e ∷ []))
+alone e = found_among_cons true None [] e [] ∙ ap (first_of (option_map (under_fault (step_to None 0 (own_of e))) (found_in true None [] e))) (found_among_none true None (own_of e ∷ []))
 
 -- ---- documents
 
@@ -110,12 +107,12 @@ document_none rs references d e = sym (document_first rs references d ∙ ap (op
 pub document_some : {D : Type 0} (rs : List (Rule (Sentence D))) (references : List Reference) (d : D) (n : ℕ) → least_broken rs references d ≡ Some n → Some (fault [] n) ≡ first (document_faults rs references d)
 document_some rs references d n e = sym (document_first rs references d ∙ ap (option_map (fault [])) e)
 
-submodel_first : (d : Submodel) → first (faults d) ≡ or_next (option_map (fault []) (least_broken submodel_rules (seen_of_submodel d).references d)) (found_among (is_template d.kind) None [] d.kids)
+submodel_first : (d : Submodel) → first (faults d) ≡ first_of (option_map (fault []) (least_broken submodel_rules (seen_of_submodel d).references d)) (found_among (is_template d.kind) None [] d.kids)
 unfolding found_among
-submodel_first d = first-append (document_faults submodel_rules (seen_of_submodel d).references d) (flat_map faults_at (sites_of d)) ∙ ap (λ o. or_next o (first (flat_map faults_at (sites_of d)))) (document_first submodel_rules (seen_of_submodel d).references d)
+submodel_first d = first-append (document_faults submodel_rules (seen_of_submodel d).references d) (flat_map faults_at (sites_of d)) ∙ ap (λ o. first_of o (first (flat_map faults_at (sites_of d)))) (document_first submodel_rules (seen_of_submodel d).references d)
 
 pub submodel_some : (d : Submodel) (n : ℕ) → least_broken submodel_rules (seen_of_submodel d).references d ≡ Some n → Some (fault [] n) ≡ first (faults d)
-submodel_some d n e = sym (submodel_first d ∙ ap (λ o. or_next (option_map (fault []) o) (found_among (is_template d.kind) None [] d.kids)) e)
+submodel_some d n e = sym (submodel_first d ∙ ap (λ o. first_of (option_map (fault []) o) (found_among (is_template d.kind) None [] d.kids)) e)
 
 pub submodel_below : (d : Submodel) → least_broken submodel_rules (seen_of_submodel d).references d ≡ None → found_among (is_template d.kind) None [] d.kids ≡ first (faults d)
-submodel_below d e = sym (submodel_first d ∙ ap (λ o. or_next (option_map (fault []) o) (found_among (is_template d.kind) None [] d.kids)) e)
+submodel_below d e = sym (submodel_first d ∙ ap (λ o. first_of (option_map (fault []) o) (found_among (is_template d.kind) None [] d.kids)) e)

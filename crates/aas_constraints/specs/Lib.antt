@@ -1,4 +1,2 @@
 pub mod Own
-pub mod References
-pub mod Repeats
 pub mod Walk

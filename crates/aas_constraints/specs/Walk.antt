@@ -1,22 +1,13 @@
 -- What the walk over a tree knows and finds.
 use Rattle.std.specs.Prelude.{◌≡◌, ℕ, Bool, List, [], map, flat_map, Option, Some, None}
 use denote.Ref.{Bor}
-use Rattle.aas_model.specs.declared.element.Element.{Element, out-Element}
+use Rattle.aas_model.specs.declared.element.Element.{Element}
 use Rattle.aas_model.specs.declared.path.Fault.{Fault}
 use Rattle.aas_model.specs.declared.reference.Reference.{Reference}
-use Rattle.aas_constraint_rules.specs.Sites.{Own, Site, sites, sites_among, tree_of, trees}
+use Rattle.aas_constraint_rules.specs.Sites.{Own, own_of, Site, sites, sites_among, tree_of, trees}
 use Rattle.aas_constraint_rules.specs.Rules.{semantics_of, first_some, is_repeat}
 use Rattle.aas_reference.specs.Rules.{first}
 use Rattle.aas_constraint_rules.specs.Faults.{broken, faults_at}
-
--- what is there, or else the next
-abbrev pub or_next : {X : Type 0} → Option X → Option X → Option X
-or_next None y = y
-or_next (Some x) y = Some x
-
--- an element without its children
-abbrev pub own_of : Element → Own
-own_of e = record { common = (out-Element e).common; payload = (out-Element e).payload; role = (out-Element e).role }
 
 abbrev pub above_of : Option (Bor Element) → Option Own
 above_of None = None

@@ -3,11 +3,12 @@ ghost use Rattle.std.specs.Option.{option_copied};
 ghost use Rattle.aas_reference.specs.Rules.{first};
 ghost use Rattle.aas_constraint_rules.specs.Sites.{Own};
 ghost use Rattle.aas_constraint_rules.specs.Faults.{concept_faults, element_faults, fault, faults, shell_faults};
-ghost use Rattle.aas_constraints.specs.Walk.{own_of, above_of, Knows, found_in, found_among};
+ghost use Rattle.aas_constraint_rules.specs.Sites.{own_of};
+ghost use Rattle.aas_constraints.specs.Walk.{above_of, Knows, found_in, found_among};
 
 use crate::documents::{concept_fault, is_template, shell_fault, submodel_fault};
-use crate::names::meet_name;
 use crate::place::{first_broken, first_semantics, step_to};
+use aas_constraint_parts::meet_name;
 use aas_model::{Concept, Element, Fault, Many, NoMemory, Path, Reference, Shell, Submodel};
 use std::alloc::Global;
 use std::collections::BTreeSet;

@@ -5,22 +5,17 @@ ghost use Rattle.aas_constraint_rules.specs.Decided.{is_language, is_string};
 ghost use Rattle.aas_constraint_rules.specs.Faults.{asset_is_named, concept_rules, equals, global_ids_agree, head_is_versioned, is_global_name, is_template, revision_has_version, shell_rules, submodel_rules};
 ghost use Rattle.aas_constraint_rules.specs.Rules.{semantics_have_main, texts_are_strings};
 ghost use Rattle.aas_constraint_rules.specs.Lexical.{asset_has_form, head_has_form, seen_has_form};
-ghost use Rattle.aas_constraints.specs.Own.{own_fault};
-ghost use Rattle.aas_constraints.specs.References.{least_broken, references_fault};
+ghost use Rattle.aas_constraints.specs.Own.{least_broken, own_fault};
+ghost use Rattle.aas_constraint_parts.specs.References.{references_fault};
 
-use crate::element::{first_failed, id_short_is_name};
-use crate::holders::{fault_of_list, fault_of_option};
-use crate::lexical::{
-    asset_has_form, extensions_have_form, head_has_form, id_short_is_short, languages_have_form,
-    qualifiers_have_types, specific_asset_ids_have_form,
+use aas_constraint_parts::{
+    HoldsReferences, HoldsTexts, are_strings, asset_has_form, extensions_differ,
+    extensions_have_form, extensions_have_main, fault_among, fault_of_list, fault_of_option,
+    first_failed, has_main_semantics, head_has_form, id_short_is_name, id_short_is_short,
+    is_template_or_none, languages_have_form, qualifiers_differ, qualifiers_have_form,
+    qualifiers_have_main, qualifiers_have_types, specific_asset_ids_have_form,
+    specific_asset_ids_have_main, subjects_are_external,
 };
-use crate::names::{extensions_differ, qualifiers_differ};
-use crate::parts::{
-    extensions_have_main, has_main_semantics, is_template_or_none, qualifiers_have_form,
-    qualifiers_have_main, specific_asset_ids_have_main, subjects_are_external,
-};
-use crate::references::{HoldsReferences, fault_among};
-use crate::strings::{HoldsTexts, are_strings};
 use aas_model::{
     Administration, AssetInformation, Concept, Head, ModellingKind, NoMemory, Shell,
     SpecificAssetId, Submodel, Text,
@@ -30,7 +25,7 @@ use std::alloc::Global;
 
 // ---- attributes of all documents
 
-#[tactic(auto, using(crate::proofs::Lists::all_append))]
+#[tactic(auto, using(aas_constraint_parts::proofs::Lists::all_append))]
 fn head_languages_have_form(head: &Head) -> bool
     ensures { result ≡ list_all (λ l. is_language l.language) (head.now.description ++ head.now.display_name) }
 {
@@ -38,7 +33,7 @@ fn head_languages_have_form(head: &Head) -> bool
         && languages_have_form(head.display_name.as_slice())
 }
 
-#[tactic(auto, using(crate::proofs::Lists::all_flat_append))]
+#[tactic(auto, using(aas_constraint_parts::proofs::Lists::all_flat_append))]
 fn head_languages_are_strings(head: &Head) -> bool
     ensures { result ≡ list_all is_string (texts_of_languages (head.now.description ++ head.now.display_name)) }
 {
@@ -83,7 +78,7 @@ fn submodel_has_form(d: &Submodel) -> bool
         && head_has_form(&d.head)
 }
 
-#[tactic(auto, using(crate::proofs::Lists::all_append))]
+#[tactic(auto, using(aas_constraint_parts::proofs::Lists::all_append))]
 fn submodel_texts_are_strings(d: &Submodel) -> bool
     ensures { result ≡ texts_are_strings (seen_of_submodel d.now) }
 {
@@ -118,7 +113,7 @@ fn own_submodel_fault(alloc: Global, d: &Submodel) -> Result<Option<u16>, NoMemo
     ]))
 }
 
-#[tactic(auto, using(crate::proofs::Least::fault_append))]
+#[tactic(auto, using(aas_constraint_parts::proofs::Least::fault_append))]
 fn submodel_references_fault(d: &Submodel) -> Option<u16>
     ensures { result ≡ references_fault (seen_of_submodel d.now).references }
 {
@@ -179,7 +174,7 @@ fn shell_has_form(d: &Shell) -> bool
         && asset_has_form(&d.asset)
 }
 
-#[tactic(auto, using(crate::proofs::Lists::all_append))]
+#[tactic(auto, using(aas_constraint_parts::proofs::Lists::all_append))]
 fn shell_texts_are_strings(d: &Shell) -> bool
     ensures { result ≡ texts_are_strings (seen_of_shell d.now) }
 {
@@ -216,7 +211,7 @@ fn own_shell_fault(alloc: Global, d: &Shell) -> Result<Option<u16>, NoMemory>
     ]))
 }
 
-#[tactic(auto, using(crate::proofs::Least::fault_append))]
+#[tactic(auto, using(aas_constraint_parts::proofs::Least::fault_append))]
 fn shell_references_fault(d: &Shell) -> Option<u16>
     ensures { result ≡ references_fault (seen_of_shell d.now).references }
 {
@@ -245,7 +240,7 @@ fn concept_has_form(d: &Concept) -> bool
         && head_has_form(&d.head)
 }
 
-#[tactic(auto, using(crate::proofs::Lists::all_append))]
+#[tactic(auto, using(aas_constraint_parts::proofs::Lists::all_append))]
 fn concept_texts_are_strings(d: &Concept) -> bool
     ensures { result ≡ texts_are_strings (seen_of_concept d.now) }
 {
@@ -272,7 +267,7 @@ fn own_concept_fault(alloc: Global, d: &Concept) -> Result<Option<u16>, NoMemory
     ]))
 }
 
-#[tactic(auto, using(crate::proofs::Least::fault_append))]
+#[tactic(auto, using(aas_constraint_parts::proofs::Least::fault_append))]
 fn concept_references_fault(d: &Concept) -> Option<u16>
     ensures { result ≡ references_fault (seen_of_concept d.now).references }
 {

@@ -2,51 +2,29 @@ ghost use Rattle.std.specs.Prelude.{◌≡◌, ◌||◌, not, is_some, is_none, 
 ghost use Rattle.std.specs.Option.{option_copied};
 ghost use Rattle.std.specs.List.{list_all};
 ghost use Rattle.aas_constraint_rules.specs.Attributes.{lang_texts_of, payload_lang_texts, payload_specific_asset_ids, references_of, seen_of, texts_of_languages};
-ghost use Rattle.aas_constraint_rules.specs.Decided.{is_name, is_string};
+ghost use Rattle.aas_constraint_rules.specs.Decided.{is_string};
 ghost use Rattle.aas_constraint_rules.specs.Rules.{agree, element_has_form, is_managed, semantics_have_main, stands_in_operation, texts_are_strings};
 ghost use Rattle.aas_constraint_rules.specs.Sites.{Own, stands_in_list};
-ghost use Rattle.aas_reference.specs.Rules.{if_any};
-ghost use Rattle.aas_constraints.specs.Own.{first_failed, own_element_fault};
-ghost use Rattle.aas_constraints.specs.References.{references_fault};
-ghost use Rattle.aas_constraints.specs.Walk.{Knows, above_of, own_of, place};
+ghost use Rattle.aas_constraints.specs.Own.{own_element_fault};
+ghost use Rattle.aas_constraint_parts.specs.References.{references_fault};
+ghost use Rattle.aas_constraint_rules.specs.Sites.{own_of};
+ghost use Rattle.aas_constraints.specs.Walk.{Knows, above_of, place};
 
 use crate::demands::{
     agree, has_list_kind, has_list_value_type, list_semantics, stands_in_list, stands_in_operation,
 };
-use crate::lexical::{
-    extensions_have_form, id_short_is_short, languages_have_form, payload_has_form,
-    qualifiers_have_types, specific_asset_ids_have_form,
+use aas_constraint_parts::{
+    HoldsReferences, HoldsTexts, are_strings, extensions_differ, extensions_have_form,
+    extensions_have_main, first_failed, has_main_semantics, id_short_is_name, id_short_is_short,
+    is_template_or_none, languages_have_form, payload_has_form, qualifiers_differ,
+    qualifiers_have_form, qualifiers_have_main, qualifiers_have_types,
+    specific_asset_ids_have_form, specific_asset_ids_have_main, subjects_are_external,
 };
-use crate::names::{extensions_differ, qualifiers_differ};
-use crate::parts::{
-    extensions_have_main, has_main_semantics, is_template_or_none, qualifiers_have_form,
-    qualifiers_have_main, specific_asset_ids_have_main, subjects_are_external,
-};
-use crate::references::HoldsReferences;
-use crate::strings::{HoldsTexts, are_strings};
-use crate::texts::is_name;
 use aas_model::{
     Element, EntityType, LangText, NoMemory, Payload, Reference, SpecificAssetId, Text,
 };
 use aas_reference::least;
 use std::alloc::Global;
-
-/// The number of the first test that failed.
-pub(crate) fn first_failed(tests: &[(u16, bool)]) -> Option<u16>
-    ensures { result ≡ first_failed tests.now }
-{
-    tests.iter().find(|test| !test.1).map(|test| test.0)
-}
-
-/// Whether the idShort, if any, is an ASCII letter followed by ASCII letters, digits and `_`. AASd-002.
-pub(crate) fn id_short_is_name(id_short: &Option<Text>) -> bool
-    ensures { result ≡ if_any is_name id_short.now }
-{
-    match id_short {
-        Some(name) => is_name(name),
-        None => true,
-    }
-}
 
 /// Whether the element, if an entity, has a globalAssetId or a specificAssetId exactly where it manages itself. AASd-014.
 fn is_managed(payload: &Payload) -> bool
@@ -89,7 +67,7 @@ fn lang_texts(payload: &Payload) -> &[LangText]
     }
 }
 
-#[tactic(auto, using(crate::proofs::Lists::all_append))]
+#[tactic(auto, using(aas_constraint_parts::proofs::Lists::all_append))]
 fn element_has_form(e: &Element) -> bool
     ensures { result ≡ element_has_form (own_of e.now) }
 {
@@ -103,7 +81,7 @@ fn element_has_form(e: &Element) -> bool
         && payload_has_form(&e.payload)
 }
 
-#[tactic(auto, using(crate::proofs::Lists::all_flat_append))]
+#[tactic(auto, using(aas_constraint_parts::proofs::Lists::all_flat_append))]
 fn languages_are_strings(e: &Element) -> bool
     ensures { result ≡ list_all is_string (texts_of_languages (lang_texts_of (own_of e.now))) }
 {
@@ -112,7 +90,7 @@ fn languages_are_strings(e: &Element) -> bool
         && are_strings(lang_texts(&e.payload))
 }
 
-#[tactic(auto, using(crate::proofs::Lists::all_append))]
+#[tactic(auto, using(aas_constraint_parts::proofs::Lists::all_append))]
 fn texts_are_strings(e: &Element) -> bool
     ensures { result ≡ texts_are_strings (seen_of (own_of e.now)) }
 {
@@ -208,7 +186,7 @@ pub(crate) fn own_fault(
 }
 
 /// The least number that the references of the element break.
-#[tactic(auto, using(crate::proofs::Least::fault_append))]
+#[tactic(auto, using(aas_constraint_parts::proofs::Least::fault_append))]
 pub(crate) fn element_references_fault(e: &Element) -> Option<u16>
     ensures { result ≡ references_fault (references_of (own_of e.now)) }
 {

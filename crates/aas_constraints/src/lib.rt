@@ -6,13 +6,6 @@ mod check;
 mod demands;
 mod documents;
 mod element;
-mod holders;
-mod lexical;
-mod names;
-mod parts;
 mod place;
-mod references;
-mod strings;
-mod texts;
 
 pub use check::{check_concept, check_element, check_shell, check_submodel};

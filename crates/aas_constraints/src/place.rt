@@ -2,11 +2,13 @@ ghost use Rattle.std.specs.Prelude.{◌≡◌, IfOk, List};
 ghost use Rattle.std.specs.Option.{option_copied};
 ghost use Rattle.aas_constraint_rules.specs.Sites.{Own, stands_in_list, step_to};
 ghost use Rattle.aas_constraint_rules.specs.Rules.{semantics_of};
-ghost use Rattle.aas_constraints.specs.Walk.{own_of, above_of, Knows, first_broken, or_next};
+ghost use Rattle.aas_constraint_rules.specs.Sites.{own_of};
+ghost use Rattle.aas_json_table.specs.Rows.{first_of};
+ghost use Rattle.aas_constraints.specs.Walk.{above_of, Knows, first_broken};
 
 use crate::demands::stands_in_list;
 use crate::element::{element_references_fault, own_fault};
-use crate::texts::is_id_short;
+use aas_constraint_parts::is_id_short;
 use aas_model::{Duplicate, Element, NoMemory, PathStep, Reference};
 use aas_reference::least;
 use std::alloc::Global;
@@ -16,7 +18,7 @@ pub(crate) fn first_semantics<'a>(
     lead: Option<&'a Reference>,
     e: &'a Element,
 ) -> Option<&'a Reference>
-    ensures { option_copied result ≡ or_next (option_copied lead.entry) (semantics_of (own_of e.now)) }
+    ensures { option_copied result ≡ first_of (option_copied lead.entry) (semantics_of (own_of e.now)) }
 {
     match lead {
         Some(reference) => Some(reference),

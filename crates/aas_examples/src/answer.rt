@@ -5,7 +5,8 @@ use crate::documents::{
     value_of_whole_submodel,
 };
 use crate::faults::{concept_fault, element_fault, shell_fault, submodel_fault};
-use aas_model::{Extent, ReadFault};
+use aas_command::Refusal;
+use aas_model::Extent;
 use aas_model_text::NoMemory;
 use std::alloc::Global;
 
@@ -22,24 +23,16 @@ pub fn text_of(alloc: Global, bytes: Vec<u8>) -> Result<String, NoMemory> {
     }
 }
 
-/// Why something isn't read.
-pub fn unread(alloc: Global, fault: &ReadFault) -> Result<String, NoMemory> {
-    match fault {
-        ReadFault::NotJson => text(alloc, "not JSON"),
-        ReadFault::NotMapping { pointer } => Ok(format!(in alloc;
-            "not in the mapping at {}",
-            pointer.as_str()
-        )?),
-        ReadFault::TooDeep { pointer } => Ok(format!(in alloc;
-            "too deep at {}",
-            pointer.as_str()
-        )?),
-        ReadFault::NoMemory => Err(NoMemory),
+/// What a call gives for an input, or the text of its refusal.
+pub fn answer(alloc: Global, call: &str, input: &str) -> Result<String, NoMemory> {
+    match called(alloc, call, input) {
+        Ok(given) => Ok(given),
+        Err(Refusal::NoMemory) => Err(NoMemory),
+        Err(refusal) => text_of(alloc, refusal.text(alloc)?),
     }
 }
 
-/// What a call gives for an input.
-pub fn answer(alloc: Global, call: &str, input: &str) -> Result<String, NoMemory> {
+fn called(alloc: Global, call: &str, input: &str) -> Result<String, Refusal> {
     match call {
         "fault of element" => element_fault(alloc, input),
         "fault of submodel" => submodel_fault(alloc, input),
@@ -60,7 +53,7 @@ pub fn answer(alloc: Global, call: &str, input: &str) -> Result<String, NoMemory
 }
 
 /// The same of the calls that have a path or a rank before what they are called with.
-fn changed(alloc: Global, call: &str, input: &str) -> Result<String, NoMemory> {
+fn changed(alloc: Global, call: &str, input: &str) -> Result<String, Refusal> {
     let (place, json) = input.split_once('\t').unwrap_or((input, ""));
     match call {
         "path" => parsed(alloc, place),
@@ -71,7 +64,7 @@ fn changed(alloc: Global, call: &str, input: &str) -> Result<String, NoMemory> {
         "lend" => worked(alloc, Work::Lend, place, json),
         "patch" => patched(alloc, rank_of(place), json),
         "patch below" => patched_below(alloc, rank_of(place), json),
-        _ => text(alloc, "no such call"),
+        _ => Ok(text(alloc, "no such call")?),
     }
 }
 

@@ -1,26 +1,20 @@
 // Paths, and what is found and changed at them in a submodel, which is told by its value form.
-use crate::answer::{text, text_of, unread};
+use crate::answer::{text, text_of};
 use crate::documents::{form, form_of_submodel};
+use aas_command::Refusal;
 use aas_json_read::{read_element, read_submodel};
 use aas_model::{
     Common, Element, Extent, Many, Missing, Patch, PatchRow, Path, Payload, Role, Semantics,
     Submodel, Text, ValueType,
 };
-use aas_path::{
-    InsertFault, PathFault, ReplaceFault, apply, apply_all, at, at_mut, insert, parse_path,
-    patch_fits, patch_fits_all, print_path, remove, replace,
-};
 use aas_model_text::NoMemory;
+use aas_path::{
+    InsertFault, ReplaceFault, apply, apply_all, at, at_mut, insert, parse_path, patch_fits,
+    patch_fits_all, print_path, remove, replace,
+};
 use std::alloc::Global;
 
-fn bad_path(alloc: Global, fault: PathFault) -> Result<String, NoMemory> {
-    match fault {
-        PathFault::BadPath { at } => Ok(format!(in alloc; "bad path at {at}")?),
-        PathFault::NoMemory => Err(NoMemory),
-    }
-}
-
-fn missing(alloc: Global, missing: &Missing) -> Result<String, NoMemory> {
+fn missing(alloc: Global, missing: &Missing) -> Result<String, Refusal> {
     Ok(format!(in alloc; "missing after {}", missing.steps)?)
 }
 
@@ -31,16 +25,14 @@ fn printed(alloc: Global, path: &Path) -> Result<String, NoMemory> {
 }
 
 /// The path that the text writes, printed.
-pub fn parsed(alloc: Global, path: &str) -> Result<String, NoMemory> {
-    match parse_path(alloc, path.as_bytes()) {
-        Ok(path) => printed(alloc, &path),
-        Err(fault) => bad_path(alloc, fault),
-    }
+pub fn parsed(alloc: Global, path: &str) -> Result<String, Refusal> {
+    let path = parse_path(alloc, path.as_bytes())?;
+    Ok(printed(alloc, &path)?)
 }
 
-fn found(alloc: Global, submodel: &Submodel, path: &Path) -> Result<String, NoMemory> {
+fn found(alloc: Global, submodel: &Submodel, path: &Path) -> Result<String, Refusal> {
     if path.steps.is_empty() {
-        return text(alloc, "empty path");
+        return Ok(text(alloc, "empty path")?);
     }
     match at(submodel, path) {
         Ok(element) => form(alloc, element, Extent::WithBlobValue),
@@ -83,29 +75,29 @@ fn new_element(alloc: Global) -> Result<Element, NoMemory> {
     })
 }
 
-fn inserted(alloc: Global, submodel: &mut Submodel, path: &Path) -> Result<String, NoMemory> {
+fn inserted(alloc: Global, submodel: &mut Submodel, path: &Path) -> Result<String, Refusal> {
     match insert(submodel, path, new_element(alloc)?) {
         Ok(()) => form_of_submodel(alloc, submodel),
         Err(InsertFault::Missing(lack)) => missing(alloc, &lack),
-        Err(InsertFault::NotAContainer) => text(alloc, "not a container"),
-        Err(InsertFault::NoMemory) => Err(NoMemory),
+        Err(InsertFault::NotAContainer) => Err(Refusal::NotAContainer),
+        Err(InsertFault::NoMemory) => Err(Refusal::NoMemory),
     }
 }
 
-fn replaced(alloc: Global, submodel: &mut Submodel, path: &Path) -> Result<String, NoMemory> {
+fn replaced(alloc: Global, submodel: &mut Submodel, path: &Path) -> Result<String, Refusal> {
     if path.steps.is_empty() {
-        return text(alloc, "empty path");
+        return Ok(text(alloc, "empty path")?);
     }
     match replace(submodel, path, new_element(alloc)?) {
         Ok(_) => form_of_submodel(alloc, submodel),
         Err(ReplaceFault::Missing(lack)) => missing(alloc, &lack),
-        Err(ReplaceFault::NotAContainer) => text(alloc, "not a container"),
+        Err(ReplaceFault::NotAContainer) => Err(Refusal::NotAContainer),
     }
 }
 
-fn removed(alloc: Global, submodel: &mut Submodel, path: &Path) -> Result<String, NoMemory> {
+fn removed(alloc: Global, submodel: &mut Submodel, path: &Path) -> Result<String, Refusal> {
     if path.steps.is_empty() {
-        return text(alloc, "empty path");
+        return Ok(text(alloc, "empty path")?);
     }
     match remove(submodel, path) {
         Ok(_) => form_of_submodel(alloc, submodel),
@@ -113,9 +105,9 @@ fn removed(alloc: Global, submodel: &mut Submodel, path: &Path) -> Result<String
     }
 }
 
-fn lent(alloc: Global, submodel: &mut Submodel, path: &Path) -> Result<String, NoMemory> {
+fn lent(alloc: Global, submodel: &mut Submodel, path: &Path) -> Result<String, Refusal> {
     if path.steps.is_empty() {
-        return text(alloc, "empty path");
+        return Ok(text(alloc, "empty path")?);
     }
     let new = payload(alloc)?;
     match at_mut(submodel, path) {
@@ -136,15 +128,9 @@ pub enum Work {
 }
 
 /// What the work at the path gives: what is found, or what the submodel is afterwards.
-pub fn worked(alloc: Global, work: Work, path: &str, json: &str) -> Result<String, NoMemory> {
-    let path = match parse_path(alloc, path.as_bytes()) {
-        Ok(path) => path,
-        Err(fault) => return bad_path(alloc, fault),
-    };
-    let mut submodel = match read_submodel(alloc, json.as_bytes()) {
-        Ok(submodel) => submodel,
-        Err(fault) => return unread(alloc, &fault),
-    };
+pub fn worked(alloc: Global, work: Work, path: &str, json: &str) -> Result<String, Refusal> {
+    let path = parse_path(alloc, path.as_bytes())?;
+    let mut submodel = read_submodel(alloc, json.as_bytes())?;
     match work {
         Work::Find => found(alloc, &submodel, &path),
         Work::Insert => inserted(alloc, &mut submodel, &path),
@@ -162,28 +148,22 @@ fn patch(alloc: Global, rank: u64) -> Result<Patch, NoMemory> {
 }
 
 /// The submodel with a new payload for the element of a rank, the first element having rank 0.
-pub fn patched(alloc: Global, rank: u64, json: &str) -> Result<String, NoMemory> {
-    let mut submodel = match read_submodel(alloc, json.as_bytes()) {
-        Ok(submodel) => submodel,
-        Err(fault) => return unread(alloc, &fault),
-    };
+pub fn patched(alloc: Global, rank: u64, json: &str) -> Result<String, Refusal> {
+    let mut submodel = read_submodel(alloc, json.as_bytes())?;
     let patch = patch(alloc, rank)?;
     if !patch_fits_all(&submodel, &patch) {
-        return text(alloc, "no such patch");
+        return Ok(text(alloc, "no such patch")?);
     }
     apply_all(&mut submodel, patch);
     form_of_submodel(alloc, &submodel)
 }
 
 /// The element with a new payload for the element of a rank below it, itself having rank 0.
-pub fn patched_below(alloc: Global, rank: u64, json: &str) -> Result<String, NoMemory> {
-    let mut element = match read_element(alloc, json.as_bytes(), 1) {
-        Ok(element) => element,
-        Err(fault) => return unread(alloc, &fault),
-    };
+pub fn patched_below(alloc: Global, rank: u64, json: &str) -> Result<String, Refusal> {
+    let mut element = read_element(alloc, json.as_bytes(), 1)?;
     let patch = patch(alloc, rank)?;
     if !patch_fits(&element, &patch) {
-        return text(alloc, "no such patch");
+        return Ok(text(alloc, "no such patch")?);
     }
     apply(&mut element, patch);
     form(alloc, &element, Extent::WithBlobValue)

@@ -26,11 +26,11 @@ use crate::sorts::{
     AssetInformations, Concepts, Elements, Environments, Shells, SpecificAssetIds, Submodels,
 };
 use aas_json_members::{read_bytes, read_part};
+use aas_json_table::table::Sort;
+use aas_json_table::too_deep::Levels;
 use aas_model::{
     AssetInformation, Concept, Element, Environment, ReadFault, Shell, SpecificAssetId, Submodel,
 };
-use aas_json_table::table::Sort;
-use aas_json_table::too_deep::Levels;
 use serde_json::Value;
 use std::alloc::Global;
 

@@ -14,9 +14,9 @@ use crate::documents::{environment_of, submodel_of};
 use crate::elements::element_of;
 use crate::sorts::{Elements, Environments, Submodels};
 use aas_json_members::{check_form, read_value};
-use aas_model::{Element, Environment, NoMemory, ReadFault, Role, Submodel};
 use aas_json_table::table::Sort;
 use aas_json_table::too_deep::Levels;
+use aas_model::{Element, Environment, NoMemory, ReadFault, Role, Submodel};
 use serde_json::Value;
 use std::alloc::Global;
 

@@ -1,18 +1,19 @@
--- The pointer that a walk names leads to a place that departs from the table.
-use Rattle.std.proofs.Common.{◌≡◌, ◌⊎◌, ℕ, suc, ◌+◌, List, [], ◌∷◌, Bool, true, false, Option, Some, None, option_map, if◌then◌else◌, inl, inr, refl, sym, ap, ◌∙◌, subst, codes, arith}
+-- The pointer of a mapping fault leads to a place that departs from the table.
+use Rattle.std.proofs.Common.{◌≡◌, ◌⊎◌, ℕ, ◌+◌, List, [], ◌∷◌, Bool, true, false, Option, Some, None, if◌then◌else◌, inl, inr, refl, subst, codes}
 use Rattle.std.specs.List.{Contains}
 use Rattle.std.proofs.lemmas.Option.{same_Some}
 use Rattle.std.proofs.lemmas.List.Elements.{Contains-append_left, Contains-append_right, Contains-push}
 use Rattle.serde_json.specs.Data.{Data, null, boolean, number, string, array, object, Items, no_items, item, Members, no_members, member}
-use Rattle.serde_json.specs.Find.{get_member, get_item}
+use Rattle.serde_json.specs.Find.{get_member}
 use Rattle.aas_json_table.specs.Names.{has}
 use Rattle.aas_json_table.specs.Table.{Sort, MemberType, text, flag, word, one, many, kept, plain, Row}
-use Rattle.aas_json_table.specs.Rows.{Pointer, in_member, in_item, first_of, row_named, rows_of, is_there}
+use Rattle.aas_json_table.specs.Rows.{Pointer, in_member, first_of, row_named, rows_of, is_there}
 use Rattle.aas_json_table.specs.Misfit.{misfit, misfit_items, misfit_members, misfit_member, misfit_object, misfit_all, missing}
 use Rattle.aas_json_table.specs.TooDeep.{Levels}
 use Rattle.aas_json_table.specs.Conforms.{IsMember, Conforms}
 use Rattle.aas_json_table.specs.Departs.{Departs, at_value, at_model_type, at_unknown, at_missing, in_object, in_array, in_kept, in_plain_array, in_plain_object}
 use Rattle.aas_json_spelling.proofs.Conforms.{clear}
+use Rattle.aas_json_spelling.proofs.Places.{first_answer, InMember, InPlain, InItem, later_member, here_member, pick_plain, pick_item, at_index}
 
 -- a value that has a fault doesn't conform
 no_conforming : (f : MemberType) (j : Data) (p : Pointer) → misfit f j ≡ Some p → (left : Levels) → Conforms left f j → ⊥
@@ -24,21 +25,6 @@ itself f j p e same = subst (λ q. Departs f j q) (same_Some [] p same) (at_valu
 word_fault : (b : Bool) (p : Pointer) → (if b then None else Some []) ≡ Some p → Some [] ≡ Some p
 word_fault true p e = cc
 word_fault false p e = e
-
--- the first of two answers, or the other
-first_answer : {A : Type 0} (a b : Option A) (x : A) → first_of a b ≡ Some x → (a ≡ Some x) ⊎ (b ≡ Some x)
-first_answer None b x e = inr e
-first_answer (Some y) b x e = inl e
-
--- an answer within a step
-record Below {T : Type 0} (step : T → Pointer) (o : Option T) (p : Pointer) : Type 0 where
-  inside : T
-  found : o ≡ Some inside
-  is : step inside ≡ p
-
-within_step : {T : Type 0} (step : T → Pointer) (o : Option T) (p : Pointer) → option_map step o ≡ Some p → Below step o p
-within_step step None p e = cc
-within_step step (Some q) p e = record { inside = q; found = refl; is = same_Some (step q) p e }
 
 -- ---- a row that is required, and has no member
 
@@ -64,79 +50,40 @@ lacks_some (r ∷ rs) ms p e = by_row r.required (is_there (get_member r.name ms
 
 -- ---- members and items
 
-record UnknownMember (rows : List Row) (ms : Members) (p : Pointer) : Type 0 where
+record Unknown (rows : List Row) (ms : Members) (p : Pointer) : Type 0 where
   name : List ℕ
   value : Data
   place : IsMember name value ms
   unknown : row_named name rows ≡ None
   is : (in_member name ∷ []) ≡ p
 
-record FaultyMember (rows : List Row) (ms : Members) (p : Pointer) : Type 0 where
-  name : List ℕ
-  value : Data
-  row : Row
-  inside : Pointer
-  place : IsMember name value ms
-  known : row_named name rows ≡ Some row
-  departs : Departs row.member_type value inside
-  is : (in_member name ∷ inside) ≡ p
+-- a member that has no row, or in which something departs
+abbrev Faulty : List Row → Members → Pointer → Type 0
+Faulty rows ms p = Unknown rows ms p ⊎ InMember Departs rows ms p
 
-record FaultyPlain (ms : Members) (p : Pointer) : Type 0 where
-  name : List ℕ
-  value : Data
-  inside : Pointer
-  place : IsMember name value ms
-  departs : Departs plain value inside
-  is : (in_member name ∷ inside) ≡ p
+later_faulty : (rows : List Row) (k : List ℕ) (d : Data) (ms : Members) (p : Pointer) → Faulty rows ms p → Faulty rows (member k d ms) p
+later_faulty rows k d ms p (inl u) = inl (record { name = u.name; value = u.value; place = inr u.place; unknown = u.unknown; is = u.is })
+later_faulty rows k d ms p (inr m) = inr (later_member Departs rows k d ms p m)
 
--- an item, of which the first has place n
-record FaultyItem (f : MemberType) (n : ℕ) (ds : Items) (p : Pointer) : Type 0 where
-  index : ℕ
-  value : Data
-  inside : Pointer
-  place : get_item index ds ≡ Some value
-  departs : Departs f value inside
-  is : (in_item (n + index) ∷ inside) ≡ p
-
-later_member : (rows : List Row) (k : List ℕ) (d : Data) (ms : Members) (p : Pointer) → UnknownMember rows ms p ⊎ FaultyMember rows ms p → UnknownMember rows (member k d ms) p ⊎ FaultyMember rows (member k d ms) p
-later_member rows k d ms p (inl u) = inl (record { name = u.name; value = u.value; place = inr u.place; unknown = u.unknown; is = u.is })
-later_member rows k d ms p (inr m) = inr (record { name = m.name; value = m.value; row = m.row; inside = m.inside; place = inr m.place; known = m.known; departs = m.departs; is = m.is })
-
-later_plain : (k : List ℕ) (d : Data) (ms : Members) (p : Pointer) → FaultyPlain ms p → FaultyPlain (member k d ms) p
-later_plain k d ms p m = record { name = m.name; value = m.value; inside = m.inside; place = inr m.place; departs = m.departs; is = m.is }
-
-later_item : (f : MemberType) (n : ℕ) (d : Data) (ds : Items) (p : Pointer) → FaultyItem f (n + 1) ds p → FaultyItem f n (item d ds) p
-later_item f n d ds p i =
-    let same : n + suc i.index ≡ (n + 1) + i.index = omega arith in
-    record { index = suc i.index; value = i.value; inside = i.inside; place = i.place; departs = i.departs; is = ap (λ m. in_item m ∷ i.inside) same ∙ i.is }
-
-here_member : (rows : List Row) (k : List ℕ) (d : Data) (ms : Members) (p : Pointer) → ((f : MemberType) (q : Pointer) → misfit f d ≡ Some q → Departs f d q) → misfit_member k (row_named k rows) (λ f. misfit f d) ≡ Some p
-    → UnknownMember rows (member k d ms) p ⊎ FaultyMember rows (member k d ms) p
-here_member rows k d ms p each e = by_row (row_named k rows) refl e
+pick_faulty : (rows : List Row) (k : List ℕ) (d : Data) (ms : Members) (p : Pointer) → first_of (misfit_member k (row_named k rows) (λ f. misfit f d)) (misfit_members ms rows) ≡ Some p
+    → ((f : MemberType) (q : Pointer) → misfit f d ≡ Some q → Departs f d q) → (misfit_members ms rows ≡ Some p → Faulty rows ms p) → Faulty rows (member k d ms) p
+pick_faulty rows k d ms p e here rest = by_answer (first_answer (misfit_member k (row_named k rows) (λ f. misfit f d)) (misfit_members ms rows) p e)
   where
-    by_row : (o : Option Row) → row_named k rows ≡ o → misfit_member k o (λ f. misfit f d) ≡ Some p → UnknownMember rows (member k d ms) p ⊎ FaultyMember rows (member k d ms) p
+    by_row : (o : Option Row) → row_named k rows ≡ o → misfit_member k o (λ f. misfit f d) ≡ Some p → Faulty rows (member k d ms) p
     by_row None a e = inl (record { name = k; value = d; place = inl (refl, refl); unknown = a; is = same_Some (in_member k ∷ []) p e })
-    by_row (Some r) a e =
-        let b = within_step (λ q. in_member k ∷ q) (misfit r.member_type d) p e in
-        inr (record { name = k; value = d; row = r; inside = b.inside; place = inl (refl, refl); known = a; departs = each r.member_type b.inside b.found; is = b.is })
+    by_row (Some r) a e = inr (here_member Departs rows k d ms r (misfit r.member_type d) p a (here r.member_type) e)
 
-here_plain : (k : List ℕ) (d : Data) (ms : Members) (p : Pointer) → ((q : Pointer) → misfit plain d ≡ Some q → Departs plain d q) → option_map (λ q. in_member k ∷ q) (misfit plain d) ≡ Some p → FaultyPlain (member k d ms) p
-here_plain k d ms p each e =
-    let b = within_step (λ q. in_member k ∷ q) (misfit plain d) p e in record { name = k; value = d; inside = b.inside; place = inl (refl, refl); departs = each b.inside b.found; is = b.is }
-
-here_item : (f : MemberType) (n : ℕ) (d : Data) (ds : Items) (p : Pointer) → ((q : Pointer) → misfit f d ≡ Some q → Departs f d q) → option_map (λ q. in_item n ∷ q) (misfit f d) ≡ Some p → FaultyItem f n (item d ds) p
-here_item f n d ds p each e =
-    let b = within_step (λ q. in_item n ∷ q) (misfit f d) p e in
-    let same : n + 0 ≡ n = omega arith in
-    record { index = 0; value = d; inside = b.inside; place = refl; departs = each b.inside b.found; is = ap (λ m. in_item m ∷ b.inside) same ∙ b.is }
+    by_answer : (misfit_member k (row_named k rows) (λ f. misfit f d) ≡ Some p) ⊎ (misfit_members ms rows ≡ Some p) → Faulty rows (member k d ms) p
+    by_answer (inl e) = by_row (row_named k rows) refl e
+    by_answer (inr e) = later_faulty rows k d ms p (rest e)
 
 -- an object whose modelType is wrong, or which has a member or lacks one
-object_departs : (s : Sort) (ms : Members) (p : Pointer) → misfit (one s) (object ms) ≡ Some p → ((rows : List Row) → misfit_members ms rows ≡ Some p → UnknownMember rows ms p ⊎ FaultyMember rows ms p) → Departs (one s) (object ms) p
+object_departs : (s : Sort) (ms : Members) (p : Pointer) → misfit (one s) (object ms) ≡ Some p → ((rows : List Row) → misfit_members ms rows ≡ Some p → Faulty rows ms p) → Departs (one s) (object ms) p
 object_departs s ms p e each = by_rows (rows_of s ms) refl e
   where
-    by_member : (rows : List Row) → rows_of s ms ≡ Some rows → UnknownMember rows ms p ⊎ FaultyMember rows ms p → Departs (one s) (object ms) p
+    by_member : (rows : List Row) → rows_of s ms ≡ Some rows → Faulty rows ms p → Departs (one s) (object ms) p
     by_member rows a (inl u) = subst (λ q. Departs (one s) (object ms) q) u.is (at_unknown s ms rows u.name u.value a u.place u.unknown)
-    by_member rows a (inr m) = subst (λ q. Departs (one s) (object ms) q) m.is (in_object s ms rows m.name m.value m.row m.inside a m.place m.known m.departs)
+    by_member rows a (inr m) = subst (λ q. Departs (one s) (object ms) q) m.is (in_object s ms rows m.name m.value m.row m.inside a m.place m.known m.leads)
 
     by_lack : (rows : List Row) → rows_of s ms ≡ Some rows → Lacks rows ms p → Departs (one s) (object ms) p
     by_lack rows a l = subst (λ q. Departs (one s) (object ms) q) l.is (at_missing s ms rows l.row a l.place l.required l.absent)
@@ -149,27 +96,8 @@ object_departs s ms p e each = by_rows (rows_of s ms) refl e
     by_rows None a e = subst (λ q. Departs (one s) (object ms) q) (same_Some (in_member (codes "modelType") ∷ []) p e) (at_model_type s ms a)
     by_rows (Some rows) a e = by_answer rows a (first_answer (misfit_members ms rows) (missing rows ms) p e)
 
--- here, or behind
-pick_member : (rows : List Row) (k : List ℕ) (d : Data) (ms : Members) (p : Pointer) → (misfit_member k (row_named k rows) (λ f. misfit f d) ≡ Some p) ⊎ (misfit_members ms rows ≡ Some p)
-    → ((f : MemberType) (q : Pointer) → misfit f d ≡ Some q → Departs f d q) → (misfit_members ms rows ≡ Some p → UnknownMember rows ms p ⊎ FaultyMember rows ms p)
-    → UnknownMember rows (member k d ms) p ⊎ FaultyMember rows (member k d ms) p
-pick_member rows k d ms p (inl e) here later = here_member rows k d ms p here e
-pick_member rows k d ms p (inr e) here later = later_member rows k d ms p (later e)
-
-pick_plain : (k : List ℕ) (d : Data) (ms : Members) (p : Pointer) → (option_map (λ q. in_member k ∷ q) (misfit plain d) ≡ Some p) ⊎ (misfit_all ms ≡ Some p)
-    → ((q : Pointer) → misfit plain d ≡ Some q → Departs plain d q) → (misfit_all ms ≡ Some p → FaultyPlain ms p) → FaultyPlain (member k d ms) p
-pick_plain k d ms p (inl e) here later = here_plain k d ms p here e
-pick_plain k d ms p (inr e) here later = later_plain k d ms p (later e)
-
-pick_item : (f : MemberType) (n : ℕ) (d : Data) (ds : Items) (p : Pointer) → (option_map (λ q. in_item n ∷ q) (misfit f d) ≡ Some p) ⊎ (misfit_items ds f (n + 1) ≡ Some p)
-    → ((q : Pointer) → misfit f d ≡ Some q → Departs f d q) → (misfit_items ds f (n + 1) ≡ Some p → FaultyItem f (n + 1) ds p) → FaultyItem f n (item d ds) p
-pick_item f n d ds p (inl e) here later = here_item f n d ds p here e
-pick_item f n d ds p (inr e) here later = later_item f n d ds p (later e)
-
-plains_depart : (ds : Items) (p : Pointer) → FaultyItem plain 0 ds p → Departs plain (array ds) p
-plains_depart ds p i =
-    let same : 0 + i.index ≡ i.index = omega arith in
-    subst (λ q. Departs plain (array ds) q) (sym (ap (λ m. in_item m ∷ i.inside) same) ∙ i.is) (in_plain_array ds i.index i.value i.inside i.place i.departs)
+plains_depart : (ds : Items) (p : Pointer) → InItem Departs plain 0 ds p → Departs plain (array ds) p
+plains_depart ds p i = subst (λ q. Departs plain (array ds) q) (at_index Departs plain ds p i) (in_plain_array ds i.index i.value i.inside i.place i.leads)
 
 mutual
   -- What the walk names departs.
@@ -177,12 +105,10 @@ mutual
   departs (string s) (word ws) p e = itself (word ws) (string s) p e (word_fault (has ws s) p e)
   departs (object ms) (one s) p e = object_departs s ms p e (λ rows. members_depart ms rows p)
   departs (array ds) (many s) p e =
-      let i = items_depart ds (one s) 0 p e in
-      let same : 0 + i.index ≡ i.index = omega arith in
-      subst (λ q. Departs (many s) (array ds) q) (sym (ap (λ m. in_item m ∷ i.inside) same) ∙ i.is) (in_array s ds i.index i.value i.inside i.place i.departs)
+      let i = items_depart ds (one s) 0 p e in subst (λ q. Departs (many s) (array ds) q) (at_index Departs (one s) ds p i) (in_array s ds i.index i.value i.inside i.place i.leads)
   departs (array ds) kept p e = in_kept ds p (plains_depart ds p (items_depart ds plain 0 p e))
   departs (array ds) plain p e = plains_depart ds p (items_depart ds plain 0 p e)
-  departs (object ms) plain p e = let m = all_depart ms p e in subst (λ q. Departs plain (object ms) q) m.is (in_plain_object ms m.name m.value m.inside m.place m.departs)
+  departs (object ms) plain p e = let m = all_depart ms p e in subst (λ q. Departs plain (object ms) q) m.is (in_plain_object ms m.name m.value m.inside m.place m.leads)
   departs (string s) text p e = cc
   departs (boolean b) flag p e = cc
   departs null plain p e = cc
@@ -203,15 +129,14 @@ mutual
   departs (number x) plain p e = itself plain (number x) p e e
   departs j f p e = itself f j p e e
 
-  members_depart : (ms : Members) (rows : List Row) (p : Pointer) → misfit_members ms rows ≡ Some p → UnknownMember rows ms p ⊎ FaultyMember rows ms p
+  members_depart : (ms : Members) (rows : List Row) (p : Pointer) → misfit_members ms rows ≡ Some p → Faulty rows ms p
   members_depart no_members rows p e = cc
-  members_depart (member k d ms) rows p e =
-      pick_member rows k d ms p (first_answer (misfit_member k (row_named k rows) (λ f. misfit f d)) (misfit_members ms rows) p e) (departs d) (members_depart ms rows p)
+  members_depart (member k d ms) rows p e = pick_faulty rows k d ms p e (departs d) (members_depart ms rows p)
 
-  all_depart : (ms : Members) (p : Pointer) → misfit_all ms ≡ Some p → FaultyPlain ms p
+  all_depart : (ms : Members) (p : Pointer) → misfit_all ms ≡ Some p → InPlain Departs ms p
   all_depart no_members p e = cc
-  all_depart (member k d ms) p e = pick_plain k d ms p (first_answer (option_map (λ q. in_member k ∷ q) (misfit plain d)) (misfit_all ms) p e) (departs d plain) (all_depart ms p)
+  all_depart (member k d ms) p e = pick_plain Departs k d ms (misfit plain d) (misfit_all ms) p e (departs d plain) (all_depart ms p)
 
-  items_depart : (ds : Items) (f : MemberType) (n : ℕ) (p : Pointer) → misfit_items ds f n ≡ Some p → FaultyItem f n ds p
+  items_depart : (ds : Items) (f : MemberType) (n : ℕ) (p : Pointer) → misfit_items ds f n ≡ Some p → InItem Departs f n ds p
   items_depart no_items f n p e = cc
-  items_depart (item d ds) f n p e = pick_item f n d ds p (first_answer (option_map (λ q. in_item n ∷ q) (misfit f d)) (misfit_items ds f (n + 1)) p e) (departs d f) (items_depart ds f (n + 1) p)
+  items_depart (item d ds) f n p e = pick_item Departs f n d ds (misfit f d) (misfit_items ds f (n + 1)) p e (departs d f) (items_depart ds f (n + 1) p)

@@ -5,6 +5,7 @@ pub mod Exists
 pub mod Fits
 pub mod MemberTypes
 pub mod Kept
+pub mod LiesTooDeep
 pub mod Laws
 pub mod Lists
 pub mod Members
@@ -12,6 +13,7 @@ pub mod Nesting
 pub mod Objects
 pub mod Canonicals
 pub mod Conforms
+pub mod Places
 pub mod Puts
 pub mod Reading
 pub mod Rows

@@ -24,9 +24,9 @@ pub record IsMapped {A : Type 0} (trees : Trees A) (Shape : A → Type 0) : Type
   -- What a writer wrote, its reader reads: given the canonical text of a whole tree, a reader that answers each tree that is spelled answers this one, unless memory was refused.
   pub answered : (levels : Levels) (t : A) (result : Result A ReadFault) → IsWithinLimits levels → trees.IsWhole levels t → IsUtf8 (canonical_text trees t)
       → ReadsEachOfBytes trees levels result (canonical_text trees t) → (result ≡ Ok t) ⊎ (result ≡ Err NoMemory)
-  -- Trees of shape that are spelled the same are the same.
+  -- Trees that have their shape, and are spelled the same, are the same.
   pub said_once : (t u : A) → Shape t → Shape u → trees.spell t ≡ trees.spell u → t ≡ u
-  -- A tree of shape that a value says is whole, where nothing in the value lies too deep.
+  -- A tree that has its shape, and that a value says, is whole, where nothing in the value lies too deep.
   pub said_whole : (levels : Levels) (j : Data) (t : A) → IsOrdered j → Shape t → too_deep (one trees.sort) j levels ≡ None → canonical (one trees.sort) j ≡ Some (trees.spell t)
       → trees.IsWhole levels t
   -- Each value spells one tree, or has a mapping fault, or has none and lies too deep.

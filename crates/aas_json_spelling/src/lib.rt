@@ -17,6 +17,7 @@ ghost use Rattle.serde_json.specs.declared.value.Value.{Value};
 ghost use Rattle.aas_json_table.specs.Table.{Sort, MemberType, one, kept};
 ghost use Rattle.aas_json_table.specs.Conforms.{Conforms};
 ghost use Rattle.aas_json_table.specs.Departs.{Departs};
+ghost use Rattle.aas_json_table.specs.LiesTooDeep.{LiesTooDeep};
 ghost use Rattle.aas_json_table.specs.Misfit.{misfit};
 ghost use Rattle.aas_json_table.specs.Rows.{Pointer};
 ghost use Rattle.aas_json_table.specs.TooDeep.{Levels, too_deep};
@@ -39,6 +40,13 @@ pub fn what_conforms_has_no_fault()
 #[tactic(auto, using(crate::proofs::Departs::departs))]
 pub fn what_is_named_departs()
     ensures { (f : MemberType) (j : Data) (p : Pointer) → misfit f j ≡ Some p → Departs f j p }
+{}
+
+/// The pointer that is named as the first place that is too deep leads to a place for which no level is left.
+#[tactic(auto, using(crate::proofs::LiesTooDeep::lies_too_deep))]
+pub fn what_is_named_lies_too_deep()
+    ensures { (left : Levels) (f : MemberType) (j : Data) (p : Pointer) →
+        too_deep f j left ≡ Some p → LiesTooDeep left f j p }
 {}
 
 /// An object that fits has a canonical value.

@@ -1,6 +1,7 @@
 pub mod Conforms
 pub mod Departs
 pub mod Examples
+pub mod LiesTooDeep
 pub mod Misfit
 pub mod Names
 pub mod Canonical

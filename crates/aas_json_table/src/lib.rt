@@ -1,9 +1,10 @@
 //! The attribute table of the JSON mapping of IDTA-01001-3-0 as data, and walks over a JSON value by it.
 //!
 //! The table says which members an object of each sort may have. When a value conforms to it is said by
-//! `specs/Conforms.antt`, and where it departs from it by `specs/Departs.antt`; one walk finds the first place where a
-//! value departs, and another the first that lies too deep. What stands here knows the table alone: the trees that
-//! values spell begin in `aas_json_spelling`, which also has the laws that tie the walks to those two definitions.
+//! `specs/Conforms.antt`, where it departs from it by `specs/Departs.antt`, and where it lies too deep by
+//! `specs/LiesTooDeep.antt`; one walk finds the first place where a value departs, and another the first that lies too
+//! deep. What stands here knows the table alone: the trees that values spell begin in `aas_json_spelling`, which also
+//! has the laws that tie the walks to those definitions.
 
 #![tactic(auto)]
 

@@ -1,7 +1,7 @@
 -- Forms of trees that are in order are in order.
-use Rattle.std.proofs.Common.{◌≡◌, ℕ, ◌<◌, ◌&&◌, ◌++◌, List, [], ◌∷◌, Bool, true, map, length, refl, ap, ap₂, sym, ◌∙◌, subst}
+use Rattle.std.proofs.Common.{◌≡◌, ◌&&◌, List, [], ◌∷◌, Bool, true, map, refl, ap, ap₂, sym, ◌∙◌, subst}
 use Rattle.aas_json_mapping.proofs.Elements.{each_within}
-use Rattle.std.specs.List.{All, AllPass, Contains, flat_map, list_all}
+use Rattle.std.specs.List.{All, Contains, flat_map, list_all}
 use Rattle.std.proofs.lemmas.Bool.{and_from, and_parts}
 use Rattle.std.proofs.lemmas.List.Elements.{All-contains}
 use Rattle.std.proofs.lemmas.List.Folds.{list_all-append}

@@ -1,5 +1,5 @@
 -- Whole trees are in order.
-use Rattle.std.proofs.Common.{◌≡◌, ◌&&◌, List, [], ◌∷◌, Bool, true, map, Option, Some, None, refl, ap₂, ◌∙◌, sym, subst}
+use Rattle.std.proofs.Common.{◌≡◌, ◌&&◌, List, [], ◌∷◌, Bool, true, map, Option, Some, None, refl, ◌∙◌, sym, subst}
 use Rattle.aas_json_mapping.proofs.Elements.{each_within}
 use Rattle.std.proofs.lemmas.Bool.{and_from}
 use Rattle.std.specs.List.{list_all}

@@ -1,8 +1,7 @@
 -- The spelling of an element, by that of its children.
 use Rattle.std.proofs.Common.{◌≡◌, ℕ, ◌<◌, ◌&&◌, List, [], ◌∷◌, ◌++◌, length, get_or, Bool, true, map, codes, Option, refl, sym, ap, ap₂, ◌∙◌, subst}
-use Rattle.serde_json.specs.Data.{Data, Members, object, no_items}
-use Rattle.aas_json_table.specs.Canonical.{listed}
-use Rattle.aas_json_table.specs.Spelled.{attribute, spelled, list_of, onto}
+use Rattle.serde_json.specs.Data.{Data, Members, object}
+use Rattle.aas_json_table.specs.Spelled.{attribute, spelled}
 use Rattle.aas_json_table.specs.Table.{Row}
 use Rattle.aas_json_spelling.specs.Lists.{each_true}
 use Rattle.aas_lemmas.proofs.Truth.{and_left, and_right}

@@ -1,5 +1,5 @@
 -- Variables of an Operation, one after another.
-use Rattle.std.proofs.Common.{◌≡◌, List, [], ◌∷◌, ◌++◌, Bool, true, false, map, filter, cond, Some, None, refl, append_assoc}
+use Rattle.std.proofs.Common.{◌≡◌, List, ◌∷◌, Bool, true, false, map, filter, cond, Some, None, refl}
 use Rattle.std.specs.List.{cons_option}
 use Rattle.aas_json_mapping.specs.Elements.{Child, spell_variable}
 use Rattle.aas_model.specs.declared.element.Role.{Role}

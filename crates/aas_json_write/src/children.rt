@@ -64,7 +64,7 @@ pub(crate) fn closed_with_variables(
 }
 
 /// Adds a value at the end, if there is one.
-#[tactic(auto, using(std::proofs::Math::Seq::append_snoc))]
+#[tactic(auto, using(aas_lemmas::proofs::Lists::append_one))]
 pub(crate) fn push_some(array: &mut Array, value: Option<Exact>) -> Result<(), NoMemory>
     ensures { OnOk result ((rest : List json.Data) → items_of array.new ++ rest ≡ items_of array.old ++ cons_option (option_map data_of value) rest) }
 {

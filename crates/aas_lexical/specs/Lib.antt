@@ -7,5 +7,4 @@ pub mod Media
 pub mod Names
 pub mod Values
 pub mod Natives
-pub mod Texts
 pub mod Cut

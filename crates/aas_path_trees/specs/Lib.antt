@@ -1,4 +1,3 @@
-pub mod Below
 pub mod Children
 pub mod Edits
 pub mod ElementAt

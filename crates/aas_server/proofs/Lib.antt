@@ -1,2 +1,3 @@
-mod Answers
+mod Given
+mod ValueAnswers
 mod Words

@@ -1,8 +1,8 @@
 -- What a command answers. This profile's own rule.
 use Rattle.std.specs.Prelude.{◌≡◌, ◌⊎◌, ℕ, List, [], ◌∷◌, ◌++◌, codes, decimal, Option}
 use Rattle.std.specs.Io.KnownBytes.{append_known}
-use Rattle.aas_server.specs.declared.answered.Answered.{Answered}
-use Rattle.aas_server.specs.declared.answered.Answered.TheVariants as answered
+use Rattle.aas_command.specs.Refusals.{code_of, text_of}
+use Rattle.aas_command.specs.declared.refusal.Refusal.{Refusal}
 use Rattle.aas_outside.specs.Link.{GivesFront}
 
 -- the status of the run, and all that the console gets
@@ -14,18 +14,16 @@ pub record Answer : Type 0 where
 abbrev pub line : List ℕ → List ℕ
 line text = text ++ 10 ∷ []
 
--- what was asked for, as one line
+-- what was asked for
 abbrev pub done : List ℕ → Answer
-done text = record { status = 0; text = line text }
+done text = record { status = 0; text = text }
 
--- a refusal by its code and text
-abbrev pub refused : ℕ → List ℕ → Answer
-refused code text = record { status = 7; text = line (codes "aasd: refused " ++ decimal code ++ codes " " ++ text) }
+abbrev pub refused : Refusal → Answer
+refused r = record { status = 7; text = line (codes "aasd: refused " ++ decimal (code_of r) ++ codes " " ++ text_of r) }
 
--- what the program makes of an answer
-abbrev pub answer_of : Answered → Answer
-answer_of (answered.Done text) = record { status = 0; text = text.items }
-answer_of (answered.Refused text) = record { status = 7; text = text.items }
+-- the words are no command
+abbrev pub not_a_command : Answer
+not_a_command = record { status = 2; text = line (codes "aasd: not a command") }
 
 -- the status and what was given are those of an answer with P
 abbrev pub GivesAnswer : (Answer → Type 0) → ℕ → Option (List ℕ) → Option (List ℕ) → Type 0

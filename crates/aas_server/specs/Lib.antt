@@ -1,5 +1,6 @@
 pub mod Answer
-pub mod Commands
+pub mod CommandLine
 pub mod Console
 pub mod Status
+pub mod Stop
 pub mod ValueAnswer

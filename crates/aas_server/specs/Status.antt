@@ -3,9 +3,9 @@ use Rattle.std.specs.Prelude.{ℕ}
 use Rattle.aas_server.specs.declared.status.Status.{Status}
 use Rattle.aas_server.specs.declared.status.Status.TheVariants.{Done, NotACommand, LinkFault, Refused, NoMemory}
 
-abbrev pub code_of : Status → ℕ
-code_of Done = 0
-code_of NotACommand = 2
-code_of LinkFault = 3
-code_of Refused = 7
-code_of NoMemory = 10
+abbrev pub exit_code : Status → ℕ
+exit_code Done = 0
+exit_code NotACommand = 2
+exit_code LinkFault = 3
+exit_code Refused = 7
+exit_code NoMemory = 10

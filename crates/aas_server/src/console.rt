@@ -1,54 +1,32 @@
 // The console: its input read to the end, and the last text given.
-ghost use Rattle.std.specs.Prelude.{◌≡◌, ◌≢◌, ◌<◌, ◌≤◌, ◌⊎◌, length, IfOk, IfSome, OnOk, IsErrOf};
+ghost use Rattle.std.specs.Prelude.{◌≡◌, ◌≢◌, ◌<◌, ◌≤◌, ◌⊎◌, length, IfOk, IfErr, IfSome, OnOk, IsErrOf};
 ghost use Rattle.std.specs.Io.KnownBytes.{append_known, IsAtEnd};
 ghost use Rattle.aas_outside.specs.Faults.{Rose};
 ghost use Rattle.aas_outside.specs.Link.{GivesFront};
+ghost use Rattle.aas_server.specs.Answer.{refused};
 ghost use Rattle.aas_server.specs.Console.{input_limit};
-ghost use Rattle.aas_server.specs.Status.{code_of};
-ghost use Rattle.aas_server.specs.declared.console.InputFault.TheVariants.{LinkFault, NoMemory};
+ghost use Rattle.aas_server.specs.Status.{exit_code};
+ghost use Rattle.aas_server.specs.Stop.{IfRefused};
 
 use crate::status::Status;
+use crate::stop::Stop;
+use aas_command::Refusal;
+use aas_model_text::NoMemory;
 use aas_outside::{Failed, Link, give_all};
-use std::alloc::{AllocError, Global};
+use itoa::Buffer;
+use std::alloc::Global;
 
 /// The most bytes that an input may have.
 const INPUT_LIMIT: usize = 4_194_304;
 
-/// Why an input wasn't read.
-#[derive(Clone, Copy)]
-pub enum InputFault {
-    /// It has more bytes than an input may have.
-    TooLarge,
-    /// The link failed.
-    LinkFault,
-    /// Memory was refused.
-    NoMemory,
-}
-
-impl From<Failed> for InputFault {
-    ghost from_gives = { λ _ fault. fault ≡ LinkFault };
-
-    fn from(_: Failed) -> Self {
-        InputFault::LinkFault
-    }
-}
-
-impl From<AllocError> for InputFault {
-    ghost from_gives = { λ _ fault. fault ≡ NoMemory };
-
-    fn from(_: AllocError) -> Self {
-        InputFault::NoMemory
-    }
-}
-
 /// Takes all that is left on the link, to the end of its input and in whatever pieces it comes.
-pub fn read_input<L: Link>(alloc: Global, link: &mut L) -> Result<Vec<u8>, InputFault>
+pub fn read_input<L: Link>(alloc: Global, link: &mut L) -> Result<Vec<u8>, Stop>
     ensures whole { IfOk result (λ text. IfSome (L.left link.old) (λ input. text.items ≡ input)) }
     ensures within { IfOk result (λ text. length text.items ≤ input_limit) }
     ensures ended { OnOk result (IsAtEnd (L.left link.new)) }
-    ensures too_large { IsErrOf result InputFault.TooLarge →
-        IfSome (L.left link.old) (λ input. input_limit < length input) }
-    ensures fault { IsErrOf result InputFault.LinkFault → Rose (L.faults link.old) (L.faults link.new) }
+    ensures refused { IfErr result (λ stop. IfRefused stop (λ refusal. refusal ≢ Refusal.NoMemory →
+        (refusal ≡ Refusal.TooLarge) × IfSome (L.left link.old) (λ input. input_limit < length input))) }
+    ensures fault { IsErrOf result Stop.LinkFault → Rose (L.faults link.old) (L.faults link.new) }
     ensures later { L.faults link.old ≤ L.faults link.new }
     ensures sent { L.sent link.new ≡ L.sent link.old }
 {
@@ -60,7 +38,7 @@ pub fn read_input<L: Link>(alloc: Global, link: &mut L) -> Result<Vec<u8>, Input
             return Ok(text);
         }
         if count > INPUT_LIMIT - text.len() {
-            return Err(InputFault::TooLarge);
+            return Err(Stop::Refused(Refusal::TooLarge));
         }
         text.extend_from_slice(&buf[..count])?;
     }
@@ -68,16 +46,49 @@ pub fn read_input<L: Link>(alloc: Global, link: &mut L) -> Result<Vec<u8>, Input
 
 /// Gives the text and answers the status, or that of a fault where the link fails.
 pub fn end_with<L: Link>(link: &mut L, text: &[u8], status: Status) -> Status
-    requires { code_of status ≢ 3 }
-    ensures given { code_of result ≢ 3 → (code_of result ≡ code_of status)
+    requires { exit_code status ≢ 3 }
+    ensures given { exit_code result ≢ 3 → (exit_code result ≡ exit_code status)
         × (L.sent link.new ≡ append_known (L.sent link.old) text.now) }
-    ensures front { code_of result ≡ 3 → GivesFront (L.sent link.old) (L.sent link.new) text.now }
-    ensures fault { code_of result ≡ 3 → Rose (L.faults link.old) (L.faults link.new) }
+    ensures front { exit_code result ≡ 3 → GivesFront (L.sent link.old) (L.sent link.new) text.now }
+    ensures fault { exit_code result ≡ 3 → Rose (L.faults link.old) (L.faults link.new) }
     ensures later { L.faults link.old ≤ L.faults link.new }
-    ensures statuses { (code_of result ≡ 3) ⊎ (code_of result ≡ code_of status) }
+    ensures statuses { (exit_code result ≡ 3) ⊎ (exit_code result ≡ exit_code status) }
 {
     match give_all(link, text) {
         Ok(()) => status,
         Err(Failed) => Status::LinkFault,
+    }
+}
+
+/// The line of a refusal, which is none where it is want of memory.
+fn refused_line(alloc: Global, refusal: &Refusal) -> Result<Vec<u8>, NoMemory>
+    ensures line { IfOk result (λ line. line.items ≡ (refused refusal.now).text) }
+    ensures refusal { OnOk result (refusal.now ≢ Refusal.NoMemory) }
+{
+    if let Refusal::NoMemory = refusal {
+        return Err(NoMemory);
+    }
+    let mut line = Vec::from_slice(alloc, b"aasd: refused ")?;
+    line.extend_from_slice(Buffer::new().format(refusal.code()).as_bytes())?;
+    line.extend_from_slice(b" ")?;
+    line.extend_from_slice(&refusal.text(alloc)?)?;
+    line.extend_from_slice(b"\n")?;
+    Ok(line)
+}
+
+/// Gives the line of the refusal and answers its status, or that of a fault where the link fails.
+pub fn end_refused<L: Link>(alloc: Global, link: &mut L, refusal: &Refusal) -> Status
+    ensures given { exit_code result ≡ 7 → (refusal.now ≢ Refusal.NoMemory)
+        × (L.sent link.new ≡ append_known (L.sent link.old) (refused refusal.now).text) }
+    ensures front { exit_code result ≡ 3 → (refusal.now ≢ Refusal.NoMemory)
+        × GivesFront (L.sent link.old) (L.sent link.new) (refused refusal.now).text }
+    ensures memory { exit_code result ≡ 10 → L.sent link.new ≡ L.sent link.old }
+    ensures fault { exit_code result ≡ 3 → Rose (L.faults link.old) (L.faults link.new) }
+    ensures later { L.faults link.old ≤ L.faults link.new }
+    ensures statuses { (exit_code result ≡ 3) ⊎ (exit_code result ≡ 7) ⊎ (exit_code result ≡ 10) }
+{
+    match refused_line(alloc, refusal) {
+        Ok(line) => end_with(link, &line, Status::Refused),
+        Err(NoMemory) => Status::NoMemory,
     }
 }

@@ -1,10 +1,11 @@
 //! The commands of the program over any console: what each of them answers, and the exit status.
 #![tactic(auto)]
 
-mod answered;
+mod command_line;
 mod commands;
 mod console;
 mod status;
+mod stop;
 mod value;
 
 pub use commands::run;

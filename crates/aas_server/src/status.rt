@@ -1,7 +1,5 @@
 ghost use Rattle.std.specs.Prelude.{◌≡◌};
 
-use aas_model_text::NoMemory;
-
 /// How a run ends.
 #[derive(Clone, Copy)]
 pub enum Status {
@@ -18,22 +16,12 @@ pub enum Status {
 }
 
 impl Status {
-    ghost use Rattle.aas_server.specs.Status.{code_of};
+    ghost use Rattle.aas_server.specs.Status.{exit_code};
 
     /// The exit status of the program.
-    pub fn code(self) -> u8
-        ensures { result ≡ code_of self }
+    pub fn exit_code(self) -> u8
+        ensures { result ≡ exit_code self }
     {
         self as u8
-    }
-}
-
-impl From<NoMemory> for Status {
-    ghost use Rattle.aas_server.specs.declared.status.Status.TheVariants as status;
-
-    ghost from_gives = { λ _ given. given ≡ status.NoMemory };
-
-    fn from(_: NoMemory) -> Self {
-        Status::NoMemory
     }
 }

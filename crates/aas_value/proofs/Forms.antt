@@ -1,5 +1,5 @@
 -- The value form of an element, by its children's.
-use Rattle.std.proofs.Common.{◌≡◌, List, [], ◌∷◌, ◌++◌, map, ap, append_assoc}
+use Rattle.std.proofs.Common.{◌≡◌, map, ap}
 use Rattle.aas_model_names.specs.declared.modifiers.Extent.{Extent}
 use Rattle.aas_model.specs.declared.element.Element.{Element, out-Element}
 use Rattle.aas_model.specs.declared.element.Element.TheFolds.{fold_out-Element}

@@ -26,7 +26,7 @@ pub(crate) fn put_child(
 }
 
 /// Adds the value form of a child, where it has one.
-#[tactic(auto, using(std::proofs::Math::Seq::append_snoc))]
+#[tactic(auto, using(aas_lemmas::proofs::Lists::append_one))]
 pub(crate) fn push_child(array: &mut Array, value: Option<Exact>) -> Result<(), NoMemory>
     ensures { OnOk result ((rest : List Data) → items_of array.new ++ rest ≡ items_of array.old ++ cons_option (option_map data_of value) rest) }
 {

@@ -8,8 +8,8 @@ ghost use Rattle.aas_value.specs.Single.{single};
 ghost use Rattle.aas_value.specs.ValueForm.{array_of, text_or_null, reference_or_null, entity_type_or_null, language_value, blob_value};
 
 use crate::single::single_value;
-use aas_json_write::SpecificAssetIds;
 use aas_json_members::{Array, Exact, Object, Written, text_value, word_value};
+use aas_json_write::SpecificAssetIds;
 use aas_model::{
     EntityType, Extent, LangText, Many, NoMemory, Reference, SpecificAssetId, Text, ValueType,
 };

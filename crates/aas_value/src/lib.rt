@@ -4,7 +4,9 @@
 
 mod children;
 mod form;
+mod kind;
 mod kinds;
 mod single;
 
 pub use form::{element_value, value_of, value_of_submodel};
+pub use kind::has_value_form;

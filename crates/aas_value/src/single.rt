@@ -5,8 +5,8 @@ ghost use Rattle.serde_json.specs.Find.{of_integer};
 ghost use Rattle.aas_lexical.specs.Natives.{IsWritten};
 ghost use Rattle.aas_value.specs.Single.{single, native_or_text};
 
-use aas_lexical::{Native, native};
 use aas_json_members::{Exact, flag_value, text_value};
+use aas_lexical::{Native, native};
 use aas_model::{NoMemory, Text, ValueType};
 use serde_json::{Number, Value};
 use std::alloc::Global;

@@ -15,7 +15,7 @@ fn main(rt: HostRuntime) -> ExitCode {
     let mut console = ConsoleLink::new(rt.stdin(), rt.stdout());
     let status = match words(&rt) {
         Ok(words) => run(rt.alloc(), &words, &mut console),
-        Err(NoMemory) => Status::NoMemory.code(),
+        Err(NoMemory) => Status::NoMemory.exit_code(),
     };
     ExitCode::from(status)
 }

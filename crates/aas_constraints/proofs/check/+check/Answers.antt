@@ -4,8 +4,9 @@ use Rattle.aas_model.specs.declared.element.Element.{Element, out-Element}
 use Rattle.aas_constraint_rules.specs.Sites.{step_to}
 use Rattle.aas_constraint_rules.specs.Rules.{name_of}
 use Rattle.aas_constraint_rules.specs.Faults.{fault}
-use Rattle.aas_constraints.specs.Repeats.{HasTexts}
-use Rattle.aas_constraints.specs.Walk.{own_of, above_of, Knows, found_in, found_among}
+use Rattle.aas_constraint_parts.specs.Repeats.{HasTexts}
+use Rattle.aas_constraint_rules.specs.Sites.{own_of}
+use Rattle.aas_constraints.specs.Walk.{above_of, Knows, found_in, found_among}
 use Rattle.aas_constraints.proofs.Lists.{taken_map}
 use Rattle.aas_constraints.proofs.Walks.{turn, found_here, found_below, found_child, none_in_child, ended, lead_next}
 use Rattle.aas_constraints.proofs.check.+check.Goals as goal

@@ -1,8 +1,9 @@
 use Rattle.std.proofs.Common.{◌≡◌, [], map, filter_map, take, drop}
 use Rattle.std.specs.Option.{option_copied}
 use Rattle.aas_constraint_rules.specs.Rules.{name_of, semantics_of, first_some}
-use Rattle.aas_constraints.specs.Repeats.{HasTexts}
-use Rattle.aas_constraints.specs.Walk.{own_of, above_of, found_among}
+use Rattle.aas_constraint_parts.specs.Repeats.{HasTexts}
+use Rattle.aas_constraint_rules.specs.Sites.{own_of}
+use Rattle.aas_constraints.specs.Walk.{above_of, found_among}
 use Rattle.aas_constraints.proofs.check.+check.Given as goal
 
 abbrev pub invariant-check_among-loop-place : goal.invariant-check_among-loop-place

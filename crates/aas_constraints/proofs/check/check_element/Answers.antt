@@ -3,7 +3,8 @@ use Rattle.aas_model.specs.declared.element.Element.{Element, out-Element}
 use Rattle.aas_constraint_rules.specs.Sites.{step_to}
 use Rattle.aas_constraint_rules.specs.Rules.{is_repeat}
 use Rattle.aas_constraint_rules.specs.Faults.{fault}
-use Rattle.aas_constraints.specs.Walk.{own_of, Knows, found_in}
+use Rattle.aas_constraint_rules.specs.Sites.{own_of}
+use Rattle.aas_constraints.specs.Walk.{Knows, found_in}
 use Rattle.aas_constraints.proofs.Walks.{alone, found_child, none_in_child}
 use Rattle.aas_constraints.proofs.check.check_element.Goals as goal
 

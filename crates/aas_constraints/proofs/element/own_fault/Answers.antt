@@ -10,7 +10,7 @@ use Rattle.aas_constraint_rules.specs.Decided.{has_form}
 use Rattle.aas_constraint_rules.specs.Rules.{agree, has_template_qualifier, list_type, of_parent, stands_in_operation, type_admits}
 use Rattle.aas_constraint_rules.specs.Sites.{stands_in_list}
 use Rattle.aas_constraint_rules.specs.Texts.{all_differ}
-use Rattle.aas_constraints.specs.Own.{first_failed}
+use Rattle.aas_constraint_parts.specs.Tests.{first_failed}
 use Rattle.aas_constraints.specs.Walk.{above_of}
 use Rattle.aas_constraints.proofs.element.own_fault.Goals as goal
 

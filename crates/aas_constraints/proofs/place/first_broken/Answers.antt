@@ -1,6 +1,7 @@
 use Rattle.std.proofs.Common.{ap, sym, ◌∙◌}
 use Rattle.aas_reference.specs.Faults.{least}
-use Rattle.aas_constraints.specs.Walk.{above_of, own_of, place}
+use Rattle.aas_constraint_rules.specs.Sites.{own_of}
+use Rattle.aas_constraints.specs.Walk.{above_of, place}
 use Rattle.aas_constraints.proofs.Split.{element_split}
 use Rattle.aas_constraints.proofs.place.first_broken.Goals as goal
 

@@ -1,26 +1,16 @@
-use Rattle.std.proofs.Common.{Ok, Err}
-use Rattle.aas_model.specs.declared.read_fault.ReadFault.TheVariants.{NotJson, NotMapping, TooDeep}
-use Rattle.aas_server.proofs.Answers.{answered_by, told_as}
+use Rattle.std.proofs.lemmas.Result.{IfOk-weaker, IfErr-weaker}
+use Rattle.aas_server.specs.Answer.{done, refused}
+use Rattle.aas_server.proofs.ValueAnswers.{fault_answered, element_answered, if_err}
 use Rattle.aas_server.proofs.value.answer_value.Goals as goal
 
-pub returns-in-Ok : goal.returns-in-Ok
-returns-in-Ok c = answered_by c.args.input.now (Ok c.in-Ok.element) c.answer_element.result c.requires c.in-Ok.ensures.reads c.answer_element.ensures
+pub returns-in_err-element-clause-refused : goal.returns-in_err-element-clause-refused
+returns-in_err-element-clause-refused c =
+    if_err c.from_residual.result _ _ (λ refusal. fault_answered c.args.input.now c.in_err-element.field-0.0 refusal c.requires c.in_err-element.ensures.reads) c.from_residual.ensures.1
 
-pub returns-in-Err-NotJson : goal.returns-in-Err-NotJson
-returns-in-Err-NotJson c =
-    let fault = c.in-Err-NotJson.field-0 in
-    answered_by c.args.input.now (Err fault) c.refusal.result c.requires c.in-Err-NotJson.ensures.reads
-    (told_as fault NotJson c.refusal.result c.in-Err-NotJson.field-0-is c.refusal.ensures)
+pub returns-clause-done : goal.returns-clause-done
+returns-clause-done c =
+    IfOk-weaker c.answer_element.result _ _ (λ text. element_answered c.args.input.now c.in_ok-element.element (done text.items) c.requires c.in_ok-element.ensures.reads) c.answer_element.ensures.done
 
-pub returns-in-Err-NotMapping : goal.returns-in-Err-NotMapping
-returns-in-Err-NotMapping c =
-    let fault = c.in-Err-NotMapping.field-0 in
-    answered_by c.args.input.now (Err fault) c.refusal_at.result c.requires c.in-Err-NotMapping.ensures.reads
-    (told_as fault (NotMapping c.in-Err-NotMapping.pointer) c.refusal_at.result c.in-Err-NotMapping.field-0-is c.refusal_at.ensures)
-
-pub returns-in-Err-TooDeep : goal.returns-in-Err-TooDeep
-returns-in-Err-TooDeep c =
-    let fault = c.in-Err-TooDeep.field-0 in
-    let refused = c.refusal_at-in-Err-TooDeep in
-    answered_by c.args.input.now (Err fault) refused.result c.requires c.in-Err-TooDeep.ensures.reads
-    (told_as fault (TooDeep c.in-Err-TooDeep.pointer) refused.result c.in-Err-TooDeep.field-0-is refused.ensures)
+pub returns-clause-refused : goal.returns-clause-refused
+returns-clause-refused c =
+    IfErr-weaker c.answer_element.result _ _ (λ refusal is some. element_answered c.args.input.now c.in_ok-element.element (refused refusal) c.requires c.in_ok-element.ensures.reads (is some)) c.answer_element.ensures.refused

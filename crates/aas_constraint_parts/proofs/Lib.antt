@@ -1,0 +1,6 @@
+pub mod KeyTexts
+pub mod Least
+pub mod Lists
+pub mod Sets
+pub mod Tests
+pub mod Told

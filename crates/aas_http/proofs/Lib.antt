@@ -1,0 +1,7 @@
+mod Adding
+mod Awaiting
+pub mod FirstLaws
+mod Firsts
+mod Lengths
+mod Texts
+mod Values

@@ -1,0 +1,19 @@
+-- Laws of the first request.
+use Rattle.std.specs.Prelude.{◌≡◌, ◌<◌, ◌+◌, ◌⊎◌, ℕ, List, length}
+use Rattle.aas_http.specs.BodyLength.{body_limit}
+use Rattle.aas_http.specs.FirstRequest.{FirstRequest, Nothing, Bad, IsBlank, IsFirstRequest}
+use Rattle.aas_http.specs.Head.{head_limit}
+use Rattle.aas_http.specs.Steps.{AwaitsHead, AwaitsBody}
+
+-- Bytes begin with one thing alone.
+abbrev pub BeginsWithOne : Type 0
+BeginsWithOne = (bytes : List ℕ) (a b : FirstRequest) → IsFirstRequest bytes a → IsFirstRequest bytes b → a ≡ b
+
+-- Where more bytes are needed and none follow, the input begins with nothing, or is bad.
+abbrev pub EndsUnfinished : Type 0
+EndsUnfinished = (bytes : List ℕ) → AwaitsHead bytes ⊎ AwaitsBody bytes
+    → (IsBlank bytes → IsFirstRequest bytes Nothing) × (¬ (IsBlank bytes) → IsFirstRequest bytes Bad)
+
+-- More bytes are needed only while they are fewer than a head and a body may have.
+abbrev pub FitsLimits : Type 0
+FitsLimits = (bytes : List ℕ) → AwaitsHead bytes ⊎ AwaitsBody bytes → length bytes < head_limit + body_limit

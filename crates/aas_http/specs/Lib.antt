@@ -1,0 +1,12 @@
+pub mod BodyLength
+pub mod Close
+pub mod FirstRequest
+pub mod Found
+pub mod Gathering
+pub mod Head
+pub mod Laws
+pub mod NotImplemented
+pub mod OnlyValue
+pub mod ReplyText
+pub mod Steps
+pub mod WholeLength

@@ -1,0 +1,24 @@
+// The words of the command line.
+ghost use Rattle.aas_server.specs.CommandLine.{IsAsked};
+
+use aas_model_text::{Many, Text};
+
+/// What the words of the command line ask for.
+#[derive(Clone, Copy)]
+pub enum CommandLine {
+    /// The value form of the element on the console.
+    Value,
+}
+
+/// The command that the words ask for, or `None` where they ask for none.
+pub fn command_of(words: &Many<Text>) -> Option<CommandLine>
+    ensures { IsAsked words.now result }
+{
+    match words.as_slice() {
+        [word] => match word.as_str() {
+            "value" => Some(CommandLine::Value),
+            _ => None,
+        },
+        _ => None,
+    }
+}

@@ -1,0 +1,6 @@
+mod Giving
+mod Progress
+mod Receiving
+mod SoFar
+mod Turns
+mod Windows

@@ -1,0 +1,13 @@
+//! Connections served: from the bytes of each to its replies, over any machine that answers requests.
+#![tactic(auto)]
+
+mod connection;
+mod intake;
+mod machine;
+mod refusals;
+mod wire;
+
+pub use connection::{Ended, serve_connection};
+pub use intake::Intake;
+pub use machine::{Machine, Stop};
+pub use wire::{WireEnded, serve};

@@ -1,0 +1,62 @@
+// What takes the requests: a repository over a keeper.
+ghost use Rattle.std.specs.Prelude.{◌≡◌, ◌≢◌, ◌≤◌, List, ℕ, Bool, false, Err, IfOk, IsSome};
+ghost use Rattle.aas_http.specs.ReplyText.{phrase};
+ghost use Rattle.aas_http.specs.Steps.{message_of};
+ghost use Rattle.aas_outside.specs.Faults.{Rose};
+ghost use Rattle.aas_rule.specs.Rule.{Room};
+ghost use Rattle.aas_rule.specs.State.{State, IsSettledState, PassesTo, repository_of};
+ghost use Rattle.aas_session.specs.Answers.{Answers};
+ghost use Rattle.aas_session.specs.Session.{HttpRule};
+ghost use Rattle.aas_session.specs.declared.machine.Stop.TheVariants.{StorageFault};
+
+use aas_http::{Reply, Request};
+
+/// Why a request has no answer of its own.
+#[derive(Clone, Copy, Debug, PartialEq, Eq, Drop)]
+pub enum Stop {
+    /// Memory was refused, and nothing has changed.
+    NoMemory,
+    /// The keeper failed.
+    StorageFault,
+}
+
+/// A repository that answers requests one by one, and keeps the commands that it accepts.
+pub trait Machine {
+    ghost Documents: { Type 0 };
+
+    /// What a stop leaves: a list of payloads, or the contents of some files.
+    ghost Image: { Type 0 };
+
+    /// The image is that of these payloads.
+    ghost stands_for: { Image → List (List ℕ) → Type 0 };
+
+    /// What a request comes to, where the keeper has this rule for room.
+    ghost rule: { Room → HttpRule Documents };
+
+    /// The keeper's own rule for room.
+    ghost room: { Self → Room };
+
+    /// What it holds, and what a stop leaves of it.
+    ghost state: { Self → State Documents Image };
+
+    /// How many calls of the keeper have failed. It stands still at 2^64 - 1.
+    ghost faults: { Self → ℕ };
+
+    /// The keeper has failed, and no more requests are taken.
+    ghost stopped: { Self → Bool };
+
+    /// Answers a request; who gives the reply sets its `close`. At `Ok` every stop leaves the
+    /// request's command, where it is one that was accepted.
+    fn answer(&mut self, request: &Request) -> Result<Reply, Stop>
+        requires { stopped self.old ≡ false }
+        ensures answered { (records : List (List ℕ)) →
+            IsSettledState stands_for (state self.old) records →
+            Answers (rule (room self.old)) stands_for (repository_of (state self.old) records)
+            (message_of request.now) (state self.old).moment (state self.new) result }
+        ensures reply { IfOk result (λ reply. IsSome (phrase reply.status)) }
+        ensures room { room self.new ≡ room self.old }
+        ensures past { PassesTo (state self.old) (state self.new) }
+        ensures stopped { result ≢ Err StorageFault → stopped self.new ≡ false }
+        ensures later { faults self.old ≤ faults self.new }
+        ensures fault { result ≡ Err StorageFault → Rose (faults self.old) (faults self.new) };
+}
