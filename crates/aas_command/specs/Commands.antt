@@ -23,27 +23,30 @@ IsWellFormed (DeleteConcept id) = ⊤
 IsWellFormed (SetAsset shell asset) = asset_informations.IsWhole limits asset
 
 -- a tag, and the fields behind it
-pub record Row : Type 0 where
+pub record Tagged : Type 0 where
   pub tag : ℕ
   pub fields : List (List ℕ)
 
-abbrev pub row : ℕ → List (List ℕ) → Row
-row tag fields = record { tag = tag; fields = fields }
+abbrev pub tagged : ℕ → List (List ℕ) → Tagged
+tagged tag fields = record { tag = tag; fields = fields }
 
-abbrev pub row_of : Command → Row
-row_of (CreateShell d) = row 1 (canonical_text shells d ∷ [])
-row_of (CreateSubmodel d) = row 2 (canonical_text submodels d ∷ [])
-row_of (CreateConcept d) = row 3 (canonical_text concepts d ∷ [])
-row_of (ReplaceShell d) = row 4 (canonical_text shells d ∷ [])
-row_of (ReplaceSubmodel d) = row 5 (canonical_text submodels d ∷ [])
-row_of (ReplaceConcept d) = row 6 (canonical_text concepts d ∷ [])
-row_of (DeleteShell id) = row 7 (encode_utf8_all id ∷ [])
-row_of (DeleteSubmodel id) = row 8 (encode_utf8_all id ∷ [])
-row_of (DeleteConcept id) = row 9 (encode_utf8_all id ∷ [])
-row_of (SetAsset shell asset) = row 10 (encode_utf8_all shell ∷ canonical_text asset_informations asset ∷ [])
+abbrev pub tagged_of : Command → Tagged
+tagged_of (CreateShell d) = tagged 1 (canonical_text shells d ∷ [])
+tagged_of (CreateSubmodel d) = tagged 2 (canonical_text submodels d ∷ [])
+tagged_of (CreateConcept d) = tagged 3 (canonical_text concepts d ∷ [])
+tagged_of (ReplaceShell d) = tagged 4 (canonical_text shells d ∷ [])
+tagged_of (ReplaceSubmodel d) = tagged 5 (canonical_text submodels d ∷ [])
+tagged_of (ReplaceConcept d) = tagged 6 (canonical_text concepts d ∷ [])
+tagged_of (DeleteShell id) = tagged 7 (encode_utf8_all id ∷ [])
+tagged_of (DeleteSubmodel id) = tagged 8 (encode_utf8_all id ∷ [])
+tagged_of (DeleteConcept id) = tagged 9 (encode_utf8_all id ∷ [])
+tagged_of (SetAsset shell asset) = tagged 10 (encode_utf8_all shell ∷ canonical_text asset_informations asset ∷ [])
 
 abbrev pub field : List ℕ → List ℕ
 field bytes = to_be_bytes w32 (length bytes) ++ bytes
 
+abbrev pub bytes_of : Tagged → List ℕ
+bytes_of t = t.tag ∷ flat_map field t.fields
+
 unfoldable pub payload_of : Command → List ℕ
-payload_of c = (row_of c).tag ∷ flat_map field (row_of c).fields
+payload_of c = bytes_of (tagged_of c)

@@ -6,17 +6,38 @@ use aas_model::{AssetInformation, Concept, Shell, Submodel, Text};
 #[derive(Drop)]
 pub enum Command {
     /// Post a shell, a submodel, a concept description.
-    CreateShell { document: Shell },
-    CreateSubmodel { document: Submodel },
-    CreateConcept { document: Concept },
+    CreateShell {
+        document: Shell,
+    },
+    CreateSubmodel {
+        document: Submodel,
+    },
+    CreateConcept {
+        document: Concept,
+    },
     /// Put one in the place of that which has its identifier.
-    ReplaceShell { document: Shell },
-    ReplaceSubmodel { document: Submodel },
-    ReplaceConcept { document: Concept },
+    ReplaceShell {
+        document: Shell,
+    },
+    ReplaceSubmodel {
+        document: Submodel,
+    },
+    ReplaceConcept {
+        document: Concept,
+    },
     /// Delete that which has the identifier.
-    DeleteShell { id: Text },
-    DeleteSubmodel { id: Text },
-    DeleteConcept { id: Text },
+    DeleteShell {
+        id: Text,
+    },
+    DeleteSubmodel {
+        id: Text,
+    },
+    DeleteConcept {
+        id: Text,
+    },
     /// Put the asset information of the shell that has the identifier.
-    SetAsset { shell: Text, asset: AssetInformation },
+    SetAsset {
+        shell: Text,
+        asset: AssetInformation,
+    },
 }

@@ -1,10 +1,15 @@
-//! Why a command or a request is refused: each refusal with its code and its text.
+//! Commands, which change a repository, with the payloads in which they are kept; and why a command or a request is
+//! refused: each refusal with its code and its text.
 
 #![tactic(auto)]
 
+mod canonical;
 mod command;
+mod encoding;
 mod refusal;
 mod text;
 
+pub use canonical::{asset_text, concept_text, shell_text, submodel_text};
 pub use command::Command;
+pub use encoding::{EncodeFault, encode};
 pub use refusal::{Absent, Refusal};

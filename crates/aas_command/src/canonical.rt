@@ -1,0 +1,53 @@
+// Canonical texts of whole documents.
+ghost use Rattle.std.specs.Prelude.{◌≡◌, IfOk};
+ghost use Rattle.aas_json_spelling.specs.Spells.{canonical_text};
+ghost use Rattle.aas_json_mapping.specs.Trees.{asset_informations, concepts, shells, submodels};
+ghost use Rattle.aas_json_table.specs.TooDeep.{limits};
+
+use aas_json_write::{
+    whole_trees_are_in_order, write_asset_information, write_concept, write_shell, write_submodel,
+};
+use aas_model::{AssetInformation, Concept, NoMemory, Shell, Submodel};
+use std::alloc::Global;
+
+/// The canonical text of a shell.
+pub fn shell_text(alloc: Global, shell: &Shell) -> Result<Vec<u8>, NoMemory>
+    requires { shells.IsWhole limits shell.now }
+    ensures { IfOk result (λ text. text.items ≡ canonical_text shells shell.now) }
+{
+    whole_trees_are_in_order();
+    let mut text = Vec::new(alloc);
+    write_shell(alloc, shell, &mut text)?;
+    Ok(text)
+}
+
+/// The canonical text of a submodel.
+pub fn submodel_text(alloc: Global, submodel: &Submodel) -> Result<Vec<u8>, NoMemory>
+    requires { submodels.IsWhole limits submodel.now }
+    ensures { IfOk result (λ text. text.items ≡ canonical_text submodels submodel.now) }
+{
+    whole_trees_are_in_order();
+    let mut text = Vec::new(alloc);
+    write_submodel(alloc, submodel, &mut text)?;
+    Ok(text)
+}
+
+/// The canonical text of a concept description.
+pub fn concept_text(alloc: Global, concept: &Concept) -> Result<Vec<u8>, NoMemory>
+    requires { concepts.IsWhole limits concept.now }
+    ensures { IfOk result (λ text. text.items ≡ canonical_text concepts concept.now) }
+{
+    whole_trees_are_in_order();
+    let mut text = Vec::new(alloc);
+    write_concept(alloc, concept, &mut text)?;
+    Ok(text)
+}
+
+/// The canonical text of what a shell says of its asset.
+pub fn asset_text(alloc: Global, asset: &AssetInformation) -> Result<Vec<u8>, NoMemory>
+    ensures { IfOk result (λ text. text.items ≡ canonical_text asset_informations asset.now) }
+{
+    let mut text = Vec::new(alloc);
+    write_asset_information(alloc, asset, &mut text)?;
+    Ok(text)
+}
