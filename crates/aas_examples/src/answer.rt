@@ -6,10 +6,9 @@ use crate::parts::{part_of, sameness};
 use crate::text::{text, text_of};
 use aas_command::Refusal;
 use aas_model::{
-    AssetInformation, Concept, Element, Environment, Extent, Reference, Shell, SpecificAssetId,
-    Submodel,
+    AssetInformation, Concept, Element, Environment, Extent, NoMemory, Reference, Shell,
+    SpecificAssetId, Submodel,
 };
-use aas_model_text::NoMemory;
 use std::alloc::Global;
 
 /// What a call gives for an input, or the text of its refusal.

@@ -6,10 +6,9 @@ use crate::forms::Valued;
 use crate::text::{done, text, text_of};
 use aas_command::Refusal;
 use aas_model::{
-    Common, Element, Extent, Many, Missing, Patch, PatchRow, Path, Payload, Role, Semantics,
-    Submodel, Text, ValueType,
+    Common, Element, Extent, Many, Missing, NoMemory, Patch, PatchRow, Path, Payload, Role,
+    Semantics, Submodel, Text, ValueType,
 };
-use aas_model_text::NoMemory;
 use aas_path::{
     InsertFault, ReplaceFault, apply, apply_all, at, at_mut, insert, parse_path, patch_fits,
     patch_fits_all, print_path, remove, replace,

@@ -12,9 +12,9 @@ use aas_json_write::{
     write_submodel,
 };
 use aas_model::{
-    AssetInformation, Concept, Duplicate, Element, Environment, ReadFault, Shell, Submodel,
+    AssetInformation, Concept, Duplicate, Element, Environment, NoMemory, ReadFault, Shell,
+    Submodel,
 };
-use aas_model_text::NoMemory;
 use std::alloc::Global;
 
 /// A document or element that is read from JSON and written as JSON.

@@ -3,8 +3,7 @@ use crate::document::Document;
 use crate::text::text;
 use aas_command::Refusal;
 use aas_constraints::{check_concept, check_element, check_shell, check_submodel};
-use aas_model::{Concept, Element, Fault, Shell, Submodel};
-use aas_model_text::NoMemory;
+use aas_model::{Concept, Element, Fault, NoMemory, Shell, Submodel};
 use std::alloc::Global;
 
 /// A document or element that the constraints are about.

@@ -14,7 +14,7 @@ mod text;
 ghost use Rattle.std.specs.Prelude.{◌≡◌, MatchOption, string_bytes};
 
 use crate::answer::answer;
-use aas_model_text::NoMemory;
+use aas_model::NoMemory;
 use std::alloc::Global;
 use std::io::{self, BufRead, BufReader};
 

@@ -1,4 +1,4 @@
-use aas_model_text::NoMemory;
+use aas_model::NoMemory;
 use std::alloc::Global;
 
 /// The text, in memory of its own.

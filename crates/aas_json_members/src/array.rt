@@ -3,7 +3,7 @@ ghost use Rattle.serde_json.specs.View.{items_view};
 ghost use Rattle.serde_json.specs.Written.{items_have_float};
 
 use crate::exact::Exact;
-use aas_model_text::NoMemory;
+use aas_model::NoMemory;
 use serde_json::Value;
 use std::alloc::Global;
 

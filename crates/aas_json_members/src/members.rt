@@ -6,8 +6,8 @@ ghost use Rattle.aas_json_table.specs.Table.{MemberType, text, word};
 ghost use Rattle.aas_json_table.specs.Canonical.{canonical, canonical_member};
 ghost use Rattle.aas_json_table.specs.Spelled.{text_of};
 
+use aas_model::{NoMemory, Text};
 use aas_model_names::Named;
-use aas_model_text::{NoMemory, Text};
 use serde_json::{Map, Value};
 use std::alloc::Global;
 

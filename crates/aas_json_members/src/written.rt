@@ -7,7 +7,7 @@ ghost use Rattle.aas_json_members.specs.Exact.{data_of};
 use crate::array::Array;
 use crate::exact::Exact;
 use crate::values::text_value;
-use aas_model_text::{NoMemory, Text};
+use aas_model::{NoMemory, Text};
 use std::alloc::Global;
 
 /// A sort of things that are each written as one JSON value.

@@ -10,8 +10,7 @@ use aas_command::Refusal;
 use aas_constraints::check_element;
 use aas_json_members::Exact;
 use aas_json_read::read_element;
-use aas_model::{Element, Extent};
-use aas_model_text::NoMemory;
+use aas_model::{Element, Extent, NoMemory};
 use aas_value::{has_value_form, value_form};
 use std::alloc::Global;
 
