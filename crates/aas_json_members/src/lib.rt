@@ -1,5 +1,7 @@
 //! What the readers and the writers of all objects share: members by their types, lists and parts of objects, and objects
 //! that are put together member by member.
+//!
+//! Which members a sort has stands with the sort, above.
 
 #![tactic(auto)]
 

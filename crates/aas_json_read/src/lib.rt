@@ -2,6 +2,8 @@
 //!
 //! Each reader answers the one whole tree that the JSON value spells by the attribute table, or the first fault. A list
 //! that is empty is read as if it were absent. Want of memory may be answered at any time.
+//!
+//! Parts are read by `aas_json_parts`. Whether what is read keeps the constraints is not asked here.
 
 #![tactic(auto)]
 

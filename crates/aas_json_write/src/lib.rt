@@ -3,6 +3,8 @@
 //! What is written is the canonical text of a document or an element: the compact JSON text (RFC 8259) of its spelling,
 //! with the members of each object in byte order of their names and without empty lists. Kept data, of which nothing is
 //! read, has to be in this order already: the names in each of its objects are distinct and rise in byte order.
+//!
+//! The value form stands in `aas_value`.
 
 #![tactic(auto)]
 

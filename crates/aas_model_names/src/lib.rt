@@ -1,4 +1,6 @@
 //! The enumerations of the Asset Administration Shell (IDTA-01001-3-0, IDTA-01002-3-0) and the names of their values.
+//!
+//! The types that are made of them stand in `aas_model`; which texts an enumeration may have is said nowhere else.
 
 #![tactic(auto)]
 

@@ -1,4 +1,6 @@
 //! The value form of elements and submodels (IDTA-01002-3-0, serialization ValueOnly).
+//!
+//! The normal form is written by `aas_json_write`.
 
 #![tactic(auto)]
 
