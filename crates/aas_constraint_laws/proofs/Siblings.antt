@@ -192,6 +192,20 @@ apart t a b (x ∷ ks) zero (suc j) k m free c at_i at_j same = absurd (not_late
 apart t a b (x ∷ ks) (suc i) zero k m free c at_i at_j same = absurd (not_later t a b x ks i m k free c at_j at_i (sym same))
 apart t a b (x ∷ ks) (suc i) (suc j) k m free c at_i at_j same = ap suc (apart t a (b ++ own_of x ∷ []) ks i j k m free (clean_cons t a b x ks c).1 at_i at_j same)
 
+-- no two have the same name, in lists too
+names_apart : (t : Bool) (a : Option Own) (b : List Own) (ks : List Element) (i j : ℕ) (k m : Element) (n : List ℕ) → AllClean t a b ks → slice_get ks i ≡ Some k → slice_get ks j ≡ Some m
+    → id_short_of k ≡ Some n → id_short_of m ≡ Some n → i ≡ j
+names_apart t a b [] i j k m n c at_i at_j first second = absurd (cc)
+names_apart t a b (x ∷ ks) zero zero k m n c at_i at_j first second = refl
+names_apart t a b (x ∷ ks) zero (suc j) k m n c at_i at_j first second =
+    let is : x ≡ k = cc in
+    absurd (not_again t a (b ++ own_of x ∷ []) ks j m n (clean_cons t a b x ks c).1 (now_among n b (own_of x) (ap id_short_of is ∙ first)) at_j second)
+names_apart t a b (x ∷ ks) (suc i) zero k m n c at_i at_j first second =
+    let is : x ≡ m = cc in
+    absurd (not_again t a (b ++ own_of x ∷ []) ks i k n (clean_cons t a b x ks c).1 (now_among n b (own_of x) (ap id_short_of is ∙ second)) at_i first)
+names_apart t a b (x ∷ ks) (suc i) (suc j) k m n c at_i at_j first second =
+    ap suc (names_apart t a (b ++ own_of x ∷ []) ks i j k m n (clean_cons t a b x ks c).1 at_i at_j first second)
+
 differ : (t : Bool) (a : Option Own) (ks : List Element) → stands_in_list a ≡ false → AllClean t a [] ks → Differ ks
 differ t a ks free c = record {
   named = λ i k there. named t a [] ks i k free c there;
@@ -215,6 +229,16 @@ same_lists p = refl
 
 all_clean : (d : Submodel) → HasNoFault (submodel d) → AllClean (is_template d.kind) None [] d.kids
 all_clean d none = record { faultless = no_second (document_faults submodel_rules (seen_of_submodel d).references d) (flat_map faults_at (sites_of d)) none }
+
+-- no two siblings have the same name
+pub own_names : (d : Submodel) (i j : ℕ) (k m : Element) (n : List ℕ) → HasNoFault (submodel d) → slice_get d.kids i ≡ Some k → slice_get d.kids j ≡ Some m
+    → id_short_of k ≡ Some n → id_short_of m ≡ Some n → i ≡ j
+own_names d i j k m n none at_i at_j first second = names_apart (is_template d.kind) None [] d.kids i j k m n (all_clean d none) at_i at_j first second
+
+pub own_names_below : (d : Submodel) (q : List ℕ) (e : Element) (i j : ℕ) (k m : Element) (n : List ℕ) → HasNoFault (submodel d) → element_in_all q d.kids ≡ Some e
+    → slice_get (kids_of e) i ≡ Some k → slice_get (kids_of e) j ≡ Some m → id_short_of k ≡ Some n → id_short_of m ≡ Some n → i ≡ j
+own_names_below d q e i j k m n none there at_i at_j first second =
+    names_apart (is_template d.kind) (Some (own_of e)) [] (kids_of e) i j k m n (clean_in_all (is_template d.kind) q d.kids e (all_clean d none) there) at_i at_j first second
 
 pub siblings_differ : (d : Submodel) → HasNoFault (submodel d) → SiblingsDiffer d
 siblings_differ d none =

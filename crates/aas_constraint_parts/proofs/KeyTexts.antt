@@ -1,24 +1,17 @@
 -- What is wanted of the keys of a reference and of those within it, level by level.
-use Rattle.std.proofs.Common.{◌≡◌, ◌&&◌, List, [], ◌∷◌, Bool, true, false, Option, Some, None, option_map, unwrap_or, refl, sym, ap, ◌∙◌}
+use Rattle.std.proofs.Common.{◌≡◌, ◌&&◌, [], ◌∷◌, Bool, true, false, Option, Some, None, option_map, unwrap_or, refl, ap, ◌∙◌}
 use Rattle.std.specs.List.{list_all}
-use Rattle.aas_model_names.specs.declared.reference_type.ReferenceType.{ReferenceType}
 use Rattle.aas_model.specs.declared.reference.Key.{Key}
 use Rattle.aas_model.specs.declared.reference.Reference.{Reference, out-Reference}
-use Rattle.aas_model.specs.declared.reference.Reference.TheFolds.{fold-roll-Reference}
-use Rattle.aas_reference.specs.Rules.{Level, levels_of}
+use Rattle.aas_reference.specs.Rules.{levels_of}
 use Rattle.aas_reference.specs.Faults.{level_of}
-use Rattle.aas_reference.proofs.Levels.{made, made_out}
+use Rattle.aas_reference.proofs.Faults.{levels_out}
 use Rattle.aas_constraint_rules.specs.Decided.{is_identifier, is_string}
 use Rattle.aas_constraint_rules.specs.Lexical.{reference_has_form}
 use Rattle.aas_constraint_rules.specs.Rules.{reference_is_string}
 
-levels_at : (t : ReferenceType) (ks : List Key) (o : Option Reference) → levels_of (made t ks o) ≡ record { ref_type = t; keys = ks } ∷ unwrap_or (option_map levels_of o) []
-levels_at t ks None = fold-roll-Reference (List Level) (λ x. record { ref_type = x.ref_type; keys = x.keys } ∷ unwrap_or x.referred []) (record { ref_type = t; keys = ks; referred = None })
-levels_at t ks (Some r) = fold-roll-Reference (List Level) (λ x. record { ref_type = x.ref_type; keys = x.keys } ∷ unwrap_or x.referred []) (record { ref_type = t; keys = ks; referred = Some r })
-
-levels_out : (r : Reference) (o : Option Reference) → (out-Reference r).referred ≡ o → levels_of r ≡ level_of r ∷ unwrap_or (option_map levels_of o) []
-levels_out r o e =
-    ap levels_of (sym (made_out r)) ∙ levels_at (out-Reference r).ref_type (out-Reference r).keys (out-Reference r).referred ∙ ap (λ x. level_of r ∷ unwrap_or (option_map levels_of x) []) e
+levels_with : (r : Reference) (o : Option Reference) → (out-Reference r).referred ≡ o → levels_of r ≡ level_of r ∷ unwrap_or (option_map levels_of o) []
+levels_with r o e = levels_out r ∙ ap (λ x. level_of r ∷ unwrap_or (option_map levels_of x) []) e
 
 and_true : (b : Bool) → (b && true) ≡ b
 and_true true = refl
@@ -28,10 +21,10 @@ abbrev each_key : (Key → Bool) → Reference → Bool
 each_key test r = list_all (λ x. list_all test x.keys) (levels_of r)
 
 outer : (test : Key → Bool) (r : Reference) → (out-Reference r).referred ≡ None → each_key test r ≡ list_all test (out-Reference r).keys
-outer test r e = ap (list_all (λ x. list_all test x.keys)) (levels_out r None e) ∙ and_true (list_all test (out-Reference r).keys)
+outer test r e = ap (list_all (λ x. list_all test x.keys)) (levels_with r None e) ∙ and_true (list_all test (out-Reference r).keys)
 
 inner : (test : Key → Bool) (r s : Reference) → (out-Reference r).referred ≡ Some s → each_key test r ≡ (list_all test (out-Reference r).keys && each_key test s)
-inner test r s e = ap (list_all (λ x. list_all test x.keys)) (levels_out r (Some s) e)
+inner test r s e = ap (list_all (λ x. list_all test x.keys)) (levels_with r (Some s) e)
 
 pub form_outer : (r : Reference) → (out-Reference r).referred ≡ None → reference_has_form r ≡ list_all (λ k. is_identifier k.value) (out-Reference r).keys
 form_outer r e = outer (λ k. is_identifier k.value) r e

@@ -3,12 +3,9 @@ use Rattle.std.proofs.Common.{◌≡◌, ℕ, ◌+◌, ◌<◌, ◌≤◌, List,
 use Rattle.std.proofs.lemmas.List.{nil_from_length}
 use Rattle.aas_model.specs.declared.reference.Reference.{Reference}
 use Rattle.aas_reference.specs.Faults.{least}
+use Rattle.aas_reference.proofs.Faults.{least_none}
 use Rattle.aas_constraint_parts.specs.References.{reference_fault, references_fault}
 use Rattle.aas_constraint_parts.proofs.Lists.{left}
-
-pub least_none : (a : Option ℕ) → least a None ≡ a
-least_none None = refl
-least_none (Some x) = refl
 
 pub least_assoc : (a b c : Option ℕ) → least (least a b) c ≡ least a (least b c)
 least_assoc None b c = refl

@@ -13,7 +13,7 @@ use aas_reference::least;
 impl HoldsReferences for Reference {
     ghost references = { λ r. r ∷ [] };
 
-    #[tactic(auto, using(crate::proofs::Least::least_none))]
+    #[tactic(auto, using(aas_reference::proofs::Faults::least_none))]
     fn references_fault(&self) -> Option<u16> {
         reference_fault(self)
     }

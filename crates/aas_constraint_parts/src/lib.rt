@@ -1,5 +1,7 @@
 //! What the constraints of IDTA-01001-3-0 want of the parts of documents and elements: of texts, references, languages,
 //! qualifiers, extensions and specific asset ids.
+//!
+//! What they want of documents, of elements and of their places stands in `aas_constraints`.
 
 #![tactic(auto)]
 

@@ -80,7 +80,7 @@ pub trait HoldsReferences {
 }
 
 /// The least number that the references of several things break.
-#[tactic(auto, using(crate::proofs::Least::least_none))]
+#[tactic(auto, using(aas_reference::proofs::Faults::least_none))]
 pub fn fault_among<T: HoldsReferences>(items: &[T]) -> Option<u16>
     ensures { result ≡ references_fault (flat_map T.references items.now) }
 {

@@ -3,6 +3,8 @@
 //!
 //! A constraint is a sentence about a place, given as a test, so that the faults of a tree are a list. The functions of
 //! `laws` do nothing: their contracts say that the tests of texts tell the forms of IDTA-01001-3-0 and XML Schema.
+//!
+//! No document is checked here: that is `aas_constraints`.
 
 #![tactic(auto)]
 

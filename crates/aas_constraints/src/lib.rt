@@ -1,4 +1,6 @@
 //! The constraints of IDTA-01001-3-0: the first fault of a document or an element.
+//!
+//! The rules themselves stand in `aas_constraint_rules`, the checks of parts in `aas_constraint_parts`.
 
 #![tactic(auto)]
 

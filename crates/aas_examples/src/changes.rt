@@ -1,21 +1,34 @@
 // Paths, and what is found and changed at them in a submodel, which is told by its value form.
-use crate::answer::{text, text_of};
-use crate::documents::{form, form_of_submodel};
+ghost use Rattle.std.specs.Prelude.{◌<◌, length};
+
+use crate::document::Document;
+use crate::forms::Valued;
+use crate::text::{done, text, text_of};
 use aas_command::Refusal;
-use aas_json_read::{read_element, read_submodel};
 use aas_model::{
-    Common, Element, Extent, Many, Missing, Patch, PatchRow, Path, Payload, Role, Semantics,
-    Submodel, Text, ValueType,
+    Common, Element, Extent, Many, Missing, NoMemory, Patch, PatchRow, Path, Payload, Role,
+    Semantics, Submodel, Text, ValueType,
 };
-use aas_model_text::NoMemory;
 use aas_path::{
     InsertFault, ReplaceFault, apply, apply_all, at, at_mut, insert, parse_path, patch_fits,
     patch_fits_all, print_path, remove, replace,
 };
 use std::alloc::Global;
 
-fn missing(alloc: Global, missing: &Missing) -> Result<String, Refusal> {
-    Ok(format!(in alloc; "missing after {}", missing.steps)?)
+/// What is done at a path.
+#[derive(Clone, Copy)]
+pub(crate) enum Work {
+    Find,
+    Insert,
+    Replace,
+    Remove,
+    Lend,
+}
+
+/// The path that the text writes, printed.
+pub(crate) fn parsed(alloc: Global, path: &str) -> Result<String, Refusal> {
+    let path = parse_path(alloc, path.as_bytes())?;
+    Ok(printed(alloc, &path)?)
 }
 
 fn printed(alloc: Global, path: &Path) -> Result<String, NoMemory> {
@@ -24,23 +37,94 @@ fn printed(alloc: Global, path: &Path) -> Result<String, NoMemory> {
     text_of(alloc, out)
 }
 
-/// The path that the text writes, printed.
-pub fn parsed(alloc: Global, path: &str) -> Result<String, Refusal> {
+/// What the work at the path gives: what is found, or what the submodel is afterwards.
+pub(crate) fn worked(alloc: Global, work: Work, path: &str, json: &str) -> Result<String, Refusal> {
     let path = parse_path(alloc, path.as_bytes())?;
-    Ok(printed(alloc, &path)?)
+    worked_at(alloc, work, &path, json)
 }
 
-fn found(alloc: Global, submodel: &Submodel, path: &Path) -> Result<String, Refusal> {
-    if path.steps.is_empty() {
-        return Ok(text(alloc, "empty path")?);
+fn worked_at(alloc: Global, work: Work, path: &Path, json: &str) -> Result<String, Refusal> {
+    let mut submodel = Submodel::read(alloc, json)?;
+    worked_in(alloc, work, &mut submodel, path)
+}
+
+fn worked_in(
+    alloc: Global,
+    work: Work,
+    submodel: &mut Submodel,
+    path: &Path,
+) -> Result<String, Refusal> {
+    match work {
+        Work::Insert => inserted(alloc, submodel, path),
+        _ if path.steps.is_empty() => Ok(text(alloc, "empty path")?),
+        Work::Find => found(alloc, submodel, path),
+        Work::Replace => replaced(alloc, submodel, path),
+        Work::Remove => removed(alloc, submodel, path),
+        Work::Lend => lent(alloc, submodel, path),
     }
+}
+
+fn missing(alloc: Global, missing: &Missing) -> Result<String, Refusal> {
+    Ok(format!(in alloc; "missing after {}", missing.steps)?)
+}
+
+fn changed(alloc: Global, submodel: &Submodel) -> Result<String, Refusal> {
+    submodel.form(alloc, Extent::WithBlobValue)
+}
+
+fn found(alloc: Global, submodel: &Submodel, path: &Path) -> Result<String, Refusal>
+    requires { 0 < length path.now.steps }
+{
     match at(submodel, path) {
-        Ok(element) => form(alloc, element, Extent::WithBlobValue),
+        Ok(element) => element.form(alloc, Extent::WithBlobValue),
         Err(lack) => missing(alloc, &lack),
     }
 }
 
-fn payload(alloc: Global) -> Result<Payload, NoMemory> {
+fn inserted(alloc: Global, submodel: &mut Submodel, path: &Path) -> Result<String, Refusal> {
+    match insert(submodel, path, new_element(alloc)?) {
+        Ok(()) => changed(alloc, submodel),
+        Err(InsertFault::Missing(lack)) => missing(alloc, &lack),
+        Err(InsertFault::NotAContainer) => Err(Refusal::NotAContainer),
+        Err(InsertFault::NoMemory) => Err(Refusal::NoMemory),
+    }
+}
+
+fn replaced(alloc: Global, submodel: &mut Submodel, path: &Path) -> Result<String, Refusal>
+    requires { 0 < length path.now.steps }
+{
+    match done(replace(submodel, path, new_element(alloc)?)) {
+        Ok(()) => changed(alloc, submodel),
+        Err(ReplaceFault::Missing(lack)) => missing(alloc, &lack),
+        Err(ReplaceFault::NotAContainer) => Err(Refusal::NotAContainer),
+    }
+}
+
+fn removed(alloc: Global, submodel: &mut Submodel, path: &Path) -> Result<String, Refusal>
+    requires { 0 < length path.now.steps }
+{
+    match done(remove(submodel, path)) {
+        Ok(()) => changed(alloc, submodel),
+        Err(lack) => missing(alloc, &lack),
+    }
+}
+
+fn lent(alloc: Global, submodel: &mut Submodel, path: &Path) -> Result<String, Refusal>
+    requires { 0 < length path.now.steps }
+{
+    match at_mut(submodel, path) {
+        Ok(element) => put(&mut element.payload, new_payload(alloc)?),
+        Err(lack) => return missing(alloc, &lack),
+    }
+    changed(alloc, submodel)
+}
+
+// Generic, so that no proof looks into what is let go.
+fn put<T: Drop>(place: &mut T, value: T) {
+    *place = value;
+}
+
+fn new_payload(alloc: Global) -> Result<Payload, NoMemory> {
     Ok(Payload::Property {
         value_type: ValueType::String,
         value: Some(Text::from_str(alloc, "new")?),
@@ -69,102 +153,55 @@ fn new_element(alloc: Global) -> Result<Element, NoMemory> {
     };
     Ok(Element {
         common,
-        payload: payload(alloc)?,
+        payload: new_payload(alloc)?,
         role: Role::Member,
         kids: Many::new(alloc),
     })
 }
 
-fn inserted(alloc: Global, submodel: &mut Submodel, path: &Path) -> Result<String, Refusal> {
-    match insert(submodel, path, new_element(alloc)?) {
-        Ok(()) => form_of_submodel(alloc, submodel),
-        Err(InsertFault::Missing(lack)) => missing(alloc, &lack),
-        Err(InsertFault::NotAContainer) => Err(Refusal::NotAContainer),
-        Err(InsertFault::NoMemory) => Err(Refusal::NoMemory),
+/// What a patch is laid into: a submodel, whose first element has rank 0, or an element, which has rank 0 itself.
+pub(crate) trait Patchable: Valued {
+    /// Lays the patch where it fits, and tells whether it does.
+    fn patch(&mut self, patch: Patch) -> bool;
+}
+
+impl Patchable for Submodel {
+    fn patch(&mut self, patch: Patch) -> bool {
+        let fits = patch_fits_all(self, &patch);
+        if fits {
+            apply_all(self, patch);
+        }
+        fits
     }
 }
 
-fn replaced(alloc: Global, submodel: &mut Submodel, path: &Path) -> Result<String, Refusal> {
-    if path.steps.is_empty() {
-        return Ok(text(alloc, "empty path")?);
-    }
-    match replace(submodel, path, new_element(alloc)?) {
-        Ok(_) => form_of_submodel(alloc, submodel),
-        Err(ReplaceFault::Missing(lack)) => missing(alloc, &lack),
-        Err(ReplaceFault::NotAContainer) => Err(Refusal::NotAContainer),
-    }
-}
-
-fn removed(alloc: Global, submodel: &mut Submodel, path: &Path) -> Result<String, Refusal> {
-    if path.steps.is_empty() {
-        return Ok(text(alloc, "empty path")?);
-    }
-    match remove(submodel, path) {
-        Ok(_) => form_of_submodel(alloc, submodel),
-        Err(lack) => missing(alloc, &lack),
+impl Patchable for Element {
+    fn patch(&mut self, patch: Patch) -> bool {
+        let fits = patch_fits(self, &patch);
+        if fits {
+            apply(self, patch);
+        }
+        fits
     }
 }
 
-fn lent(alloc: Global, submodel: &mut Submodel, path: &Path) -> Result<String, Refusal> {
-    if path.steps.is_empty() {
-        return Ok(text(alloc, "empty path")?);
-    }
-    let new = payload(alloc)?;
-    match at_mut(submodel, path) {
-        Ok(element) => element.payload = new,
-        Err(lack) => return missing(alloc, &lack),
-    }
-    form_of_submodel(alloc, submodel)
-}
-
-/// What is done at a path.
-#[derive(Clone, Copy)]
-pub enum Work {
-    Find,
-    Insert,
-    Replace,
-    Remove,
-    Lend,
-}
-
-/// What the work at the path gives: what is found, or what the submodel is afterwards.
-pub fn worked(alloc: Global, work: Work, path: &str, json: &str) -> Result<String, Refusal> {
-    let path = parse_path(alloc, path.as_bytes())?;
-    let mut submodel = read_submodel(alloc, json.as_bytes())?;
-    match work {
-        Work::Find => found(alloc, &submodel, &path),
-        Work::Insert => inserted(alloc, &mut submodel, &path),
-        Work::Replace => replaced(alloc, &mut submodel, &path),
-        Work::Remove => removed(alloc, &mut submodel, &path),
-        Work::Lend => lent(alloc, &mut submodel, &path),
+/// The value form with a new payload for the element of a rank.
+pub(crate) fn patched<D: Patchable>(
+    alloc: Global,
+    rank: u64,
+    json: &str,
+) -> Result<String, Refusal> {
+    let mut document = D::read(alloc, json)?;
+    if document.patch(patch_at(alloc, rank)?) {
+        document.form(alloc, Extent::WithBlobValue)
+    } else {
+        Ok(text(alloc, "no such patch")?)
     }
 }
 
-fn patch(alloc: Global, rank: u64) -> Result<Patch, NoMemory> {
+fn patch_at(alloc: Global, rank: u64) -> Result<Patch, NoMemory> {
+    let payload = new_payload(alloc)?;
     let mut rows = Many::new(alloc);
-    let payload = payload(alloc)?;
     rows.push(PatchRow { rank, payload })?;
     Ok(Patch { rows })
-}
-
-/// The submodel with a new payload for the element of a rank, the first element having rank 0.
-pub fn patched(alloc: Global, rank: u64, json: &str) -> Result<String, Refusal> {
-    let mut submodel = read_submodel(alloc, json.as_bytes())?;
-    let patch = patch(alloc, rank)?;
-    if !patch_fits_all(&submodel, &patch) {
-        return Ok(text(alloc, "no such patch")?);
-    }
-    apply_all(&mut submodel, patch);
-    form_of_submodel(alloc, &submodel)
-}
-
-/// The element with a new payload for the element of a rank below it, itself having rank 0.
-pub fn patched_below(alloc: Global, rank: u64, json: &str) -> Result<String, Refusal> {
-    let mut element = read_element(alloc, json.as_bytes(), 1)?;
-    let patch = patch(alloc, rank)?;
-    if !patch_fits(&element, &patch) {
-        return Ok(text(alloc, "no such patch")?);
-    }
-    apply(&mut element, patch);
-    form(alloc, &element, Extent::WithBlobValue)
 }

@@ -1,34 +1,45 @@
 // What refuses a document or element that is read: its first fault. `valid` where it has none.
-use crate::answer::text;
+use crate::document::Document;
+use crate::text::text;
 use aas_command::Refusal;
 use aas_constraints::{check_concept, check_element, check_shell, check_submodel};
-use aas_json_read::{read_concept, read_element, read_shell, read_submodel};
-use aas_model::Fault;
+use aas_model::{Concept, Element, Fault, NoMemory, Shell, Submodel};
 use std::alloc::Global;
 
-fn told(alloc: Global, fault: Option<Fault>) -> Result<String, Refusal> {
-    match fault {
-        Some(fault) => Err(Refusal::from(fault)),
-        None => Ok(text(alloc, "valid")?),
+/// A document or element that the constraints are about.
+pub(crate) trait Checked: Document {
+    /// Its first fault.
+    fn check(&self, alloc: Global) -> Result<Option<Fault>, NoMemory>;
+}
+
+impl Checked for Shell {
+    fn check(&self, alloc: Global) -> Result<Option<Fault>, NoMemory> {
+        check_shell(alloc, self)
     }
 }
 
-pub fn element_fault(alloc: Global, json: &str) -> Result<String, Refusal> {
-    let element = read_element(alloc, json.as_bytes(), 1)?;
-    told(alloc, check_element(alloc, &element)?)
+impl Checked for Submodel {
+    fn check(&self, alloc: Global) -> Result<Option<Fault>, NoMemory> {
+        check_submodel(alloc, self)
+    }
 }
 
-pub fn submodel_fault(alloc: Global, json: &str) -> Result<String, Refusal> {
-    let submodel = read_submodel(alloc, json.as_bytes())?;
-    told(alloc, check_submodel(alloc, &submodel)?)
+impl Checked for Concept {
+    fn check(&self, alloc: Global) -> Result<Option<Fault>, NoMemory> {
+        check_concept(alloc, self)
+    }
 }
 
-pub fn shell_fault(alloc: Global, json: &str) -> Result<String, Refusal> {
-    let shell = read_shell(alloc, json.as_bytes())?;
-    told(alloc, check_shell(alloc, &shell)?)
+impl Checked for Element {
+    fn check(&self, alloc: Global) -> Result<Option<Fault>, NoMemory> {
+        check_element(alloc, self)
+    }
 }
 
-pub fn concept_fault(alloc: Global, json: &str) -> Result<String, Refusal> {
-    let concept = read_concept(alloc, json.as_bytes())?;
-    told(alloc, check_concept(alloc, &concept)?)
+pub(crate) fn fault_of<D: Checked>(alloc: Global, json: &str) -> Result<String, Refusal> {
+    let document = D::read(alloc, json)?;
+    match document.check(alloc)? {
+        Some(fault) => Err(Refusal::from(fault)),
+        None => Ok(text(alloc, "valid")?),
+    }
 }

@@ -5,13 +5,16 @@
 
 mod answer;
 mod changes;
-mod documents;
+mod document;
 mod faults;
+mod forms;
+mod parts;
+mod text;
 
 ghost use Rattle.std.specs.Prelude.{◌≡◌, MatchOption, string_bytes};
 
 use crate::answer::answer;
-use aas_model_text::NoMemory;
+use aas_model::NoMemory;
 use std::alloc::Global;
 use std::io::{self, BufRead, BufReader};
 

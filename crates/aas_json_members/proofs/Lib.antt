@@ -1,10 +1,7 @@
 pub mod Built
-pub mod FaultLemmas
 pub mod Floats
 pub mod Lists
 pub mod Lookup
 pub mod Objects
-pub mod Order
-pub mod OrderedObjects
 pub mod Pairs
 pub mod Words

@@ -3,6 +3,4 @@ pub mod Building
 pub mod Exact
 pub mod Kept
 pub mod Object
-pub mod Ordered
-pub mod Said
 pub mod Writes

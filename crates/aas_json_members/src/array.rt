@@ -3,7 +3,7 @@ ghost use Rattle.serde_json.specs.View.{items_view};
 ghost use Rattle.serde_json.specs.Written.{items_have_float};
 
 use crate::exact::Exact;
-use aas_model_text::NoMemory;
+use aas_model::NoMemory;
 use serde_json::Value;
 use std::alloc::Global;
 
@@ -15,8 +15,9 @@ pub struct Array {
 }
 
 impl Array {
-    ghost use Rattle.std.specs.Prelude.{[], ◌∷◌, ◌++◌, OnOk, OnErr, option_map};
-    ghost use Rattle.serde_json.specs.Data.{array, no_items};
+    ghost use Rattle.std.specs.Prelude.{[], ◌∷◌, ◌++◌, List, OnOk, OnErr, option_map};
+    ghost use Rattle.std.specs.List.{cons_option};
+    ghost use Rattle.serde_json.specs.Data.{Data, array, no_items};
     ghost use Rattle.aas_json_table.specs.Canonical.{listed};
     ghost use Rattle.aas_json_table.specs.Spelled.{onto};
     ghost use Rattle.aas_json_members.specs.Array.{items_of};
@@ -40,6 +41,18 @@ impl Array {
         match self.values.push(value.into_value()) {
             Ok(()) => Ok(()),
             Err(_) => Err(NoMemory),
+        }
+    }
+
+    /// Adds a value at the end, if there is one. So whatever follows what there was follows the value.
+    #[tactic(auto, using(aas_lemmas::proofs::Lists::append_one))]
+    pub fn push_some(&mut self, value: Option<Exact>) -> Result<(), NoMemory>
+        ensures ok { OnOk result ((rest : List Data) → items_of self.new ++ rest ≡ items_of self.old ++ cons_option (option_map data_of value) rest) }
+        ensures err { OnErr result (items_of self.new ≡ items_of self.old) }
+    {
+        match value {
+            Some(value) => self.push(value),
+            None => Ok(()),
         }
     }
 

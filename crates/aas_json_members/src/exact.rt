@@ -2,7 +2,7 @@ ghost use Rattle.std.specs.Prelude.{◌≡◌, false};
 ghost use Rattle.serde_json.specs.View.{view};
 ghost use Rattle.serde_json.specs.Written.{has_float};
 
-use aas_model_text::NoMemory;
+use aas_model::NoMemory;
 use serde_json::Value;
 use std::alloc::Global;
 

@@ -1,5 +1,7 @@
 //! What the readers and the writers of all objects share: members by their types, lists and parts of objects, and objects
 //! that are put together member by member.
+//!
+//! Which members a sort has stands with the sort, above.
 
 #![tactic(auto)]
 
@@ -9,21 +11,14 @@ mod kept;
 mod members;
 mod object;
 mod parts;
-mod plains;
-mod read;
 mod values;
 mod written;
 
 pub use array::Array;
 pub use exact::Exact;
 pub use kept::kept_member;
-pub use members::{flag_member, member, string_member, text_member, word_member};
+pub use members::{member, string_member, text_member, word_member};
 pub use object::Object;
 pub use parts::{Part, list_member, one_member};
-pub use plains::kept_value;
-pub use read::{check_form, read_bytes, read_part, read_value};
 pub use values::{flag_value, optional_word, string_value, text_value, word_value};
-pub use written::{Flags, Texts, Written, list_value, optional_value};
-
-#[cfg(test)]
-mod tests;
+pub use written::{Texts, Written, list_value, optional_value};

@@ -1,13 +1,13 @@
 ghost use Rattle.std.specs.Prelude.{◌≡◌, ◌≤◌, IfOk, IfSome, option_map, option_and_then};
-ghost use Rattle.serde_json.specs.Data.{boolean, string, depth, members_depth};
+ghost use Rattle.serde_json.specs.Data.{string, depth, members_depth};
 ghost use Rattle.serde_json.specs.View.{view, members_view};
 ghost use Rattle.aas_model_names.specs.Names.{names_of};
-ghost use Rattle.aas_json_table.specs.Table.{MemberType, text, flag, word};
+ghost use Rattle.aas_json_table.specs.Table.{MemberType, text, word};
 ghost use Rattle.aas_json_table.specs.Canonical.{canonical, canonical_member};
 ghost use Rattle.aas_json_table.specs.Spelled.{text_of};
 
+use aas_model::{NoMemory, Text};
 use aas_model_names::Named;
-use aas_model_text::{NoMemory, Text};
 use serde_json::{Map, Value};
 use std::alloc::Global;
 
@@ -42,16 +42,6 @@ pub fn string_member(
     match text_member(members, name) {
         Some(text) => Ok(Some(Text::from_str(alloc, text)?)),
         None => Ok(None),
-    }
-}
-
-/// The truth value under a name, or `None` where the object has none there.
-pub fn flag_member(members: &Map<String, Value>, name: &str) -> Option<bool>
-    ensures { option_map boolean result ≡ canonical_member (members_view members.now.entries) name.now flag }
-{
-    match member(members, name) {
-        Some(Value::Bool(flag)) => Some(*flag),
-        _ => None,
     }
 }
 

@@ -3,7 +3,7 @@ ghost use Rattle.serde_json.specs.View.{members_view};
 ghost use Rattle.serde_json.specs.Written.{members_have_float};
 
 use crate::exact::Exact;
-use aas_model_text::NoMemory;
+use aas_model::NoMemory;
 use serde_json::{Map, Value};
 use std::alloc::Global;
 

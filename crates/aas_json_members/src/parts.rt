@@ -6,7 +6,7 @@ ghost use Rattle.aas_json_table.specs.Canonical.{canonical, canonical_items, can
 ghost use Rattle.aas_json_table.specs.Spelled.{onto, list_of};
 
 use crate::members::member;
-use aas_model_text::{Many, NoMemory};
+use aas_model::{Many, NoMemory};
 use serde_json::{Map, Value};
 use std::alloc::Global;
 

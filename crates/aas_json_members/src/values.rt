@@ -4,8 +4,8 @@ ghost use Rattle.aas_json_table.specs.Spelled.{text_of};
 ghost use Rattle.aas_json_members.specs.Exact.{data_of};
 
 use crate::exact::Exact;
+use aas_model::{NoMemory, Text};
 use aas_model_names::Named;
-use aas_model_text::{NoMemory, Text};
 use serde_json::Value;
 use std::alloc::Global;
 

@@ -1,13 +1,13 @@
 ghost use Rattle.std.specs.Prelude.{◌≡◌, map, IfOk, option_map};
-ghost use Rattle.serde_json.specs.Data.{Data, boolean};
+ghost use Rattle.serde_json.specs.Data.{Data};
 ghost use Rattle.aas_json_table.specs.Spelled.{list_of, text_of};
 ghost use Rattle.aas_json_members.specs.Array.{items_of};
 ghost use Rattle.aas_json_members.specs.Exact.{data_of};
 
 use crate::array::Array;
 use crate::exact::Exact;
-use crate::values::{flag_value, text_value};
-use aas_model_text::{NoMemory, Text};
+use crate::values::text_value;
+use aas_model::{NoMemory, Text};
 use std::alloc::Global;
 
 /// A sort of things that are each written as one JSON value.
@@ -32,19 +32,6 @@ impl Written for Texts {
 
     fn value(alloc: Global, text: &Text) -> Result<Exact, NoMemory> {
         text_value(alloc, text)
-    }
-}
-
-/// Truth values.
-pub struct Flags;
-
-impl Written for Flags {
-    type Tree = bool;
-
-    ghost spell = { boolean };
-
-    fn value(_alloc: Global, flag: &bool) -> Result<Exact, NoMemory> {
-        Ok(flag_value(*flag))
     }
 }
 

@@ -18,7 +18,7 @@ use Rattle.aas_reference.proofs.Whole.{said_whole}
 use Rattle.aas_json_mapping.specs.Parts.{spell_specific_asset_id, specific_asset_id_attributes}
 use Rattle.aas_json_mapping.specs.Trees.{specific_asset_ids}
 use Rattle.aas_json_mapping.specs.Whole.{whole_specific_asset_id}
-use Rattle.aas_json_members.specs.Said.{said}
+use Rattle.aas_json_input.specs.Said.{said}
 use Rattle.aas_model.specs.declared.parts.SpecificAssetId.{SpecificAssetId}
 use Rattle.aas_model.specs.declared.reference.Reference.{Reference}
 use Rattle.aas_model.specs.declared.read_fault.ReadFault.{ReadFault}

@@ -1,19 +1,13 @@
 -- What is found among the members of an object, by a function from a name and a form to what the member says.
 use Rattle.std.specs.Prelude.{◌≡◌, ℕ, List, codes, Option, Some, option_map}
 use Rattle.serde_json.specs.Data.{Data}
-use Rattle.aas_json_table.specs.Table.{MemberType, text, kept, one, many, reference, lang_text, extension, qualifier, administration}
+use Rattle.aas_json_table.specs.Table.{MemberType, text, kept, one, many, lang_text, extension, qualifier, administration}
 use Rattle.aas_json_table.specs.Spelled.{text_of, list_of}
 use Rattle.aas_json_spelling.specs.Kept.{spell_plain}
-use Rattle.aas_reference.specs.Spelling.{spell_reference}
 use Rattle.aas_json_mapping.specs.Parts.{spell_lang_text, spell_extension, spell_qualifier, spell_administration}
-use Rattle.aas_model.specs.declared.reference.Semantics.{Semantics}
+use Rattle.aas_json_parts.specs.Semantics.{FindsSemantics}
 use Rattle.aas_model.specs.declared.common.Common.{Common}
 use Rattle.aas_model.specs.declared.common.Head.{Head}
-
--- the attributes of HasSemantics
-pub record FindsSemantics (find : List ℕ → MemberType → Option Data) (s : Semantics) : Type 0 where
-  pub semantic_id : option_map spell_reference s.semantic_id ≡ find (codes "semanticId") (one reference)
-  pub supplemental : list_of spell_reference s.supplemental_semantic_ids ≡ find (codes "supplementalSemanticIds") (many reference)
 
 -- the attributes of every SubmodelElement
 pub record FindsCommon (find : List ℕ → MemberType → Option Data) (c : Common) : Type 0 where

@@ -4,9 +4,9 @@ ghost use Rattle.aas_json_table.specs.Canonical.{canonical_member};
 ghost use Rattle.aas_json_table.specs.Table.{text};
 ghost use Rattle.aas_json_read.specs.Found.{FindsCommon, FindsHead};
 
-use crate::semantics::semantics_in;
-use crate::sorts::{Administrations, Extensions, LangTexts, Qualifiers};
 use aas_json_members::{kept_member, list_member, one_member, string_member};
+use aas_json_parts::{Administrations, Extensions, LangTexts, Qualifiers, semantics_in};
+use aas_json_table::name;
 use aas_model::{Common, Head, NoMemory};
 use serde_json::{Map, Value};
 use std::alloc::Global;
@@ -16,14 +16,18 @@ pub(crate) fn common_in(alloc: Global, members: &Map<String, Value>) -> Result<C
     ensures { IfOk result (λ found. FindsCommon (canonical_member (members_view members.now.entries)) found) }
 {
     Ok(Common {
-        id_short: string_member(alloc, members, "idShort")?,
-        category: string_member(alloc, members, "category")?,
-        description: list_member::<LangTexts>(alloc, members, "description")?,
-        display_name: list_member::<LangTexts>(alloc, members, "displayName")?,
-        extensions: list_member::<Extensions>(alloc, members, "extensions")?,
-        embedded_data_specifications: kept_member(alloc, members, "embeddedDataSpecifications")?,
+        id_short: string_member(alloc, members, name::ID_SHORT)?,
+        category: string_member(alloc, members, name::CATEGORY)?,
+        description: list_member::<LangTexts>(alloc, members, name::DESCRIPTION)?,
+        display_name: list_member::<LangTexts>(alloc, members, name::DISPLAY_NAME)?,
+        extensions: list_member::<Extensions>(alloc, members, name::EXTENSIONS)?,
+        embedded_data_specifications: kept_member(
+            alloc,
+            members,
+            name::EMBEDDED_DATA_SPECIFICATIONS,
+        )?,
         semantics: semantics_in(alloc, members)?,
-        qualifiers: list_member::<Qualifiers>(alloc, members, "qualifiers")?,
+        qualifiers: list_member::<Qualifiers>(alloc, members, name::QUALIFIERS)?,
     })
 }
 
@@ -31,17 +35,21 @@ pub(crate) fn common_in(alloc: Global, members: &Map<String, Value>) -> Result<C
 pub(crate) fn head_in(alloc: Global, members: &Map<String, Value>) -> Result<Option<Head>, NoMemory>
     ensures { IfOk result (λ found. MatchOption found (canonical_member (members_view members.now.entries) (codes "id") text ≡ None) (FindsHead (canonical_member (members_view members.now.entries)))) }
 {
-    let Some(id) = string_member(alloc, members, "id")? else {
+    let Some(id) = string_member(alloc, members, name::ID)? else {
         return Ok(None);
     };
     Ok(Some(Head {
         id,
-        administration: one_member::<Administrations>(alloc, members, "administration")?,
-        id_short: string_member(alloc, members, "idShort")?,
-        category: string_member(alloc, members, "category")?,
-        description: list_member::<LangTexts>(alloc, members, "description")?,
-        display_name: list_member::<LangTexts>(alloc, members, "displayName")?,
-        extensions: list_member::<Extensions>(alloc, members, "extensions")?,
-        embedded_data_specifications: kept_member(alloc, members, "embeddedDataSpecifications")?,
+        administration: one_member::<Administrations>(alloc, members, name::ADMINISTRATION)?,
+        id_short: string_member(alloc, members, name::ID_SHORT)?,
+        category: string_member(alloc, members, name::CATEGORY)?,
+        description: list_member::<LangTexts>(alloc, members, name::DESCRIPTION)?,
+        display_name: list_member::<LangTexts>(alloc, members, name::DISPLAY_NAME)?,
+        extensions: list_member::<Extensions>(alloc, members, name::EXTENSIONS)?,
+        embedded_data_specifications: kept_member(
+            alloc,
+            members,
+            name::EMBEDDED_DATA_SPECIFICATIONS,
+        )?,
     }))
 }

@@ -12,9 +12,10 @@ ghost use Rattle.aas_json_mapping.specs.Shape.{IsShapedSubmodel, IsShapedEnviron
 use crate::common::head_in;
 use crate::elements::members_in;
 use crate::found::add_found;
-use crate::semantics::semantics_in;
-use crate::sorts::{AssetInformations, Concepts, Qualifiers, Shells};
+use crate::sorts::{Concepts, Shells};
 use aas_json_members::{Part, list_member, member, one_member, text_member, word_member};
+use aas_json_parts::{AssetInformations, Qualifiers, semantics_in};
+use aas_json_table::name;
 use aas_model::{Concept, Environment, Many, NoMemory, Shell, Submodel};
 use aas_reference::References;
 use serde_json::{Map, Value};
@@ -44,14 +45,15 @@ fn shell_in(alloc: Global, members: &Map<String, Value>) -> Result<Option<Shell>
     let Some(head) = head_in(alloc, members)? else {
         return Ok(None);
     };
-    let Some(asset) = one_member::<AssetInformations>(alloc, members, "assetInformation")? else {
+    let Some(asset) = one_member::<AssetInformations>(alloc, members, name::ASSET_INFORMATION)?
+    else {
         return Ok(None);
     };
     Ok(Some(Shell {
         head,
-        derived_from: one_member::<References>(alloc, members, "derivedFrom")?,
+        derived_from: one_member::<References>(alloc, members, name::DERIVED_FROM)?,
         asset,
-        submodels: list_member::<References>(alloc, members, "submodels")?,
+        submodels: list_member::<References>(alloc, members, name::SUBMODELS)?,
     }))
 }
 
@@ -79,7 +81,7 @@ fn concept_in(alloc: Global, members: &Map<String, Value>) -> Result<Option<Conc
     let Some(head) = head_in(alloc, members)? else {
         return Ok(None);
     };
-    let is_case_of = list_member::<References>(alloc, members, "isCaseOf")?;
+    let is_case_of = list_member::<References>(alloc, members, name::IS_CASE_OF)?;
     Ok(Some(Concept { head, is_case_of }))
 }
 
@@ -106,10 +108,10 @@ fn submodel_in(alloc: Global, members: &Map<String, Value>) -> Result<Option<Sub
     };
     Ok(Some(Submodel {
         head,
-        kind: word_member(members, "kind"),
+        kind: word_member(members, name::KIND),
         semantics: semantics_in(alloc, members)?,
-        qualifiers: list_member::<Qualifiers>(alloc, members, "qualifiers")?,
-        kids: members_in(alloc, members, "submodelElements")?,
+        qualifiers: list_member::<Qualifiers>(alloc, members, name::QUALIFIERS)?,
+        kids: members_in(alloc, members, name::SUBMODEL_ELEMENTS)?,
     }))
 }
 
@@ -130,9 +132,9 @@ fn environment_in(alloc: Global, members: &Map<String, Value>) -> Result<Environ
     ensures shape { IfOk result (λ found. IsShapedEnvironment found) }
 {
     Ok(Environment {
-        shells: list_member::<Shells>(alloc, members, "assetAdministrationShells")?,
-        submodels: submodels_member(alloc, members, "submodels")?,
-        concepts: list_member::<Concepts>(alloc, members, "conceptDescriptions")?,
+        shells: list_member::<Shells>(alloc, members, name::ASSET_ADMINISTRATION_SHELLS)?,
+        submodels: submodels_member(alloc, members, name::SUBMODELS)?,
+        concepts: list_member::<Concepts>(alloc, members, name::CONCEPT_DESCRIPTIONS)?,
     })
 }
 
@@ -164,7 +166,7 @@ fn submodels_in(alloc: Global, items: &Vec<Value>) -> Result<Many<Submodel>, NoM
 fn has_model_type(members: &Map<String, Value>, name: &str) -> bool
     ensures { IsTrue result ↔ (canonical_member (members_view members.now.entries) (codes "modelType") text ≡ Some (string name.now)) }
 {
-    match text_member(members, "modelType") {
+    match text_member(members, name::MODEL_TYPE) {
         Some(text) => text == name,
         None => false,
     }

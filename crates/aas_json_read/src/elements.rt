@@ -16,6 +16,7 @@ use crate::common::common_in;
 use crate::found::add_found;
 use crate::payload::payload_in;
 use aas_json_members::{member, word_member};
+use aas_json_table::name;
 use aas_model::{Element, Kind, Many, NoMemory, Role};
 use serde_json::{Map, Value};
 use std::alloc::Global;
@@ -78,12 +79,18 @@ fn kids_in(
     let none = Many::new(alloc);
     match kind {
         Kind::AnnotatedRelationshipElement => {
-            Ok(children_after(alloc, none, members, "annotations", Role::Annotation)?)
+            Ok(children_after(alloc, none, members, name::ANNOTATIONS, Role::Annotation)?)
         }
-        Kind::Entity => Ok(children_after(alloc, none, members, "statements", Role::Statement)?),
+        Kind::Entity => Ok(children_after(
+            alloc,
+            none,
+            members,
+            name::STATEMENTS,
+            Role::Statement,
+        )?),
         Kind::Operation => Ok(variables_in(alloc, members)?),
         Kind::SubmodelElementCollection | Kind::SubmodelElementList => {
-            Ok(children_after(alloc, none, members, "value", Role::Member)?)
+            Ok(children_after(alloc, none, members, name::VALUE, Role::Member)?)
         }
         Kind::Property
         | Kind::MultiLanguageProperty
@@ -107,11 +114,17 @@ fn variables_in(alloc: Global, members: &Map<String, Value>) -> Result<Many<Elem
         alloc,
         Many::new(alloc),
         members,
-        "inputVariables",
+        name::INPUT_VARIABLES,
         Role::Input,
     )?;
-    let output = children_after(alloc, input, members, "outputVariables", Role::Output)?;
-    let all = children_after(alloc, output, members, "inoutputVariables", Role::Inoutput)?;
+    let output = children_after(alloc, input, members, name::OUTPUT_VARIABLES, Role::Output)?;
+    let all = children_after(
+        alloc,
+        output,
+        members,
+        name::INOUTPUT_VARIABLES,
+        Role::Inoutput,
+    )?;
     Ok(all)
 }
 
@@ -174,7 +187,7 @@ fn variable_in(
     ensures says { IfOk result (λ found. option_map (λ e. spell_variable (spelled_child e)) found ≡ canonical_object (Some (sorted (parts operation_variable))) (canonical_member (members_view members.now.entries))) }
     ensures place { IfOk result (λ found. IfSome found (λ e. suits role (seen e) ≡ true)) }
 {
-    match member(members, "value") {
+    match member(members, name::VALUE) {
         Some(value) => Ok(element_of(alloc, value, role)?),
         None => Ok(None),
     }
@@ -199,7 +212,7 @@ fn kind_in(members: &Map<String, Value>, role: Role) -> Option<Kind>
     ensures name { IfSome result (λ k. Some (string (name_of k)) ≡ canonical_member (members_view members.now.entries) (codes "modelType") text) }
     ensures may_have { IfSome result (λ k. may_have k role ≡ true) }
 {
-    match word_member(members, "modelType") {
+    match word_member(members, name::MODEL_TYPE) {
         Some(kind) => {
             if may_have(kind, role) {
                 Some(kind)

@@ -2,6 +2,8 @@
 //!
 //! Each reader answers the one whole tree that the JSON value spells by the attribute table, or the first fault. A list
 //! that is empty is read as if it were absent. Want of memory may be answered at any time.
+//!
+//! Parts are read by `aas_json_parts`. Whether what is read keeps the constraints is not asked here.
 
 #![tactic(auto)]
 
@@ -9,10 +11,8 @@ mod common;
 mod documents;
 mod elements;
 mod found;
-mod parts;
 mod payload;
 mod read;
-mod semantics;
 mod sorts;
 
 ghost use Rattle.std.specs.Prelude.{◌-◌};
@@ -22,10 +22,9 @@ ghost use Rattle.aas_json_spelling.specs.Reads.{Reads, ReadsEach, ReadsBytes, Re
 ghost use Rattle.aas_json_mapping.specs.Trees.{asset_informations, concepts, elements, environments, shells, specific_asset_ids, submodels};
 
 use crate::read::read_shaped;
-use crate::sorts::{
-    AssetInformations, Concepts, Elements, Environments, Shells, SpecificAssetIds, Submodels,
-};
-use aas_json_members::{read_bytes, read_part};
+use crate::sorts::{Concepts, Elements, Environments, Shells, Submodels};
+use aas_json_input::{read_bytes, read_part};
+use aas_json_parts::{AssetInformations, SpecificAssetIds};
 use aas_json_table::table::Sort;
 use aas_json_table::too_deep::Levels;
 use aas_model::{

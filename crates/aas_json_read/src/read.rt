@@ -13,7 +13,7 @@ ghost use Rattle.aas_json_read.specs.Shaped.{shaped};
 use crate::documents::{environment_of, submodel_of};
 use crate::elements::element_of;
 use crate::sorts::{Elements, Environments, Submodels};
-use aas_json_members::{check_form, read_value};
+use aas_json_input::{check_value, read_value};
 use aas_json_table::table::Sort;
 use aas_json_table::too_deep::Levels;
 use aas_model::{Element, Environment, NoMemory, ReadFault, Role, Submodel};
@@ -102,7 +102,7 @@ fn tree_of<S: Shaped>(
     requires { sort_of sort ≡ S.sort }
     ensures { Reads (shaped S.sort S.spell S.is_shaped) (levels_of left) result (view value.now) }
 {
-    check_form(alloc, sort, value, left)?;
+    check_value(alloc, sort, value, left)?;
     match S::tree(alloc, value) {
         Ok(Some(tree)) => Ok(tree),
         Ok(None) => unreachable!(),

@@ -10,11 +10,11 @@
 
 /// Where a value first departs from the table.
 pub mod misfit;
+/// The names of the members of the JSON mapping.
+pub mod name;
 /// The way to a place in a value, and its text.
 pub mod pointer;
 /// The table.
 pub mod table;
 /// Where a value first lies too deep.
-#[cfg(test)]
-mod tests;
 pub mod too_deep;

@@ -4,19 +4,20 @@ ghost use Rattle.serde_json.specs.View.{view, members_view};
 ghost use Rattle.aas_json_table.specs.Rows.{rows_of, row_named};
 ghost use Rattle.aas_json_table.specs.Seen.{row_of, rows_seen, sort_of};
 
+use crate::name;
 use serde_json::{Map, Value};
 
 // A row of class M, unless a class is given.
 macro_rules! optional {
-    ($name:literal, $member_type:expr) => { optional!($name, $member_type, Class::M) };
-    ($name:literal, $member_type:expr, $class:expr) => {
+    ($name:expr, $member_type:expr) => { optional!($name, $member_type, Class::M) };
+    ($name:expr, $member_type:expr, $class:expr) => {
         Row { name: $name, member_type: $member_type, required: false, class: $class }
     };
 }
 
 macro_rules! required {
-    ($name:literal, $member_type:expr) => { required!($name, $member_type, Class::M) };
-    ($name:literal, $member_type:expr, $class:expr) => {
+    ($name:expr, $member_type:expr) => { required!($name, $member_type, Class::M) };
+    ($name:expr, $member_type:expr, $class:expr) => {
         Row { name: $name, member_type: $member_type, required: true, class: $class }
     };
 }
@@ -149,7 +150,7 @@ fn model_type(members: &Map<String, Value>) -> Option<&str>
     ensures { option_map (λ text. text.now) result
         ≡ option_and_then as_str (get_member (codes "modelType") (members_view members.now.entries)) }
 {
-    match member(members, "modelType") {
+    match member(members, name::MODEL_TYPE) {
         Some(value) => value.as_str(),
         None => None,
     }

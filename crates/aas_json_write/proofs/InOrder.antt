@@ -4,8 +4,8 @@ use Rattle.aas_json_table.specs.TooDeep.{Levels}
 use Rattle.aas_json_spelling.specs.Lists.{each_true}
 use Rattle.aas_lemmas.proofs.Truth.{and_left, and_right}
 use Rattle.aas_json_spelling.specs.Kept.{kept_depth, spell_kept, IsWholeKept}
-use Rattle.aas_json_members.specs.Ordered.{ordered}
-use Rattle.aas_json_members.proofs.OrderedObjects as objects
+use Rattle.aas_json_write.specs.Ordered.{ordered}
+use Rattle.aas_json_write.proofs.OrderedObjects as objects
 use Rattle.aas_model.specs.declared.plain.Plain.{Plain}
 use Rattle.aas_json_write.specs.Order.{kept_in_order}
 

@@ -6,12 +6,12 @@ use Rattle.aas_model.specs.declared.element.Role.{Role}
 use Rattle.aas_model.specs.declared.element.Role.TheVariants as role
 
 -- whether a child that has the second role is a variable of the first
-abbrev pub is_variable : Role → Role → Bool
-is_variable role.Input r = is_input r
-is_variable role.Output r = is_output r
-is_variable role.Inoutput r = is_inoutput r
-is_variable other r = false
+abbrev pub is_variable_of : Role → Role → Bool
+is_variable_of role.Input r = is_input r
+is_variable_of role.Output r = is_output r
+is_variable_of role.Inoutput r = is_inoutput r
+is_variable_of other r = false
 
 -- a child as a variable of a role
 abbrev pub variable_of : Role → Child → Option Data
-variable_of r c = cond (is_variable r c.role) (Some (spell_variable c)) None
+variable_of r c = cond (is_variable_of r c.role) (Some (spell_variable c)) None

@@ -1,17 +1,16 @@
-ghost use Rattle.std.specs.Prelude.{◌≡◌, ◌++◌, true, codes, List, IfOk, OnOk, option_map};
-ghost use Rattle.std.specs.List.{cons_option};
+ghost use Rattle.std.specs.Prelude.{◌≡◌, true, codes, IfOk, option_map};
 ghost use Rattle.serde_json.specs.Data as json;
-ghost use Rattle.aas_json_members.specs.Array.{items_of};
 ghost use Rattle.aas_json_members.specs.Building.{put_some};
 ghost use Rattle.aas_json_members.specs.Exact.{data_of};
 ghost use Rattle.aas_json_members.specs.Object.{members_of};
 ghost use Rattle.aas_json_write.specs.Order.{kept_in_order};
 ghost use Rattle.aas_json_write.specs.Rows.{childless};
-ghost use Rattle.aas_json_write.specs.Variables.{is_variable};
+ghost use Rattle.aas_json_write.specs.Variables.{is_variable_of};
 
 use crate::common::put_common;
 use crate::kinds::put_own;
-use aas_json_members::{Array, Exact, Object, word_value};
+use aas_json_members::{Exact, Object, word_value};
+use aas_json_table::name;
 use aas_model::{Common, NoMemory, Payload, Role};
 use std::alloc::Global;
 
@@ -25,7 +24,11 @@ pub(crate) fn childless_object(
     ensures { IfOk result (λ made. members_of made ≡ childless common.now payload.now) }
 {
     let mut object = Object::new(alloc);
-    object.put(alloc, "modelType", Some(word_value(alloc, payload.kind())?))?;
+    object.put(
+        alloc,
+        name::MODEL_TYPE,
+        Some(word_value(alloc, payload.kind())?),
+    )?;
     put_common(&mut object, alloc, common)?;
     put_own(&mut object, alloc, payload)?;
     Ok(object)
@@ -57,26 +60,15 @@ pub(crate) fn closed_with_variables(
         (put_some (codes "outputVariables") (option_map data_of outputs)
         (put_some (codes "inputVariables") (option_map data_of inputs) (members_of object))))) }
 {
-    object.put(alloc, "inputVariables", inputs)?;
-    object.put(alloc, "outputVariables", outputs)?;
-    object.put(alloc, "inoutputVariables", inoutputs)?;
+    object.put(alloc, name::INPUT_VARIABLES, inputs)?;
+    object.put(alloc, name::OUTPUT_VARIABLES, outputs)?;
+    object.put(alloc, name::INOUTPUT_VARIABLES, inoutputs)?;
     Ok(object.close())
 }
 
-/// Adds a value at the end, if there is one.
-#[tactic(auto, using(aas_lemmas::proofs::Lists::append_one))]
-pub(crate) fn push_some(array: &mut Array, value: Option<Exact>) -> Result<(), NoMemory>
-    ensures { OnOk result ((rest : List json.Data) → items_of array.new ++ rest ≡ items_of array.old ++ cons_option (option_map data_of value) rest) }
-{
-    match value {
-        Some(value) => array.push(value),
-        None => Ok(()),
-    }
-}
-
 /// Whether a child that has the second role is a variable of the first, one of `Input`, `Output` and `Inoutput`.
-pub(crate) fn is_variable(role: Role, of_child: Role) -> bool
-    ensures { result ≡ is_variable role of_child }
+pub(crate) fn is_variable_of(role: Role, of_child: Role) -> bool
+    ensures { result ≡ is_variable_of role of_child }
 {
     match role {
         Role::Input => matches!(of_child, Role::Input),

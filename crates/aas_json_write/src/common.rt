@@ -1,29 +1,20 @@
-ghost use Rattle.std.specs.Prelude.{◌≡◌, true, IfOk, OnOk, option_map};
+ghost use Rattle.std.specs.Prelude.{◌≡◌, true, OnOk};
 ghost use Rattle.aas_json_table.specs.Spelled.{attribute};
 ghost use Rattle.aas_json_table.specs.Table.{has_semantics};
-ghost use Rattle.aas_json_spelling.specs.Kept.{spell_kept};
 ghost use Rattle.aas_json_members.specs.Building.{built};
-ghost use Rattle.aas_json_members.specs.Exact.{data_of};
 ghost use Rattle.aas_json_members.specs.Object.{members_of};
 ghost use Rattle.aas_json_mapping.specs.Elements.{common_attributes};
 ghost use Rattle.aas_json_mapping.specs.Parts.{semantics_attributes};
 ghost use Rattle.aas_json_write.specs.Order.{kept_in_order};
 ghost use Rattle.aas_json_write.specs.Rows.{common_rows, shared_rows};
 
-use crate::sorts::{Extensions, LangTexts, Qualifiers};
-use aas_json_members::{Exact, Object, Texts, kept_value, list_value, optional_value};
-use aas_model::{Common, Many, NoMemory, Plain, Semantics};
+use crate::kept::kept_json;
+use aas_json_members::{Object, Texts, list_value, optional_value};
+use aas_json_parts::{Extensions, LangTexts, Qualifiers};
+use aas_json_table::name;
+use aas_model::{Common, NoMemory, Semantics};
 use aas_reference::References;
 use std::alloc::Global;
-
-/// The array of kept data, as it is, or `None` where there is none.
-#[tactic(auto, using(crate::proofs::InOrder::ordered_kept))]
-pub(crate) fn kept_as_it_is(alloc: Global, plains: &Many<Plain>) -> Result<Option<Exact>, NoMemory>
-    requires { kept_in_order plains.now ≡ true }
-    ensures { IfOk result (λ exact. option_map data_of exact ≡ spell_kept plains.now) }
-{
-    Ok(kept_value(alloc, plains)?)
-}
 
 /// Puts what all elements have, beside their `modelType`.
 pub(crate) fn put_common(
@@ -37,7 +28,7 @@ pub(crate) fn put_common(
     put_shared(object, alloc, common)?;
     object.put(
         alloc,
-        "qualifiers",
+        name::QUALIFIERS,
         list_value::<Qualifiers>(alloc, common.qualifiers.as_slice())?,
     )?;
     put_semantics(object, alloc, &common.semantics)?;
@@ -51,33 +42,33 @@ fn put_shared(object: &mut Object, alloc: Global, common: &Common) -> Result<(),
 {
     object.put(
         alloc,
-        "category",
+        name::CATEGORY,
         optional_value::<Texts>(alloc, &common.category)?,
     )?;
     object.put(
         alloc,
-        "description",
+        name::DESCRIPTION,
         list_value::<LangTexts>(alloc, common.description.as_slice())?,
     )?;
     object.put(
         alloc,
-        "displayName",
+        name::DISPLAY_NAME,
         list_value::<LangTexts>(alloc, common.display_name.as_slice())?,
     )?;
     object.put(
         alloc,
-        "extensions",
+        name::EXTENSIONS,
         list_value::<Extensions>(alloc, common.extensions.as_slice())?,
     )?;
     object.put(
         alloc,
-        "idShort",
+        name::ID_SHORT,
         optional_value::<Texts>(alloc, &common.id_short)?,
     )?;
     object.put(
         alloc,
-        "embeddedDataSpecifications",
-        kept_as_it_is(alloc, &common.embedded_data_specifications)?,
+        name::EMBEDDED_DATA_SPECIFICATIONS,
+        kept_json(alloc, &common.embedded_data_specifications)?,
     )?;
     Ok(())
 }
@@ -92,12 +83,12 @@ pub(crate) fn put_semantics(
 {
     object.put(
         alloc,
-        "semanticId",
+        name::SEMANTIC_ID,
         optional_value::<References>(alloc, &semantics.semantic_id)?,
     )?;
     object.put(
         alloc,
-        "supplementalSemanticIds",
+        name::SUPPLEMENTAL_SEMANTIC_IDS,
         list_value::<References>(alloc, semantics.supplemental_semantic_ids.as_slice())?,
     )?;
     Ok(())

@@ -9,19 +9,21 @@ ghost use Rattle.aas_json_mapping.specs.Parts.{spell_administration};
 ghost use Rattle.aas_json_write.specs.Order.{kept_in_order, administration_in_order, head_in_order, shell_in_order, submodel_in_order, concept_in_order};
 ghost use Rattle.aas_json_write.specs.Rows.{head_rows, shared_rows, with_model_type};
 
-use crate::common::{kept_as_it_is, put_semantics};
-use crate::elements::children_value;
-use crate::sorts::{AssetInformations, Extensions, LangTexts, Qualifiers};
+use crate::common::put_semantics;
+use crate::elements::children_json;
+use crate::kept::kept_json;
 use aas_json_members::{
     Exact, Object, Texts, Written, list_value, optional_value, optional_word, string_value,
     text_value,
 };
+use aas_json_parts::{AssetInformations, Extensions, LangTexts, Qualifiers};
+use aas_json_table::name;
 use aas_model::{Administration, Concept, Head, NoMemory, Shell, Submodel};
 use aas_reference::References;
 use std::alloc::Global;
 
 /// The value that spells a shell. The kept data in it is in order.
-pub(crate) fn shell_value(alloc: Global, shell: &Shell) -> Result<Exact, NoMemory>
+pub(crate) fn shell_json(alloc: Global, shell: &Shell) -> Result<Exact, NoMemory>
     requires { shell_in_order shell.now ≡ true }
     ensures { IfOk result (λ exact. data_of exact ≡ spell_shell shell.now) }
 {
@@ -29,46 +31,46 @@ pub(crate) fn shell_value(alloc: Global, shell: &Shell) -> Result<Exact, NoMemor
     put_head(&mut object, alloc, &shell.head)?;
     object.put(
         alloc,
-        "assetInformation",
+        name::ASSET_INFORMATION,
         Some(AssetInformations::value(alloc, &shell.asset)?),
     )?;
     object.put(
         alloc,
-        "derivedFrom",
+        name::DERIVED_FROM,
         optional_value::<References>(alloc, &shell.derived_from)?,
     )?;
     object.put(
         alloc,
-        "submodels",
+        name::SUBMODELS,
         list_value::<References>(alloc, shell.submodels.as_slice())?,
     )?;
     Ok(object.close())
 }
 
 /// The value that spells a submodel. The kept data in it is in order.
-pub(crate) fn submodel_value(alloc: Global, submodel: &Submodel) -> Result<Exact, NoMemory>
+pub(crate) fn submodel_json(alloc: Global, submodel: &Submodel) -> Result<Exact, NoMemory>
     requires { submodel_in_order submodel.now ≡ true }
     ensures { IfOk result (λ exact. data_of exact ≡ spell_submodel submodel.now) }
 {
     let mut object = document(alloc, "Submodel")?;
     put_head(&mut object, alloc, &submodel.head)?;
-    object.put(alloc, "kind", optional_word(alloc, submodel.kind)?)?;
+    object.put(alloc, name::KIND, optional_word(alloc, submodel.kind)?)?;
     put_semantics(&mut object, alloc, &submodel.semantics)?;
     object.put(
         alloc,
-        "qualifiers",
+        name::QUALIFIERS,
         list_value::<Qualifiers>(alloc, submodel.qualifiers.as_slice())?,
     )?;
     object.put(
         alloc,
-        "submodelElements",
-        children_value(alloc, &submodel.kids)?,
+        name::SUBMODEL_ELEMENTS,
+        children_json(alloc, &submodel.kids)?,
     )?;
     Ok(object.close())
 }
 
 /// The value that spells a concept description. The kept data in it is in order.
-pub(crate) fn concept_value(alloc: Global, concept: &Concept) -> Result<Exact, NoMemory>
+pub(crate) fn concept_json(alloc: Global, concept: &Concept) -> Result<Exact, NoMemory>
     requires { concept_in_order concept.now ≡ true }
     ensures { IfOk result (λ exact. data_of exact ≡ spell_concept concept.now) }
 {
@@ -76,7 +78,7 @@ pub(crate) fn concept_value(alloc: Global, concept: &Concept) -> Result<Exact, N
     put_head(&mut object, alloc, &concept.head)?;
     object.put(
         alloc,
-        "isCaseOf",
+        name::IS_CASE_OF,
         list_value::<References>(alloc, concept.is_case_of.as_slice())?,
     )?;
     Ok(object.close())
@@ -87,7 +89,11 @@ fn document(alloc: Global, model_type: &str) -> Result<Object, NoMemory>
     ensures { IfOk result (λ made. members_of made ≡ with_model_type model_type.now) }
 {
     let mut object = Object::new(alloc);
-    object.put(alloc, "modelType", Some(string_value(alloc, model_type)?))?;
+    object.put(
+        alloc,
+        name::MODEL_TYPE,
+        Some(string_value(alloc, model_type)?),
+    )?;
     Ok(object)
 }
 
@@ -106,10 +112,10 @@ fn put_identifiable(object: &mut Object, alloc: Global, head: &Head) -> Result<(
     requires { administration_in_order head.now.administration ≡ true }
     ensures { OnOk result (members_of object.new ≡ built identifiable (attribute (head_attributes head.now)) (members_of object.old)) }
 {
-    object.put(alloc, "id", Some(text_value(alloc, &head.id)?))?;
+    object.put(alloc, name::ID, Some(text_value(alloc, &head.id)?))?;
     object.put(
         alloc,
-        "administration",
+        name::ADMINISTRATION,
         administration_if_there(alloc, &head.administration)?,
     )?;
     Ok(())
@@ -122,33 +128,33 @@ fn put_shared(object: &mut Object, alloc: Global, head: &Head) -> Result<(), NoM
 {
     object.put(
         alloc,
-        "category",
+        name::CATEGORY,
         optional_value::<Texts>(alloc, &head.category)?,
     )?;
     object.put(
         alloc,
-        "description",
+        name::DESCRIPTION,
         list_value::<LangTexts>(alloc, head.description.as_slice())?,
     )?;
     object.put(
         alloc,
-        "displayName",
+        name::DISPLAY_NAME,
         list_value::<LangTexts>(alloc, head.display_name.as_slice())?,
     )?;
     object.put(
         alloc,
-        "extensions",
+        name::EXTENSIONS,
         list_value::<Extensions>(alloc, head.extensions.as_slice())?,
     )?;
     object.put(
         alloc,
-        "idShort",
+        name::ID_SHORT,
         optional_value::<Texts>(alloc, &head.id_short)?,
     )?;
     object.put(
         alloc,
-        "embeddedDataSpecifications",
-        kept_as_it_is(alloc, &head.embedded_data_specifications)?,
+        name::EMBEDDED_DATA_SPECIFICATIONS,
+        kept_json(alloc, &head.embedded_data_specifications)?,
     )?;
     Ok(())
 }
@@ -161,39 +167,39 @@ fn administration_if_there(
     ensures { IfOk result (λ exact. option_map data_of exact ≡ option_map spell_administration administration.now) }
 {
     match administration {
-        Some(administration) => Ok(Some(administration_value(alloc, administration)?)),
+        Some(administration) => Ok(Some(administration_json(alloc, administration)?)),
         None => Ok(None),
     }
 }
 
-fn administration_value(alloc: Global, administration: &Administration) -> Result<Exact, NoMemory>
+fn administration_json(alloc: Global, administration: &Administration) -> Result<Exact, NoMemory>
     requires { kept_in_order administration.now.embedded_data_specifications ≡ true }
     ensures { IfOk result (λ exact. data_of exact ≡ spell_administration administration.now) }
 {
     let mut object = Object::new(alloc);
     object.put(
         alloc,
-        "creator",
+        name::CREATOR,
         optional_value::<References>(alloc, &administration.creator)?,
     )?;
     object.put(
         alloc,
-        "embeddedDataSpecifications",
-        kept_as_it_is(alloc, &administration.embedded_data_specifications)?,
+        name::EMBEDDED_DATA_SPECIFICATIONS,
+        kept_json(alloc, &administration.embedded_data_specifications)?,
     )?;
     object.put(
         alloc,
-        "revision",
+        name::REVISION,
         optional_value::<Texts>(alloc, &administration.revision)?,
     )?;
     object.put(
         alloc,
-        "templateId",
+        name::TEMPLATE_ID,
         optional_value::<Texts>(alloc, &administration.template_id)?,
     )?;
     object.put(
         alloc,
-        "version",
+        name::VERSION,
         optional_value::<Texts>(alloc, &administration.version)?,
     )?;
     Ok(object.close())

@@ -1,5 +1,5 @@
 ghost use Rattle.std.specs.Prelude.{◌≡◌, [], codes, Some, OnOk, option_map};
-ghost use Rattle.serde_json.specs.Data.{string};
+ghost use Rattle.serde_json.specs.Data.{boolean, string};
 ghost use Rattle.aas_model_names.specs.DirectionNames as direction_names;
 ghost use Rattle.aas_model_names.specs.StateOfEventNames as state_names;
 ghost use Rattle.aas_json_table.specs.Spelled.{text_of};
@@ -9,16 +9,31 @@ ghost use Rattle.aas_reference.specs.Spelling.{spell_reference};
 ghost use Rattle.aas_json_write.specs.Rows.{with_own};
 ghost use Rattle.aas_model.specs.declared.payload.Payload.TheVariants as p;
 
-use crate::sorts::{LangTexts, SpecificAssetIds};
 use aas_json_members::{
-    Flags, Object, Texts, list_value, optional_value, optional_word, word_value,
+    Exact, Object, Texts, Written, flag_value, list_value, optional_value, optional_word,
+    word_value,
 };
+use aas_json_parts::{LangTexts, SpecificAssetIds};
+use aas_json_table::name;
 use aas_model::{
     Direction, ElementName, EntityType, LangText, Many, NoMemory, Payload, Reference,
     SpecificAssetId, StateOfEvent, Text, ValueType,
 };
 use aas_reference::References;
 use std::alloc::Global;
+
+/// Truth values.
+struct Flags;
+
+impl Written for Flags {
+    type Tree = bool;
+
+    ghost spell = { boolean };
+
+    fn value(_alloc: Global, flag: &bool) -> Result<Exact, NoMemory> {
+        Ok(flag_value(*flag))
+    }
+}
 
 /// Puts the attributes of a kind's own, without children.
 pub(crate) fn put_own(object: &mut Object, alloc: Global, payload: &Payload) -> Result<(), NoMemory>
@@ -48,7 +63,7 @@ pub(crate) fn put_own(object: &mut Object, alloc: Global, payload: &Payload) -> 
         } => put_content(object, alloc, content_type, value),
         Payload::ReferenceElement { value } => object.put(
             alloc,
-            "value",
+            name::VALUE,
             optional_value::<References>(alloc, value)?,
         ),
         Payload::RelationshipElement { first, second } => put_relationship(
@@ -112,11 +127,15 @@ fn put_property(
 ) -> Result<(), NoMemory>
     ensures { OnOk result (members_of object.new ≡ with_own (p.Property value_type value.now value_id.now) [] (members_of object.old)) }
 {
-    object.put(alloc, "valueType", Some(word_value(alloc, value_type)?))?;
-    object.put(alloc, "value", optional_value::<Texts>(alloc, value)?)?;
     object.put(
         alloc,
-        "valueId",
+        name::VALUE_TYPE,
+        Some(word_value(alloc, value_type)?),
+    )?;
+    object.put(alloc, name::VALUE, optional_value::<Texts>(alloc, value)?)?;
+    object.put(
+        alloc,
+        name::VALUE_ID,
         optional_value::<References>(alloc, value_id)?,
     )?;
     Ok(())
@@ -132,12 +151,12 @@ fn put_languages(
 {
     object.put(
         alloc,
-        "value",
+        name::VALUE,
         list_value::<LangTexts>(alloc, value.as_slice())?,
     )?;
     object.put(
         alloc,
-        "valueId",
+        name::VALUE_ID,
         optional_value::<References>(alloc, value_id)?,
     )?;
     Ok(())
@@ -152,9 +171,13 @@ fn put_range(
 ) -> Result<(), NoMemory>
     ensures { OnOk result (members_of object.new ≡ with_own (p.Range value_type min.now max.now) [] (members_of object.old)) }
 {
-    object.put(alloc, "valueType", Some(word_value(alloc, value_type)?))?;
-    object.put(alloc, "min", optional_value::<Texts>(alloc, min)?)?;
-    object.put(alloc, "max", optional_value::<Texts>(alloc, max)?)?;
+    object.put(
+        alloc,
+        name::VALUE_TYPE,
+        Some(word_value(alloc, value_type)?),
+    )?;
+    object.put(alloc, name::MIN, optional_value::<Texts>(alloc, min)?)?;
+    object.put(alloc, name::MAX, optional_value::<Texts>(alloc, max)?)?;
     Ok(())
 }
 
@@ -169,10 +192,10 @@ fn put_content(
 {
     object.put(
         alloc,
-        "contentType",
+        name::CONTENT_TYPE,
         optional_value::<Texts>(alloc, content_type)?,
     )?;
-    object.put(alloc, "value", optional_value::<Texts>(alloc, value)?)?;
+    object.put(alloc, name::VALUE, optional_value::<Texts>(alloc, value)?)?;
     Ok(())
 }
 
@@ -185,10 +208,14 @@ fn put_relationship(
 ) -> Result<(), NoMemory>
     ensures { OnOk result (members_of object.new ≡ with_own (p.RelationshipElement first.now second.now) [] (members_of object.old)) }
 {
-    object.put(alloc, "first", optional_value::<References>(alloc, first)?)?;
     object.put(
         alloc,
-        "second",
+        name::FIRST,
+        optional_value::<References>(alloc, first)?,
+    )?;
+    object.put(
+        alloc,
+        name::SECOND,
         optional_value::<References>(alloc, second)?,
     )?;
     Ok(())
@@ -203,15 +230,15 @@ fn put_entity(
 ) -> Result<(), NoMemory>
     ensures { OnOk result (members_of object.new ≡ with_own (p.Entity entity_type global_asset_id.now specific_asset_ids.now) [] (members_of object.old)) }
 {
-    object.put(alloc, "entityType", optional_word(alloc, entity_type)?)?;
+    object.put(alloc, name::ENTITY_TYPE, optional_word(alloc, entity_type)?)?;
     object.put(
         alloc,
-        "globalAssetId",
+        name::GLOBAL_ASSET_ID,
         optional_value::<Texts>(alloc, global_asset_id)?,
     )?;
     object.put(
         alloc,
-        "specificAssetIds",
+        name::SPECIFIC_ASSET_IDS,
         list_value::<SpecificAssetIds>(alloc, specific_asset_ids.as_slice())?,
     )?;
     Ok(())
@@ -232,11 +259,11 @@ fn put_event(
 {
     object.put(
         alloc,
-        "observed",
+        name::OBSERVED,
         optional_value::<References>(alloc, observed)?,
     )?;
-    object.put(alloc, "direction", Some(word_value(alloc, direction)?))?;
-    object.put(alloc, "state", Some(word_value(alloc, state)?))?;
+    object.put(alloc, name::DIRECTION, Some(word_value(alloc, direction)?))?;
+    object.put(alloc, name::STATE, Some(word_value(alloc, state)?))?;
     Ok(())
 }
 
@@ -253,12 +280,12 @@ fn put_messages(
 {
     object.put(
         alloc,
-        "messageTopic",
+        name::MESSAGE_TOPIC,
         optional_value::<Texts>(alloc, message_topic)?,
     )?;
     object.put(
         alloc,
-        "messageBroker",
+        name::MESSAGE_BROKER,
         optional_value::<References>(alloc, message_broker)?,
     )?;
     Ok(())
@@ -279,17 +306,17 @@ fn put_times(
 {
     object.put(
         alloc,
-        "lastUpdate",
+        name::LAST_UPDATE,
         optional_value::<Texts>(alloc, last_update)?,
     )?;
     object.put(
         alloc,
-        "minInterval",
+        name::MIN_INTERVAL,
         optional_value::<Texts>(alloc, min_interval)?,
     )?;
     object.put(
         alloc,
-        "maxInterval",
+        name::MAX_INTERVAL,
         optional_value::<Texts>(alloc, max_interval)?,
     )?;
     Ok(())
@@ -307,22 +334,22 @@ fn put_list(
 {
     object.put(
         alloc,
-        "orderRelevant",
+        name::ORDER_RELEVANT,
         optional_value::<Flags>(alloc, order_relevant)?,
     )?;
     object.put(
         alloc,
-        "semanticIdListElement",
+        name::SEMANTIC_ID_LIST_ELEMENT,
         optional_value::<References>(alloc, semantic_id)?,
     )?;
     object.put(
         alloc,
-        "typeValueListElement",
+        name::TYPE_VALUE_LIST_ELEMENT,
         Some(word_value(alloc, type_value)?),
     )?;
     object.put(
         alloc,
-        "valueTypeListElement",
+        name::VALUE_TYPE_LIST_ELEMENT,
         optional_word(alloc, value_type)?,
     )?;
     Ok(())

@@ -6,11 +6,11 @@ ghost use Rattle.aas_json_mapping.specs.Elements.{spell_element};
 ghost use Rattle.aas_json_mapping.specs.Parts.{spell_asset_information};
 ghost use Rattle.aas_json_write.specs.Order.{element_in_order, shell_in_order, submodel_in_order, concept_in_order, environment_in_order};
 
-use crate::documents::{concept_value, shell_value, submodel_value};
-use crate::elements::element_value;
-use crate::environment::environment_value;
-use crate::sorts::AssetInformations;
+use crate::documents::{concept_json, shell_json, submodel_json};
+use crate::elements::element_json;
+use crate::environment::environment_json;
 use aas_json_members::Written;
+use aas_json_parts::AssetInformations;
 use aas_model::{AssetInformation, Concept, Element, Environment, NoMemory, Shell, Submodel};
 use std::alloc::Global;
 
@@ -20,7 +20,7 @@ pub fn write_shell(alloc: Global, shell: &Shell, out: &mut Vec<u8>) -> Result<()
     requires { shell_in_order shell.now ≡ true }
     ensures { Writes (compact_text (spell_shell shell.now)) result out.old.items out.new.items }
 {
-    shell_value(alloc, shell)?.append_to(alloc, out)
+    shell_json(alloc, shell)?.append_to(alloc, out)
 }
 
 /// Appends the canonical text of a submodel to `out` (IDTA-01001-3-0, class Submodel). The kept data in it is in order,
@@ -29,7 +29,7 @@ pub fn write_submodel(alloc: Global, submodel: &Submodel, out: &mut Vec<u8>) -> 
     requires { submodel_in_order submodel.now ≡ true }
     ensures { Writes (compact_text (spell_submodel submodel.now)) result out.old.items out.new.items }
 {
-    submodel_value(alloc, submodel)?.append_to(alloc, out)
+    submodel_json(alloc, submodel)?.append_to(alloc, out)
 }
 
 /// Appends the canonical text of a concept description to `out` (IDTA-01001-3-0, class ConceptDescription). The kept data
@@ -38,7 +38,7 @@ pub fn write_concept(alloc: Global, concept: &Concept, out: &mut Vec<u8>) -> Res
     requires { concept_in_order concept.now ≡ true }
     ensures { Writes (compact_text (spell_concept concept.now)) result out.old.items out.new.items }
 {
-    concept_value(alloc, concept)?.append_to(alloc, out)
+    concept_json(alloc, concept)?.append_to(alloc, out)
 }
 
 /// Appends the canonical text of an element and all below it to `out` (IDTA-01001-3-0, class SubmodelElement). The kept data
@@ -48,7 +48,7 @@ pub fn write_element(alloc: Global, element: &Element, out: &mut Vec<u8>) -> Res
     requires { element_in_order element.now ≡ true }
     ensures { Writes (compact_text (spell_element element.now)) result out.old.items out.new.items }
 {
-    element_value(alloc, element)?.append_to(alloc, out)
+    element_json(alloc, element)?.append_to(alloc, out)
 }
 
 /// Appends the canonical text of an environment to `out` (IDTA-01001-3-0, class Environment). The kept data in it is in
@@ -61,7 +61,7 @@ pub fn write_environment(
     requires { environment_in_order environment.now ≡ true }
     ensures { Writes (compact_text (spell_environment environment.now)) result out.old.items out.new.items }
 {
-    environment_value(alloc, environment)?.append_to(alloc, out)
+    environment_json(alloc, environment)?.append_to(alloc, out)
 }
 
 /// Appends the canonical text of what a shell says of its asset to `out` (IDTA-01001-3-0, class AssetInformation). Where

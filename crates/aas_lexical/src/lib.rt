@@ -3,6 +3,8 @@
 //!
 //! A text is judged as it is: white space is not collapsed. Each call takes a text of any length, takes no memory, and
 //! goes over the text a bounded number of times.
+//!
+//! Which attribute has which rule is said by the constraints (`aas_constraint_rules`).
 #![tactic(auto)]
 
 mod binary;
@@ -23,6 +25,3 @@ pub use name::{
 pub use natives::Native;
 pub use time::is_utc_date_time;
 pub use value::{fits, native};
-
-#[cfg(test)]
-mod tests;

@@ -3,6 +3,8 @@
 //! A form is a set of texts, as a grammar defines it (`specs/Form.antt`). A cutting function takes a text and gives what
 //! is left behind the front that it takes, so that functions of small forms make those of larger ones: by `?` for what
 //! has to be there, and by `unwrap_or(text)` for what may be left out. None takes memory.
+//!
+//! No grammar of a standard stands here.
 #![tactic(auto)]
 
 mod ascii;
@@ -13,6 +15,3 @@ pub use cut::{
     after_any, after_four_digits, after_one, after_run, after_two_digits, after_word, is_whole,
     shorter, within,
 };
-
-#[cfg(test)]
-mod tests;

@@ -3,6 +3,8 @@
 //!
 //! Optional attributes are `Option`s and lists are `Many`s; an empty list stands for an absent one. Each type but the
 //! enumerations has `Duplicate::copy`, an equal value of its own.
+//!
+//! How a tree is spelled, which are valid and what changes them is said above.
 
 #![tactic(auto)]
 

@@ -1,4 +1,6 @@
 //! The enumerations of the Asset Administration Shell (IDTA-01001-3-0, IDTA-01002-3-0) and the names of their values.
+//!
+//! The types that are made of them stand in `aas_model`; which texts an enumeration may have is said nowhere else.
 
 #![tactic(auto)]
 
@@ -31,6 +33,3 @@ pub use qualifier_kind::QualifierKind;
 pub use reference_type::ReferenceType;
 pub use state_of_event::StateOfEvent;
 pub use value_type::ValueType;
-
-#[cfg(test)]
-mod tests;

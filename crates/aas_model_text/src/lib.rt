@@ -2,6 +2,8 @@
 //!
 //! A contract sees a `Text` as the list of its characters, a `Many` as the list of its items and a `Boxed` as its
 //! value, so that a copy equals what it copies. Types may hold themselves through `Many` and `Boxed`.
+//!
+//! Nothing here speaks of the Asset Administration Shell.
 
 #![tactic(auto)]
 
@@ -16,6 +18,3 @@ pub use duplicate::{Duplicate, copy_option};
 pub use many::Many;
 pub use no_memory::NoMemory;
 pub use text::{Text, same_text};
-
-#[cfg(test)]
-mod tests;

@@ -50,4 +50,8 @@ pub trait Keeper {
     /// Where the payloads are told, they alone decide whether there is room.
     ghost room_by_payloads: { (keeper : Self) (payloads : List (List ℕ)) (n : ℕ) → kept keeper payloads →
         has_room keeper n ≡ room_behind keeper payloads n };
+
+    /// There is never room for a payload that has no frame.
+    ghost room_limit: { (keeper : Self) (payloads : List (List ℕ)) (n : ℕ) →
+        IsTrue (room_behind keeper payloads n) → n < 2 ^ 32 };
 }

@@ -89,7 +89,7 @@ fn append_reserved(list: &mut Vec<u8>, bytes: &[u8])
 impl Keeper for MemKeeper {
     ghost use Rattle.std.specs.Prelude.{◌≡◌, List, ℕ};
     ghost use Rattle.aas_outside.specs.MemKeeper.{has_room_behind, is_all, clock, kept_at};
-    ghost use Rattle.aas_outside.specs.MemKeeperLaw.{room_law};
+    ghost use Rattle.aas_outside.specs.MemKeeperLaw.{limit_law, room_law};
 
     ghost Image = { List (List ℕ) };
 
@@ -108,6 +108,8 @@ impl Keeper for MemKeeper {
     ghost faults = { λ keeper. keeper.faults };
 
     ghost room_by_payloads = { room_law };
+
+    ghost room_limit = { limit_law };
 
     fn room(&self, n: u64) -> bool {
         let free = self.capacity - (self.bytes.len() + FRAME_BYTES * self.lengths.len());

@@ -2,6 +2,8 @@
 //!
 //! A step by name costs the siblings that it passes, a step by place costs nothing more. No call copies a tree, and none
 //! but `insert`, `parse_path` and the two that print take memory.
+//!
+//! What a path means, and what an edit makes of a tree, is defined in `aas_path_trees`.
 
 #![tactic(auto)]
 

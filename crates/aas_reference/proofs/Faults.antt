@@ -97,7 +97,7 @@ levels_at : (t : ReferenceType) (ks : List Key) (o : Option Reference) → level
 levels_at t ks None = fold-roll-Reference (List Level) (λ x. record { ref_type = x.ref_type; keys = x.keys } ∷ unwrap_or x.referred []) (record { ref_type = t; keys = ks; referred = None })
 levels_at t ks (Some r) = fold-roll-Reference (List Level) (λ x. record { ref_type = x.ref_type; keys = x.keys } ∷ unwrap_or x.referred []) (record { ref_type = t; keys = ks; referred = Some r })
 
-levels_out : (r : Reference) → levels_of r ≡ level_of r ∷ unwrap_or (option_map levels_of (out-Reference r).referred) []
+pub levels_out : (r : Reference) → levels_of r ≡ level_of r ∷ unwrap_or (option_map levels_of (out-Reference r).referred) []
 levels_out r = ap levels_of (sym (made_out r)) ∙ levels_at (out-Reference r).ref_type (out-Reference r).keys (out-Reference r).referred
 
 fault_of : List Level → Option ℕ
@@ -107,7 +107,7 @@ fault_of_more : (l : Level) (ls : List Level) → fault_of (l ∷ ls) ≡ least 
 unfolding fault_of
 fault_of_more l ls = least_of_both (λ s. s l) (λ s. list_all s ls) reference_rules rules_rise
 
-least_none : (o : Option ℕ) → least o None ≡ o
+pub least_none : (o : Option ℕ) → least o None ≡ o
 least_none None = refl
 least_none (Some n) = refl
 

@@ -8,7 +8,7 @@ use Rattle.aas_model.specs.declared.read_fault.ReadFault.TheVariants.{NotJson, N
 use Rattle.aas_model.specs.declared.reference.Reference.{Reference}
 use Rattle.aas_json_spelling.specs.Reads.{Reads, ReadsEach}
 use Rattle.aas_json_spelling.proofs.Laws.{reads_each}
-use Rattle.aas_json_members.specs.Said.{said}
+use Rattle.aas_json_input.specs.Said.{said}
 use Rattle.aas_reference.specs.Spelling.{spell_reference}
 use Rattle.aas_reference.specs.Trees.{references}
 use Rattle.aas_json_spelling.specs.Mapped.{AnyShape}

@@ -12,8 +12,6 @@ mod laws;
 mod read;
 mod rules;
 mod sorts;
-#[cfg(test)]
-mod tests;
 mod write;
 
 pub use compare::same;

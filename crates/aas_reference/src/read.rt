@@ -10,7 +10,9 @@ ghost use Rattle.aas_reference.specs.Spelling.{spell_key, spell_reference};
 ghost use Rattle.aas_reference.specs.Trees.{references};
 
 use crate::sorts::{Keys, References};
-use aas_json_members::{Part, list_member, member, read_part, string_member, word_member};
+use aas_json_input::read_part;
+use aas_json_members::{Part, list_member, member, string_member, word_member};
+use aas_json_table::name;
 use aas_json_table::table::Sort;
 use aas_json_table::too_deep::Levels;
 use aas_model::{Boxed, Key, Many, NoMemory, ReadFault, Reference};
@@ -58,10 +60,10 @@ impl Part for References {
 fn key_in(alloc: Global, members: &Map<String, Value>) -> Result<Option<Key>, NoMemory>
     ensures { IfOk result (λ found. option_map spell_key found ≡ canonical_object (Some (sorted (parts key))) (canonical_member (members_view members.now.entries))) }
 {
-    let Some(key_type) = word_member(members, "type") else {
+    let Some(key_type) = word_member(members, name::TYPE) else {
         return Ok(None);
     };
-    let Some(value) = string_member(alloc, members, "value")? else {
+    let Some(value) = string_member(alloc, members, name::VALUE)? else {
         return Ok(None);
     };
     Ok(Some(Key { key_type, value }))
@@ -82,12 +84,12 @@ fn reference_of(alloc: Global, value: &Value) -> Result<Option<Reference>, NoMem
 fn reference_in(alloc: Global, members: &Map<String, Value>) -> Result<Option<Reference>, NoMemory>
     ensures { IfOk result (λ found. option_map spell_reference found ≡ canonical_object (Some (sorted (parts reference))) (canonical_member (members_view members.now.entries))) }
 {
-    let keys = list_member::<Keys>(alloc, members, "keys")?;
+    let keys = list_member::<Keys>(alloc, members, name::KEYS)?;
     if !has_any(&keys) {
         return Ok(None);
     }
     let referred = referred_member(alloc, members)?;
-    let Some(ref_type) = word_member(members, "type") else {
+    let Some(ref_type) = word_member(members, name::TYPE) else {
         return Ok(None);
     };
     Ok(Some(Reference {
@@ -104,7 +106,7 @@ fn referred_member(
 ) -> Result<Option<Boxed<Reference>>, NoMemory>
     ensures { IfOk result (λ found. option_map spell_reference found ≡ canonical_member (members_view members.now.entries) (codes "referredSemanticId") (one reference)) }
 {
-    let Some(inner) = member(members, "referredSemanticId") else {
+    let Some(inner) = member(members, name::REFERRED_SEMANTIC_ID) else {
         return Ok(None);
     };
     match reference_of(alloc, inner)? {

@@ -6,6 +6,7 @@ ghost use Rattle.aas_reference.specs.Spelling.{spell_key, spell_reference};
 
 use crate::sorts::{Keys, References};
 use aas_json_members::{Exact, Object, Written, list_value, text_value, word_value};
+use aas_json_table::name;
 use aas_model::{Boxed, Key, NoMemory, Reference};
 use std::alloc::Global;
 
@@ -28,8 +29,8 @@ impl Written for Keys {
 
     fn value(alloc: Global, key: &Key) -> Result<Exact, NoMemory> {
         let mut object = Object::new(alloc);
-        object.put(alloc, "type", Some(word_value(alloc, key.key_type)?))?;
-        object.put(alloc, "value", Some(text_value(alloc, &key.value)?))?;
+        object.put(alloc, name::TYPE, Some(word_value(alloc, key.key_type)?))?;
+        object.put(alloc, name::VALUE, Some(text_value(alloc, &key.value)?))?;
         Ok(object.close())
     }
 }
@@ -51,15 +52,19 @@ fn reference_value(alloc: Global, reference: &Reference) -> Result<Exact, NoMemo
     let mut object = Object::new(alloc);
     object.put(
         alloc,
-        "keys",
+        name::KEYS,
         list_value::<Keys>(alloc, reference.keys.as_slice())?,
     )?;
     object.put(
         alloc,
-        "referredSemanticId",
+        name::REFERRED_SEMANTIC_ID,
         referred_value(alloc, &reference.referred)?,
     )?;
-    object.put(alloc, "type", Some(word_value(alloc, reference.ref_type)?))?;
+    object.put(
+        alloc,
+        name::TYPE,
+        Some(word_value(alloc, reference.ref_type)?),
+    )?;
     Ok(object.close())
 }
 

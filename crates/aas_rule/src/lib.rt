@@ -1,2 +1,4 @@
 //! Definitions alone: a repository, what a request comes to in it, and what a machine that takes the requests holds.
+//!
+//! No rule of a repository of its own stands here.
 #![tactic(auto)]

@@ -1,7 +1,7 @@
 // The words of the command line.
 ghost use Rattle.aas_server.specs.CommandLine.{IsAsked};
 
-use aas_model_text::{Many, Text};
+use aas_model::{Many, Text};
 
 /// What the words of the command line ask for.
 #[derive(Clone, Copy)]

@@ -13,7 +13,7 @@ use crate::status::Status;
 use crate::stop::Stop;
 use crate::value::answer_value;
 use aas_command::Refusal;
-use aas_model_text::{Many, Text};
+use aas_model::{Many, Text};
 use aas_outside::Link;
 use std::alloc::Global;
 

@@ -11,7 +11,7 @@ ghost use Rattle.aas_server.specs.Stop.{IfRefused};
 use crate::status::Status;
 use crate::stop::Stop;
 use aas_command::Refusal;
-use aas_model_text::NoMemory;
+use aas_model::NoMemory;
 use aas_outside::{Failed, Link, give_all};
 use itoa::Buffer;
 use std::alloc::Global;

@@ -1,4 +1,6 @@
 //! The commands of the program over any console: what each of them answers, and the exit status.
+//!
+//! Real consoles, sockets and files stand in `aasd`.
 #![tactic(auto)]
 
 mod command_line;

@@ -1,6 +1,6 @@
 // That a run succeeds where there is memory, and that a console which fails in mid-stream ends it.
 use crate::run;
-use aas_model_text::{Many, Text};
+use aas_model::{Many, Text};
 use aas_outside::MemLink;
 use std::alloc::Global;
 use std::test::Fail;

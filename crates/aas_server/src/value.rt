@@ -10,9 +10,8 @@ use aas_command::Refusal;
 use aas_constraints::check_element;
 use aas_json_members::Exact;
 use aas_json_read::read_element;
-use aas_model::{Element, Extent};
-use aas_model_text::NoMemory;
-use aas_value::{element_value, has_value_form};
+use aas_model::{Element, Extent, NoMemory};
+use aas_value::{has_value_form, value_form};
 use std::alloc::Global;
 
 /// The value form of the element that the input spells, as a line, or why there is none.
@@ -35,7 +34,7 @@ fn answer_element(alloc: Global, element: &Element) -> Result<Vec<u8>, Refusal>
     if let Some(fault) = check_element(alloc, element)? {
         return Err(Refusal::from(fault));
     }
-    let Some(form) = element_value(alloc, element, Extent::WithBlobValue)? else {
+    let Some(form) = value_form(alloc, element, Extent::WithBlobValue)? else {
         unreachable!()
     };
     Ok(line_of(alloc, &form)?)

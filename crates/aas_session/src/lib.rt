@@ -1,4 +1,6 @@
 //! Connections served: from the bytes of each to its replies, over any machine that answers requests.
+//!
+//! What a request comes to is the machine's own; real sockets and the commands of the program stand above.
 #![tactic(auto)]
 
 mod connection;

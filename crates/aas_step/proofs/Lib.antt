@@ -1,0 +1,3 @@
+mod Results
+mod Storable
+pub mod Validity

@@ -1,12 +1,11 @@
 -- Why a command is refused: for each command what of it isn't there or is there already, and then the faults of the documents that it makes. Causes are tried from
 -- the left, and the first that applies is the refusal. This profile's own rule.
-use Rattle.std.specs.Prelude.{ℕ, nat_lt, Bool, List, [], ◌∷◌, ◌++◌, length, Option, Some, None, option_map, flat_map, if◌then◌else◌}
+use Rattle.std.specs.Prelude.{ℕ, nat_lt, Bool, false, List, [], ◌∷◌, Option, Some, None, option_map, if◌then◌else◌}
 use Rattle.std.specs.Str.{encode_utf8_all}
 use Rattle.aas_model_names.specs.declared.collection.Collection.{Collection}
 use Rattle.aas_model_names.specs.declared.collection.Collection.TheVariants.{Shells, Submodels, Concepts}
 use Rattle.aas_constraint_rules.specs.Faults.{Document, shell, submodel, concept, faults_of}
 use Rattle.aas_reference.specs.Rules.{first}
-use Rattle.aas_path_trees.specs.Patched.{kinds_of_all}
 use Rattle.aas_command.specs.Refusals.{refusal_of_fault}
 use Rattle.aas_command.specs.declared.command.Command.{Command}
 use Rattle.aas_command.specs.declared.command.Command.TheVariants.{CreateShell, CreateSubmodel, CreateConcept, ReplaceShell, ReplaceSubmodel, ReplaceConcept, DeleteShell, DeleteSubmodel, DeleteConcept, SetAsset}
@@ -15,6 +14,7 @@ use Rattle.aas_command.specs.declared.refusal.Absent.TheVariants as absent
 use Rattle.aas_command.specs.declared.refusal.Refusal.{Refusal}
 use Rattle.aas_command.specs.declared.refusal.Refusal.TheVariants.{NotFound, Conflict, TooMany}
 use Rattle.aas_store.specs.Documents.{Documents, has}
+use Rattle.aas_store.specs.Storable.{element_count}
 
 -- a refusal, where it applies
 abbrev pub Cause : Type 0
@@ -67,9 +67,8 @@ abbrev pub element_limit : ℕ
 element_limit = 65536
 
 abbrev pub has_too_many : Document → Bool
-has_too_many (shell s) = nat_lt element_limit 0
-has_too_many (submodel s) = nat_lt element_limit (length (kinds_of_all s.kids))
-has_too_many (concept c) = nat_lt element_limit 0
+has_too_many (submodel s) = nat_lt element_limit (element_count s)
+has_too_many x = false
 
 -- its first fault, and then that it has too many elements
 abbrev pub document_causes : Document → List Cause

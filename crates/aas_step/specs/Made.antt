@@ -34,6 +34,11 @@ left d (DeleteSubmodel id) = without Submodels (encode_utf8_all id) d
 left d (DeleteConcept id) = without Concepts (encode_utf8_all id) d
 left d c = d
 
+abbrev pub id_of : Document → List ℕ
+id_of (shell s) = s.head.id
+id_of (submodel s) = s.head.id
+id_of (concept c) = c.head.id
+
 abbrev pub with_document : Documents → Document → Documents
 with_document d (shell s) = with_shell d s
 with_document d (submodel s) = with_submodel d s

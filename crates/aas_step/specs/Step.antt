@@ -1,5 +1,5 @@
--- What a command comes to in a repository: the first of its causes, or the documents that it makes. This profile's own rule.
-use Rattle.std.specs.Prelude.{◌≡◌, ℕ, List, [], ◌∷◌, ◌++◌, length, flat_map, Some, None}
+-- What a command comes to: the first of its causes, or the documents that it makes. This profile's own rule.
+use Rattle.std.specs.Prelude.{◌≡◌, ℕ, Bool, List, [], ◌∷◌, ◌++◌, length, flat_map, Some, None}
 use Rattle.aas_constraint_rules.specs.Faults.{Document}
 use Rattle.aas_command.specs.Commands.{payload_of}
 use Rattle.aas_command.specs.declared.command.Command.{Command}
@@ -19,16 +19,20 @@ result_of (Some refusal) d = refused refusal
 result_of None d = accepted d
 
 -- the faults of the new documents in their order, and then that there is no room to keep the command
-abbrev pub later_causes : Room → Repository Documents → Command → List Document → List Cause
-later_causes room r c new = flat_map document_causes new ++ unless (room r.records (length (payload_of c))) StorageFull ∷ []
+abbrev pub later_causes : Bool → List Document → List Cause
+later_causes has_room new = flat_map document_causes new ++ unless has_room StorageFull ∷ []
 
 -- by the first cause in what is there
-abbrev pub StepsBy : Cause → Room → Repository Documents → Command → Result → Type 0
-StepsBy (Some refusal) room r c result = result ≡ refused refusal
-StepsBy None room r c result =
-    (new : List Document) × IsMade r.documents c new
-    × (result ≡ result_of (first_of (later_causes room r c new)) (with_documents (left r.documents c) new))
+abbrev pub ComesBy : Cause → Bool → Documents → Command → Result → Type 0
+ComesBy (Some refusal) has_room d c result = result ≡ refused refusal
+ComesBy None has_room d c result =
+    (new : List Document) × IsMade d c new × (result ≡ result_of (first_of (later_causes has_room new)) (with_documents (left d c) new))
 
--- The causes are tried from the left; where none applies, the documents are as the command makes them.
+-- In these documents, where there is room to keep the command or not. The causes are tried from the left; where none applies, the documents are as the command
+-- makes them.
+unfoldable pub ComesTo : Bool → Documents → Command → Result → Type 0
+ComesTo has_room d c result = ComesBy (first_of (causes d c)) has_room d c result
+
+-- in a repository
 unfoldable pub Steps : Room → Repository Documents → Command → Result → Type 0
-Steps room r c result = StepsBy (first_of (causes r.documents c)) room r c result
+Steps room r c result = ComesTo (room r.records (length (payload_of c))) r.documents c result

@@ -1,11 +1,21 @@
 //! What a command comes to: why it is refused, or what it makes of the documents. Commands themselves and their payloads
-//! belong below, the code that takes them above.
+//! belong below, the code that takes them above. It has nothing to run: a law stands on a function that does nothing.
 
 #![tactic(auto)]
 
-ghost use Rattle.aas_step.specs.Laws.{OneResult};
+ghost use Rattle.aas_step.specs.Laws.{OneResult, StaysValid, ValidIsStorable};
 
 /// A command comes to one thing alone.
 pub fn commands_come_to_one_result()
     ensures { OneResult }
+{}
+
+/// A command that is accepted leaves every constraint true.
+pub fn documents_stay_valid()
+    ensures { StaysValid }
+{}
+
+/// A valid submodel has no level too deep and no name twice among siblings.
+pub fn valid_submodels_are_storable()
+    ensures { ValidIsStorable }
 {}

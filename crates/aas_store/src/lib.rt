@@ -1,6 +1,8 @@
 //! Stores: for each of the three collections a map from identifiers to documents.
 //!
 //! [`Store`] says what a store is, by the three maps that it holds; [`TreeStore`] is one that keeps trees.
+//!
+//! No constraint is checked here, and nothing is kept for a later run.
 
 #![tactic(auto)]
 

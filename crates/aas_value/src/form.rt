@@ -1,19 +1,19 @@
-ghost use Rattle.std.specs.Prelude.{◌≡◌, false, map, IfOk, IfSome, option_map};
+ghost use Rattle.std.specs.Prelude.{◌≡◌, false, map, IfOk, IfSome, OnOk, option_map};
 ghost use Rattle.serde_json.specs.View.{view};
 ghost use Rattle.serde_json.specs.Written.{has_float};
 ghost use Rattle.aas_json_members.specs.Exact.{data_of};
+ghost use Rattle.aas_json_members.specs.Object.{members_of};
 ghost use Rattle.aas_model_names.specs.declared.modifiers.Extent.{Extent};
 ghost use Rattle.aas_model.specs.declared.element.Element.{out-Element};
-ghost use Rattle.aas_value.specs.ValueForm.{child_of, value_form, submodel_value, named, in_order, annotation_value};
+ghost use Rattle.aas_value.specs.ValueForm.{child_of, value_form, submodel_value, named, in_order, put_child, annotation_value};
 
-use crate::children::{push_child, put_child};
 use crate::kinds::{
     annotated_value, blob_value, entity_members, event_value, file_value, languages_value,
     range_value, reference_or_null, relationship_value,
 };
 use crate::single::single_value;
 use aas_json_members::{Array, Exact, Object};
-use aas_model::{Element, Extent, Many, NoMemory, Payload, Submodel};
+use aas_model::{Element, Extent, Many, NoMemory, Payload, Submodel, Text};
 use serde_json::Value;
 use std::alloc::Global;
 
@@ -22,7 +22,7 @@ pub fn value_of(alloc: Global, element: &Element, extent: Extent) -> Result<Opti
     ensures form { IfOk result (λ found. option_map view found ≡ value_form extent element.now) }
     ensures no_float { IfOk result (λ found. IfSome found (λ value. has_float (view value) ≡ false)) }
 {
-    match element_value(alloc, element, extent)? {
+    match value_form(alloc, element, extent)? {
         Some(exact) => Ok(Some(exact.into_value())),
         None => Ok(None),
     }
@@ -43,7 +43,7 @@ pub fn value_of_submodel(
 /// The value form of an element, as a value whose text is known.
 #[cycle(value)]
 #[tactic(auto, using(crate::proofs::Forms::form_out))]
-pub fn element_value(
+pub fn value_form(
     alloc: Global,
     element: &Element,
     extent: Extent,
@@ -110,7 +110,7 @@ pub fn element_value(
 fn annotation(alloc: Global, kid: &Element, extent: Extent) -> Result<Option<Exact>, NoMemory>
     ensures { IfOk result (λ found. option_map data_of found ≡ (annotation_value (child_of extent kid.now)).form) }
 {
-    match element_value(alloc, kid, extent)? {
+    match value_form(alloc, kid, extent)? {
         Some(value) => {
             let mut object = Object::new(alloc);
             put_child(&mut object, alloc, &kid.common.id_short, Some(value))?;
@@ -128,7 +128,7 @@ fn named_values(alloc: Global, kids: &Many<Element>, extent: Extent) -> Result<E
 {
     let mut object = Object::new(alloc);
     for kid in kids.as_slice() {
-        let value = element_value(alloc, kid, extent)?;
+        let value = value_form(alloc, kid, extent)?;
         put_child(&mut object, alloc, &kid.common.id_short, value)?;
     }
     Ok(object.close())
@@ -141,7 +141,7 @@ fn ordered_values(alloc: Global, kids: &Many<Element>, extent: Extent) -> Result
 {
     let mut array = Array::new(alloc);
     for kid in kids.as_slice() {
-        push_child(&mut array, element_value(alloc, kid, extent)?)?;
+        array.push_some(value_form(alloc, kid, extent)?)?;
     }
     Ok(array.close())
 }
@@ -153,7 +153,22 @@ fn annotation_values(alloc: Global, kids: &Many<Element>, extent: Extent) -> Res
 {
     let mut array = Array::new(alloc);
     for kid in kids.as_slice() {
-        push_child(&mut array, annotation(alloc, kid, extent)?)?;
+        array.push_some(annotation(alloc, kid, extent)?)?;
     }
     Ok(array.close())
+}
+
+/// Puts the value form of a child under its name, where it has both.
+fn put_child(
+    object: &mut Object,
+    alloc: Global,
+    name: &Option<Text>,
+    value: Option<Exact>,
+) -> Result<(), NoMemory>
+    ensures { OnOk result (members_of object.new ≡ put_child name.now (option_map data_of value) (members_of object.old)) }
+{
+    match name {
+        Some(name) => object.put(alloc, name.as_str(), value),
+        None => Ok(()),
+    }
 }

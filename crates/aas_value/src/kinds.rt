@@ -9,7 +9,8 @@ ghost use Rattle.aas_value.specs.ValueForm.{array_of, text_or_null, reference_or
 
 use crate::single::single_value;
 use aas_json_members::{Array, Exact, Object, Written, text_value, word_value};
-use aas_json_write::SpecificAssetIds;
+use aas_json_parts::SpecificAssetIds;
+use aas_json_table::name;
 use aas_model::{
     EntityType, Extent, LangText, Many, NoMemory, Reference, SpecificAssetId, Text, ValueType,
 };
@@ -83,8 +84,16 @@ pub(crate) fn range_value(
     ensures { IfOk result (λ exact. data_of exact ≡ object (member (codes "max") (single value_type max.now) (member (codes "min") (single value_type min.now) no_members))) }
 {
     let mut object = Object::new(alloc);
-    object.put(alloc, "max", Some(single_value(alloc, value_type, max)?))?;
-    object.put(alloc, "min", Some(single_value(alloc, value_type, min)?))?;
+    object.put(
+        alloc,
+        name::MAX,
+        Some(single_value(alloc, value_type, max)?),
+    )?;
+    object.put(
+        alloc,
+        name::MIN,
+        Some(single_value(alloc, value_type, min)?),
+    )?;
     Ok(object.close())
 }
 
@@ -98,10 +107,10 @@ pub(crate) fn file_value(
     let mut object = Object::new(alloc);
     object.put(
         alloc,
-        "contentType",
+        name::CONTENT_TYPE,
         Some(text_or_null(alloc, content_type)?),
     )?;
-    object.put(alloc, "value", Some(text_or_null(alloc, value)?))?;
+    object.put(alloc, name::VALUE, Some(text_or_null(alloc, value)?))?;
     Ok(object.close())
 }
 
@@ -125,7 +134,7 @@ fn content_type_value(alloc: Global, content_type: &Option<Text>) -> Result<Exac
     let mut object = Object::new(alloc);
     object.put(
         alloc,
-        "contentType",
+        name::CONTENT_TYPE,
         Some(text_or_null(alloc, content_type)?),
     )?;
     Ok(object.close())
@@ -139,8 +148,8 @@ pub(crate) fn relationship_value(
     ensures { IfOk result (λ exact. data_of exact ≡ object (member (codes "first") (reference_or_null first.now) (member (codes "second") (reference_or_null second.now) no_members))) }
 {
     let mut object = Object::new(alloc);
-    object.put(alloc, "first", Some(reference_or_null(alloc, first)?))?;
-    object.put(alloc, "second", Some(reference_or_null(alloc, second)?))?;
+    object.put(alloc, name::FIRST, Some(reference_or_null(alloc, first)?))?;
+    object.put(alloc, name::SECOND, Some(reference_or_null(alloc, second)?))?;
     Ok(object.close())
 }
 
@@ -154,9 +163,9 @@ pub(crate) fn annotated_value(
         (member (codes "first") (reference_or_null first.now) (member (codes "second") (reference_or_null second.now) no_members)))) }
 {
     let mut object = Object::new(alloc);
-    object.put(alloc, "annotations", Some(annotations))?;
-    object.put(alloc, "first", Some(reference_or_null(alloc, first)?))?;
-    object.put(alloc, "second", Some(reference_or_null(alloc, second)?))?;
+    object.put(alloc, name::ANNOTATIONS, Some(annotations))?;
+    object.put(alloc, name::FIRST, Some(reference_or_null(alloc, first)?))?;
+    object.put(alloc, name::SECOND, Some(reference_or_null(alloc, second)?))?;
     Ok(object.close())
 }
 
@@ -164,7 +173,11 @@ pub(crate) fn event_value(alloc: Global, observed: &Option<Reference>) -> Result
     ensures { IfOk result (λ exact. data_of exact ≡ object (member (codes "observed") (reference_or_null observed.now) no_members)) }
 {
     let mut object = Object::new(alloc);
-    object.put(alloc, "observed", Some(reference_or_null(alloc, observed)?))?;
+    object.put(
+        alloc,
+        name::OBSERVED,
+        Some(reference_or_null(alloc, observed)?),
+    )?;
     Ok(object.close())
 }
 
@@ -182,20 +195,20 @@ pub(crate) fn entity_members(
     let mut object = Object::new(alloc);
     object.put(
         alloc,
-        "entityType",
+        name::ENTITY_TYPE,
         Some(entity_type_or_null(alloc, entity_type)?),
     )?;
     object.put(
         alloc,
-        "globalAssetId",
+        name::GLOBAL_ASSET_ID,
         Some(text_or_null(alloc, global_asset_id)?),
     )?;
     object.put(
         alloc,
-        "specificAssetIds",
+        name::SPECIFIC_ASSET_IDS,
         Some(specific_asset_ids_value(alloc, specific_asset_ids)?),
     )?;
-    object.put(alloc, "statements", Some(statements))?;
+    object.put(alloc, name::STATEMENTS, Some(statements))?;
     Ok(object.close())
 }
 

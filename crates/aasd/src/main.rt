@@ -1,10 +1,12 @@
 //! `aasd`: the commands of `aas_server` on the console.
+//!
+//! Nothing is decided here: the real ends stand here, and what they tell is trusted.
 #![tactic(auto)]
 
 mod console;
 
-use aas_server::{Status, run};
 use aas_model_text::{Many, NoMemory, Text};
+use aas_server::{Status, run};
 use console::ConsoleLink;
 use std::env;
 use std::io::ErrorKind;

@@ -9,13 +9,14 @@ use super::common::{
     ID, ID_SHORT, MODEL_TYPE, QUALIFIERS, SEMANTIC_ID, SUPPLEMENTAL_SEMANTIC_IDS,
 };
 use super::{Class, Names, Row, Sort};
+use crate::name;
 
 /// AssetAdministrationShell.
 static SHELL: [Row; 12] = [
     ADMINISTRATION,
-    required!("assetInformation", One(Sort::AssetInformation)),
+    required!(name::ASSET_INFORMATION, One(Sort::AssetInformation)),
     CATEGORY,
-    optional!("derivedFrom", One(Sort::Reference)),
+    optional!(name::DERIVED_FROM, One(Sort::Reference)),
     DESCRIPTION,
     DISPLAY_NAME,
     EMBEDDED_DATA_SPECIFICATIONS,
@@ -23,7 +24,7 @@ static SHELL: [Row; 12] = [
     ID,
     ID_SHORT,
     MODEL_TYPE,
-    optional!("submodels", Many(Sort::Reference)),
+    optional!(name::SUBMODELS, Many(Sort::Reference)),
 ];
 
 /// Submodel.
@@ -36,11 +37,11 @@ static SUBMODEL: [Row; 14] = [
     EXTENSIONS,
     ID,
     ID_SHORT,
-    optional!("kind", Word(Names::ModellingKinds)),
+    optional!(name::KIND, Word(Names::ModellingKinds)),
     MODEL_TYPE,
     QUALIFIERS,
     SEMANTIC_ID,
-    optional!("submodelElements", Many(Sort::Element), Class::V),
+    optional!(name::SUBMODEL_ELEMENTS, Many(Sort::Element), Class::V),
     SUPPLEMENTAL_SEMANTIC_IDS,
 ];
 
@@ -54,7 +55,7 @@ static CONCEPT: [Row; 10] = [
     EXTENSIONS,
     ID,
     ID_SHORT,
-    optional!("isCaseOf", Many(Sort::Reference)),
+    optional!(name::IS_CASE_OF, Many(Sort::Reference)),
     MODEL_TYPE,
 ];
 

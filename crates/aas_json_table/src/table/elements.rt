@@ -11,6 +11,7 @@ use super::common::{
     MODEL_TYPE, QUALIFIERS, SEMANTIC_ID, SUPPLEMENTAL_SEMANTIC_IDS,
 };
 use super::{Class, Names, Row, Sort};
+use crate::name;
 use aas_model_names::{Kind, Named};
 
 /// Property.
@@ -25,9 +26,9 @@ static PROPERTY: [Row; 13] = [
     QUALIFIERS,
     SEMANTIC_ID,
     SUPPLEMENTAL_SEMANTIC_IDS,
-    optional!("value", Text, Class::V),
-    optional!("valueId", One(Sort::Reference)),
-    required!("valueType", Word(Names::ValueTypes)),
+    optional!(name::VALUE, Text, Class::V),
+    optional!(name::VALUE_ID, One(Sort::Reference)),
+    required!(name::VALUE_TYPE, Word(Names::ValueTypes)),
 ];
 
 /// MultiLanguageProperty.
@@ -42,8 +43,8 @@ static MULTI_LANGUAGE_PROPERTY: [Row; 12] = [
     QUALIFIERS,
     SEMANTIC_ID,
     SUPPLEMENTAL_SEMANTIC_IDS,
-    optional!("value", Many(Sort::LangText), Class::V),
-    optional!("valueId", One(Sort::Reference)),
+    optional!(name::VALUE, Many(Sort::LangText), Class::V),
+    optional!(name::VALUE_ID, One(Sort::Reference)),
 ];
 
 /// Range.
@@ -54,19 +55,19 @@ static RANGE: [Row; 13] = [
     EMBEDDED_DATA_SPECIFICATIONS,
     EXTENSIONS,
     ID_SHORT,
-    optional!("max", Text, Class::V),
-    optional!("min", Text, Class::V),
+    optional!(name::MAX, Text, Class::V),
+    optional!(name::MIN, Text, Class::V),
     MODEL_TYPE,
     QUALIFIERS,
     SEMANTIC_ID,
     SUPPLEMENTAL_SEMANTIC_IDS,
-    required!("valueType", Word(Names::ValueTypes)),
+    required!(name::VALUE_TYPE, Word(Names::ValueTypes)),
 ];
 
 /// File.
 static FILE: [Row; 12] = [
     CATEGORY,
-    required!("contentType", Text, Class::V),
+    required!(name::CONTENT_TYPE, Text, Class::V),
     DESCRIPTION,
     DISPLAY_NAME,
     EMBEDDED_DATA_SPECIFICATIONS,
@@ -76,13 +77,13 @@ static FILE: [Row; 12] = [
     QUALIFIERS,
     SEMANTIC_ID,
     SUPPLEMENTAL_SEMANTIC_IDS,
-    optional!("value", Text, Class::V),
+    optional!(name::VALUE, Text, Class::V),
 ];
 
 /// Blob.
 static BLOB: [Row; 12] = [
     CATEGORY,
-    required!("contentType", Text, Class::V),
+    required!(name::CONTENT_TYPE, Text, Class::V),
     DESCRIPTION,
     DISPLAY_NAME,
     EMBEDDED_DATA_SPECIFICATIONS,
@@ -92,7 +93,7 @@ static BLOB: [Row; 12] = [
     QUALIFIERS,
     SEMANTIC_ID,
     SUPPLEMENTAL_SEMANTIC_IDS,
-    optional!("value", Text, Class::V),
+    optional!(name::VALUE, Text, Class::V),
 ];
 
 /// ReferenceElement.
@@ -107,7 +108,7 @@ static REFERENCE_ELEMENT: [Row; 11] = [
     QUALIFIERS,
     SEMANTIC_ID,
     SUPPLEMENTAL_SEMANTIC_IDS,
-    optional!("value", One(Sort::Reference), Class::V),
+    optional!(name::VALUE, One(Sort::Reference), Class::V),
 ];
 
 /// RelationshipElement.
@@ -117,28 +118,28 @@ static RELATIONSHIP_ELEMENT: [Row; 12] = [
     DISPLAY_NAME,
     EMBEDDED_DATA_SPECIFICATIONS,
     EXTENSIONS,
-    required!("first", One(Sort::Reference), Class::V),
+    required!(name::FIRST, One(Sort::Reference), Class::V),
     ID_SHORT,
     MODEL_TYPE,
     QUALIFIERS,
-    required!("second", One(Sort::Reference), Class::V),
+    required!(name::SECOND, One(Sort::Reference), Class::V),
     SEMANTIC_ID,
     SUPPLEMENTAL_SEMANTIC_IDS,
 ];
 
 /// AnnotatedRelationshipElement.
 static ANNOTATED_RELATIONSHIP_ELEMENT: [Row; 13] = [
-    optional!("annotations", Many(Sort::DataElement), Class::V),
+    optional!(name::ANNOTATIONS, Many(Sort::DataElement), Class::V),
     CATEGORY,
     DESCRIPTION,
     DISPLAY_NAME,
     EMBEDDED_DATA_SPECIFICATIONS,
     EXTENSIONS,
-    required!("first", One(Sort::Reference), Class::V),
+    required!(name::FIRST, One(Sort::Reference), Class::V),
     ID_SHORT,
     MODEL_TYPE,
     QUALIFIERS,
-    required!("second", One(Sort::Reference), Class::V),
+    required!(name::SECOND, One(Sort::Reference), Class::V),
     SEMANTIC_ID,
     SUPPLEMENTAL_SEMANTIC_IDS,
 ];
@@ -149,15 +150,19 @@ static ENTITY: [Row; 14] = [
     DESCRIPTION,
     DISPLAY_NAME,
     EMBEDDED_DATA_SPECIFICATIONS,
-    required!("entityType", Word(Names::EntityTypes), Class::V),
+    required!(name::ENTITY_TYPE, Word(Names::EntityTypes), Class::V),
     EXTENSIONS,
-    optional!("globalAssetId", Text, Class::V),
+    optional!(name::GLOBAL_ASSET_ID, Text, Class::V),
     ID_SHORT,
     MODEL_TYPE,
     QUALIFIERS,
     SEMANTIC_ID,
-    optional!("specificAssetIds", Many(Sort::SpecificAssetId), Class::V),
-    optional!("statements", Many(Sort::Element), Class::V),
+    optional!(
+        name::SPECIFIC_ASSET_IDS,
+        Many(Sort::SpecificAssetId),
+        Class::V
+    ),
+    optional!(name::STATEMENTS, Many(Sort::Element), Class::V),
     SUPPLEMENTAL_SEMANTIC_IDS,
 ];
 
@@ -165,21 +170,21 @@ static ENTITY: [Row; 14] = [
 static BASIC_EVENT_ELEMENT: [Row; 18] = [
     CATEGORY,
     DESCRIPTION,
-    required!("direction", Word(Names::Directions)),
+    required!(name::DIRECTION, Word(Names::Directions)),
     DISPLAY_NAME,
     EMBEDDED_DATA_SPECIFICATIONS,
     EXTENSIONS,
     ID_SHORT,
-    optional!("lastUpdate", Text),
-    optional!("maxInterval", Text),
-    optional!("messageBroker", One(Sort::Reference)),
-    optional!("messageTopic", Text),
-    optional!("minInterval", Text),
+    optional!(name::LAST_UPDATE, Text),
+    optional!(name::MAX_INTERVAL, Text),
+    optional!(name::MESSAGE_BROKER, One(Sort::Reference)),
+    optional!(name::MESSAGE_TOPIC, Text),
+    optional!(name::MIN_INTERVAL, Text),
     MODEL_TYPE,
-    required!("observed", One(Sort::Reference), Class::V),
+    required!(name::OBSERVED, One(Sort::Reference), Class::V),
     QUALIFIERS,
     SEMANTIC_ID,
-    required!("state", Word(Names::StatesOfEvent)),
+    required!(name::STATE, Word(Names::StatesOfEvent)),
     SUPPLEMENTAL_SEMANTIC_IDS,
 ];
 
@@ -205,10 +210,22 @@ static OPERATION: [Row; 13] = [
     EMBEDDED_DATA_SPECIFICATIONS,
     EXTENSIONS,
     ID_SHORT,
-    optional!("inoutputVariables", Many(Sort::OperationVariable), Class::V),
-    optional!("inputVariables", Many(Sort::OperationVariable), Class::V),
+    optional!(
+        name::INOUTPUT_VARIABLES,
+        Many(Sort::OperationVariable),
+        Class::V
+    ),
+    optional!(
+        name::INPUT_VARIABLES,
+        Many(Sort::OperationVariable),
+        Class::V
+    ),
     MODEL_TYPE,
-    optional!("outputVariables", Many(Sort::OperationVariable), Class::V),
+    optional!(
+        name::OUTPUT_VARIABLES,
+        Many(Sort::OperationVariable),
+        Class::V
+    ),
     QUALIFIERS,
     SEMANTIC_ID,
     SUPPLEMENTAL_SEMANTIC_IDS,
@@ -226,7 +243,7 @@ static SUBMODEL_ELEMENT_COLLECTION: [Row; 11] = [
     QUALIFIERS,
     SEMANTIC_ID,
     SUPPLEMENTAL_SEMANTIC_IDS,
-    optional!("value", Many(Sort::Element), Class::V),
+    optional!(name::VALUE, Many(Sort::Element), Class::V),
 ];
 
 /// SubmodelElementList.
@@ -238,14 +255,14 @@ static SUBMODEL_ELEMENT_LIST: [Row; 15] = [
     EXTENSIONS,
     ID_SHORT,
     MODEL_TYPE,
-    optional!("orderRelevant", Flag),
+    optional!(name::ORDER_RELEVANT, Flag),
     QUALIFIERS,
     SEMANTIC_ID,
-    optional!("semanticIdListElement", One(Sort::Reference)),
+    optional!(name::SEMANTIC_ID_LIST_ELEMENT, One(Sort::Reference)),
     SUPPLEMENTAL_SEMANTIC_IDS,
-    required!("typeValueListElement", Word(Names::ElementNames)),
-    optional!("value", Many(Sort::Element), Class::V),
-    optional!("valueTypeListElement", Word(Names::ValueTypes)),
+    required!(name::TYPE_VALUE_LIST_ELEMENT, Word(Names::ElementNames)),
+    optional!(name::VALUE, Many(Sort::Element), Class::V),
+    optional!(name::VALUE_TYPE_LIST_ELEMENT, Word(Names::ValueTypes)),
 ];
 
 /// The rows of a submodel element whose kind has this name.

@@ -1,0 +1,153 @@
+// Documents, and elements, as examples read and write them. What is done with one is generic, so that it is proved once for all of them.
+ghost use Rattle.std.specs.Prelude.{◌≡◌, Bool, true, IfOk};
+
+use crate::text::{done, text, text_of};
+use aas_command::Refusal;
+use aas_json_input::read_value;
+use aas_json_read::{
+    read_asset_information, read_concept, read_element, read_environment, read_shell, read_submodel,
+};
+use aas_json_write::{
+    write_asset_information, write_concept, write_element, write_environment, write_shell,
+    write_submodel,
+};
+use aas_model::{
+    AssetInformation, Concept, Duplicate, Element, Environment, NoMemory, ReadFault, Shell,
+    Submodel,
+};
+use std::alloc::Global;
+
+/// A document or element that is read from JSON and written as JSON.
+pub(crate) trait Document: Duplicate {
+    /// Whether it can be written: the names in its kept data are distinct and rise.
+    ghost in_order: { Self → Bool };
+
+    /// The one that the JSON text spells; an element stands at level 1.
+    fn read(alloc: Global, json: &str) -> Result<Self, ReadFault>
+        ensures order { IfOk result (λ read. in_order read ≡ true) };
+
+    /// Appends its canonical text.
+    fn write(&self, alloc: Global, out: &mut Vec<u8>) -> Result<(), NoMemory>
+        requires { in_order self.now ≡ true };
+}
+
+impl Document for Shell {
+    ghost use Rattle.aas_json_write.specs.Order.{shell_in_order};
+
+    ghost in_order = { shell_in_order };
+
+    #[tactic(auto, using(crate::proofs::Read::shell_read))]
+    fn read(alloc: Global, json: &str) -> Result<Shell, ReadFault> {
+        read_shell(alloc, json.as_bytes())
+    }
+
+    fn write(&self, alloc: Global, out: &mut Vec<u8>) -> Result<(), NoMemory> {
+        write_shell(alloc, self, out)
+    }
+}
+
+impl Document for Submodel {
+    ghost use Rattle.aas_json_write.specs.Order.{submodel_in_order};
+
+    ghost in_order = { submodel_in_order };
+
+    #[tactic(auto, using(crate::proofs::Read::submodel_read))]
+    fn read(alloc: Global, json: &str) -> Result<Submodel, ReadFault> {
+        read_submodel(alloc, json.as_bytes())
+    }
+
+    fn write(&self, alloc: Global, out: &mut Vec<u8>) -> Result<(), NoMemory> {
+        write_submodel(alloc, self, out)
+    }
+}
+
+impl Document for Concept {
+    ghost use Rattle.aas_json_write.specs.Order.{concept_in_order};
+
+    ghost in_order = { concept_in_order };
+
+    #[tactic(auto, using(crate::proofs::Read::concept_read))]
+    fn read(alloc: Global, json: &str) -> Result<Concept, ReadFault> {
+        read_concept(alloc, json.as_bytes())
+    }
+
+    fn write(&self, alloc: Global, out: &mut Vec<u8>) -> Result<(), NoMemory> {
+        write_concept(alloc, self, out)
+    }
+}
+
+impl Document for Environment {
+    ghost use Rattle.aas_json_write.specs.Order.{environment_in_order};
+
+    ghost in_order = { environment_in_order };
+
+    #[tactic(auto, using(crate::proofs::Read::environment_read))]
+    fn read(alloc: Global, json: &str) -> Result<Environment, ReadFault> {
+        read_environment(alloc, json.as_bytes())
+    }
+
+    fn write(&self, alloc: Global, out: &mut Vec<u8>) -> Result<(), NoMemory> {
+        write_environment(alloc, self, out)
+    }
+}
+
+impl Document for Element {
+    ghost use Rattle.aas_json_write.specs.Order.{element_in_order};
+
+    ghost in_order = { element_in_order };
+
+    #[tactic(auto, using(crate::proofs::Read::element_read))]
+    fn read(alloc: Global, json: &str) -> Result<Element, ReadFault> {
+        read_element(alloc, json.as_bytes(), 1)
+    }
+
+    fn write(&self, alloc: Global, out: &mut Vec<u8>) -> Result<(), NoMemory> {
+        write_element(alloc, self, out)
+    }
+}
+
+impl Document for AssetInformation {
+    ghost use Rattle.std.specs.Prelude.{true};
+
+    ghost in_order = { λ _. true };
+
+    fn read(alloc: Global, json: &str) -> Result<AssetInformation, ReadFault> {
+        read_asset_information(alloc, json.as_bytes())
+    }
+
+    fn write(&self, alloc: Global, out: &mut Vec<u8>) -> Result<(), NoMemory> {
+        write_asset_information(alloc, self, out)
+    }
+}
+
+/// What a copy of the document is written as: `as sent` where that is the JSON value that was sent, with its members in byte order.
+pub(crate) fn written<D: Document>(alloc: Global, json: &str) -> Result<String, Refusal> {
+    let document = D::read(alloc, json)?;
+    as_sent(alloc, json, copy_written(alloc, &document)?)
+}
+
+fn copy_written<D: Document>(alloc: Global, document: &D) -> Result<Vec<u8>, NoMemory>
+    requires { D.in_order document.now ≡ true }
+{
+    let copy = document.copy()?;
+    let mut out = Vec::new(alloc);
+    copy.write(alloc, &mut out)?;
+    Ok(out)
+}
+
+/// What was written, or `as sent` where it is the compact text of the JSON value.
+pub(crate) fn as_sent(alloc: Global, json: &str, written: Vec<u8>) -> Result<String, Refusal> {
+    let sent = read_value(alloc, json.as_bytes())?.to_vec(alloc)?;
+    if sent == written {
+        Ok(text(alloc, "as sent")?)
+    } else {
+        Ok(text_of(alloc, written)?)
+    }
+}
+
+/// Reads an element that stands at this level.
+pub(crate) fn read_at_level(alloc: Global, level: &str, json: &str) -> Result<String, Refusal> {
+    let level = level.parse().unwrap_or(u32::MAX);
+    done(read_element(alloc, json.as_bytes(), level))?;
+    Ok(text(alloc, "read")?)
+}

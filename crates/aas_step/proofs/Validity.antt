@@ -1,0 +1,146 @@
+-- What a command that is accepted makes of valid documents is valid.
+use Rattle.std.proofs.Common.{◌≡◌, Bool, true, false, cond, List, [], ◌∷◌, ◌++◌, Option, Some, None, refl, sym, ap, ◌∙◌, subst, Ordering, Less, Equal, Greater}
+use Rattle.std.specs.Prelude.{ℕ, ◌&&◌, flat_map, option_map}
+use Rattle.std.specs.FinMap as map
+use Rattle.std.specs.FinMap.{get-insert, get-remove, slice_cmp-IsAntisymmetric, nat_cmp-IsAntisymmetric}
+use Rattle.std.specs.List.{AllByRecursion, list_all}
+use Rattle.std.specs.Option.{option_map_or}
+use Rattle.std.specs.Ordering.{nat_cmp, is_eq}
+use Rattle.std.specs.Cmp.Lexicographic.{slice_cmp, nat_list_cmp_total}
+use Rattle.std.specs.Str.{encode_utf8_all}
+use Rattle.std.proofs.lemmas.Bool.{and_parts}
+use Rattle.aas_json_table.specs.TooDeep.{limits}
+use Rattle.aas_reference.specs.Rules.{first}
+use Rattle.aas_reference.specs.Whole.{is_whole, whole_if_there}
+use Rattle.aas_json_mapping.specs.Whole.{is_whole_shell, whole_asset_information, whole_head}
+use Rattle.aas_model.specs.declared.asset.AssetInformation.{AssetInformation}
+use Rattle.aas_model.specs.declared.documents.Shell.{Shell}
+use Rattle.aas_model.specs.declared.path.Fault.{Fault}
+use Rattle.aas_model_names.specs.declared.collection.Collection.TheVariants.{Shells, Submodels, Concepts}
+use Rattle.aas_constraint_laws.specs.Valid as valid
+use Rattle.aas_constraint_rules.specs.Faults.{Document, shell, submodel, concept, faults_of}
+use Rattle.aas_command.specs.Commands.{IsWellFormed}
+use Rattle.aas_command.specs.Refusals.{refusal_of_fault}
+use Rattle.aas_command.specs.declared.command.Command.{Command}
+use Rattle.aas_command.specs.declared.command.Command.TheVariants.{CreateShell, CreateSubmodel, CreateConcept, ReplaceShell, ReplaceSubmodel, ReplaceConcept, DeleteShell, DeleteSubmodel, DeleteConcept, SetAsset}
+use Rattle.aas_command.specs.declared.refusal.Refusal.TheVariants.{TooMany}
+use Rattle.aas_store.specs.Documents.{Documents, Identifier, Map, without}
+use Rattle.aas_step.specs.Causes.{Cause, causes, document_causes, first_of, has_too_many, when}
+use Rattle.aas_step.specs.Laws.{StaysValid}
+use Rattle.aas_step.specs.Made.{IsMade, changed_shell, id_of, left, with_document, with_documents}
+use Rattle.aas_step.specs.Step.{Result, accepted, result_of, later_causes, ComesBy, ComesTo}
+use Rattle.aas_step.specs.Valid.{AreValid, IsValidAt}
+
+-- ---- causes
+
+none_in_first : (os more : List Cause) → first_of (os ++ more) ≡ None → first_of os ≡ None
+none_in_first [] more e = refl
+none_in_first (None ∷ os) more e = none_in_first os more e
+none_in_first (Some why ∷ os) more e = absurd (cc)
+
+none_in_second : (os more : List Cause) → first_of (os ++ more) ≡ None → first_of more ≡ None
+none_in_second [] more e = e
+none_in_second (None ∷ os) more e = none_in_second os more e
+none_in_second (Some why ∷ os) more e = absurd (cc)
+
+no_cause : (faults : List Fault) (many : Bool) → first_of (option_map refusal_of_fault (first faults) ∷ when many TooMany ∷ []) ≡ None → (faults ≡ []) × (many ≡ false)
+no_cause [] true e = absurd (cc)
+no_cause [] false e = (refl, refl)
+no_cause (f ∷ fs) many e = absurd (cc)
+
+-- ---- maps
+
+same_key : (o : Ordering) → is_eq o ≡ true → o ≡ Equal
+same_key Less e = absurd (cc)
+same_key Equal e = refl
+same_key Greater e = absurd (cc)
+
+-- each document of a map is valid
+abbrev AllAt : {X : Type 0} → (X → Document) → Map X → Type 0
+AllAt {X = X} wrap m = (id : Identifier) (x : X) → map.get m id ≡ Some x → IsValidAt id (wrap x)
+
+all_put : {X : Type 0} (wrap : X → Document) (m : Map X) (own : Identifier) (x : X) → AllAt wrap m → IsValidAt own (wrap x) → AllAt wrap (map.insert m own x)
+all_put {X = X} wrap m own x all at id y there = by_key (is_eq (slice_cmp nat_cmp id own)) refl (sym (get-insert nat_list_cmp_total m own x id) ∙ there)
+  where
+    by_key : (b : Bool) → is_eq (slice_cmp nat_cmp id own) ≡ b → cond b (Some x) (map.get m id) ≡ Some y → IsValidAt id (wrap y)
+    by_key true is e =
+        let key : id ≡ own = slice_cmp-IsAntisymmetric nat_cmp-IsAntisymmetric id own (same_key (slice_cmp nat_cmp id own) is) in
+        let same : x ≡ y = cc in
+        subst (λ (k : Identifier). IsValidAt k (wrap y)) (sym key) (subst (λ (z : X). IsValidAt own (wrap z)) same at)
+    by_key false is e = all id y e
+
+all_left : {X : Type 0} (wrap : X → Document) (m : Map X) (gone : Identifier) → AllAt wrap m → AllAt wrap (map.remove m gone)
+all_left {X = X} wrap m gone all id y there = by_key (is_eq (slice_cmp nat_cmp id gone)) (sym (get-remove nat_list_cmp_total m gone id) ∙ there)
+  where
+    by_key : (b : Bool) → cond b None (map.get m id) ≡ Some y → IsValidAt id (wrap y)
+    by_key true e = absurd (cc)
+    by_key false e = all id y e
+
+-- ---- documents
+
+put_valid : (d : Documents) (x : Document) → AreValid d → IsValidAt (encode_utf8_all (id_of x)) x → AreValid (with_document d x)
+put_valid d (shell s) all at = record { shells = all_put shell d.shells (encode_utf8_all s.head.id) s all.shells at; submodels = all.submodels; concepts = all.concepts }
+put_valid d (submodel s) all at = record { shells = all.shells; submodels = all_put submodel d.submodels (encode_utf8_all s.head.id) s all.submodels at; concepts = all.concepts }
+put_valid d (concept c) all at = record { shells = all.shells; submodels = all.submodels; concepts = all_put concept d.concepts (encode_utf8_all c.head.id) c all.concepts at }
+
+abbrev IsWhole : Document → Type 0
+IsWhole x = valid.is_whole x ≡ true
+
+puts_valid : (new : List Document) (d : Documents) → AreValid d → AllByRecursion IsWhole new → first_of (flat_map document_causes new) ≡ None → AreValid (with_documents d new)
+puts_valid [] d all whole e = all
+puts_valid (x ∷ xs) d all whole e =
+    let clear = no_cause (faults_of x) (has_too_many x) (none_in_first (document_causes x) (flat_map document_causes xs) e) in
+    let at : IsValidAt (encode_utf8_all (id_of x)) x = record { own = refl; valid = record { whole = whole.0; faultless = clear.0 }; few = clear.1 } in
+    puts_valid xs (with_document d x) (put_valid d x all at) whole.1 (none_in_second (document_causes x) (flat_map document_causes xs) e)
+
+left_valid : (d : Documents) (c : Command) → AreValid d → AreValid (left d c)
+left_valid d (DeleteShell id) all = record { shells = all_left shell d.shells (encode_utf8_all id) all.shells; submodels = all.submodels; concepts = all.concepts }
+left_valid d (DeleteSubmodel id) all = record { shells = all.shells; submodels = all_left submodel d.submodels (encode_utf8_all id) all.submodels; concepts = all.concepts }
+left_valid d (DeleteConcept id) all = record { shells = all.shells; submodels = all.submodels; concepts = all_left concept d.concepts (encode_utf8_all id) all.concepts }
+left_valid d c all = all
+
+-- ---- what is made is whole
+
+-- a whole shell with other whole asset information
+pub whole_with_asset : (s : Shell) (a : AssetInformation) → is_whole_shell limits s ≡ true → whole_asset_information limits a ≡ true → is_whole_shell limits (record s { asset = a }) ≡ true
+whole_with_asset s a whole new =
+    let head : Bool = whole_head limits s.head && whole_if_there limits s.derived_from in
+    let behind : Bool = list_all (is_whole limits) s.submodels in
+    let old = (and_parts head (whole_asset_information limits s.asset) (and_parts (head && whole_asset_information limits s.asset) behind whole).0).1 in
+    ap (λ b. head && b && behind) (new ∙ sym old) ∙ whole
+
+changed_whole : (d : Documents) (id : Identifier) (a : AssetInformation) (found : Option Shell) → AreValid d → whole_asset_information limits a ≡ true → map.get d.shells id ≡ found
+    → AllByRecursion IsWhole (option_map_or (λ (s : Shell). shell (record s { asset = a }) ∷ []) found [])
+changed_whole d id a None all whole is = tt
+changed_whole d id a (Some s) all whole is = (whole_with_asset s a (all.shells id s is).valid.whole whole, tt)
+
+new_whole : (d : Documents) (c : Command) (new : List Document) → IsWellFormed c → AreValid d → IsMade d c new → AllByRecursion IsWhole new
+unfolding IsWellFormed
+new_whole d (CreateShell s) new whole all made = subst (AllByRecursion IsWhole) (sym made) (whole, tt)
+new_whole d (CreateSubmodel s) new whole all made = subst (AllByRecursion IsWhole) (sym made) (whole, tt)
+new_whole d (CreateConcept c) new whole all made = subst (AllByRecursion IsWhole) (sym made) (whole, tt)
+new_whole d (ReplaceShell s) new whole all made = subst (AllByRecursion IsWhole) (sym made) (whole, tt)
+new_whole d (ReplaceSubmodel s) new whole all made = subst (AllByRecursion IsWhole) (sym made) (whole, tt)
+new_whole d (ReplaceConcept c) new whole all made = subst (AllByRecursion IsWhole) (sym made) (whole, tt)
+new_whole d (DeleteShell id) new whole all made = subst (AllByRecursion IsWhole) (sym made) tt
+new_whole d (DeleteSubmodel id) new whole all made = subst (AllByRecursion IsWhole) (sym made) tt
+new_whole d (DeleteConcept id) new whole all made = subst (AllByRecursion IsWhole) (sym made) tt
+new_whole d (SetAsset id a) new whole all made =
+    subst (AllByRecursion IsWhole) (sym made) (changed_whole d (encode_utf8_all id) a (map.get d.shells (encode_utf8_all id)) all whole refl)
+
+-- ---- the law
+
+by_result : (o : Cause) (d new : Documents) → accepted new ≡ result_of o d → (o ≡ None) × (d ≡ new)
+by_result None d new e = (refl, cc)
+by_result (Some why) d new e = absurd (cc)
+
+by_cause : (o : Cause) (has_room : Bool) (d new : Documents) (c : Command) → IsWellFormed c → AreValid d → ComesBy o has_room d c (accepted new) → AreValid new
+by_cause (Some why) has_room d new c whole all comes = absurd (cc)
+by_cause None has_room d new c whole all comes =
+    let made = comes.0 in
+    let result = by_result (first_of (later_causes has_room made)) (with_documents (left d c) made) new comes.2 in
+    subst AreValid result.1 (puts_valid made (left d c) (left_valid d c all) (new_whole d c made whole all comes.1) (none_in_first (flat_map document_causes made) _ result.0))
+
+pub stays_valid : StaysValid
+unfolding ComesTo
+stays_valid has_room d new c whole all comes = by_cause (first_of (causes d c)) has_room d new c whole all comes
