@@ -92,6 +92,6 @@ ByRoute (Some found) m asked = AsksResource found.0 found.1 m asked
 unfoldable pub IsAsked : Message → Asked → Type 0
 IsAsked m asked = ByRoute (resource_of m.target) m asked
 
--- the answer, unless memory was refused
-abbrev pub Answers : (Asked → Type 0) → Asked → Type 0
-Answers Asks answer = (answer ≡ Err Refusal.NoMemory) ⊎ Asks answer
+-- it is what is asked, or memory was refused
+abbrev pub OrNoMemory : (Asked → Type 0) → Asked → Type 0
+OrNoMemory Asks asked = (asked ≡ Err Refusal.NoMemory) ⊎ Asks asked

@@ -1,13 +1,9 @@
--- The replies of the interface: a refusal's status and body (IDTA-01002-3-0, class Result with its messages), and what an accepted command and an answered question
--- are told. Which status a refusal has is this profile's own rule, by RFC 9110, section 15.
+-- The replies of refusals, with their statuses and bodies (IDTA-01002-3-0, class Result with its messages). Which status a refusal has is this profile's own rule, by
+-- RFC 9110, section 15.
 use Rattle.std.specs.Prelude.{ℕ, List, [], codes, decimal, false}
 use Rattle.serde_json.specs.Data.{Data, string, array, object, no_items, item, no_members, member}
 use Rattle.serde_json.specs.Written.{compact_text}
-use Rattle.aas_json_spelling.specs.Spells.{canonical_text}
-use Rattle.aas_json_mapping.specs.Trees.{concepts, shells, submodels}
 use Rattle.aas_command.specs.Refusals.{code_of, text_of}
-use Rattle.aas_command.specs.declared.command.Command.{Command}
-use Rattle.aas_command.specs.declared.command.Command.TheVariants.{CreateShell, CreateSubmodel, CreateConcept}
 use Rattle.aas_command.specs.declared.refusal.Refusal.{Refusal}
 use Rattle.aas_command.specs.declared.refusal.Refusal.TheVariants as refusal
 use Rattle.aas_http.specs.declared.replies.Reply.{Reply}
@@ -40,13 +36,3 @@ messages code text = object (member (codes "messages") (array (item (message cod
 
 unfoldable pub refusal_reply : Refusal → Reply
 refusal_reply r = record { status = status_of r; body = compact_text (messages (code_of r) (text_of r)); allow = allow_of r; close = false }
-
-abbrev pub reply : ℕ → List ℕ → Reply
-reply status body = record { status = status; body = body; allow = []; close = false }
-
--- what was created, or nothing
-unfoldable pub success_reply : Command → Reply
-success_reply (CreateShell d) = reply 201 (canonical_text shells d)
-success_reply (CreateSubmodel d) = reply 201 (canonical_text submodels d)
-success_reply (CreateConcept d) = reply 201 (canonical_text concepts d)
-success_reply c = reply 204 []

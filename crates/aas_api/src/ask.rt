@@ -7,7 +7,7 @@ ghost use Rattle.aas_command.specs.declared.question.Question.TheVariants.{Asset
 ghost use Rattle.aas_command.specs.declared.refusal.Refusal.TheVariants.{BadIdentifier, NoMemory, NotAllowed};
 ghost use Rattle.aas_http.specs.Steps.{message_of};
 ghost use Rattle.aas_page.specs.Segment.{StandsFor};
-ghost use Rattle.aas_api.specs.Asked.{Answers, AsksAsset, AsksCollection, AsksDocument, ByBody, ById, ByMethod, IsAsked, if_same};
+ghost use Rattle.aas_api.specs.Asked.{AsksAsset, AsksCollection, AsksDocument, ByBody, ById, ByMethod, IsAsked, OrNoMemory, if_same};
 ghost use Rattle.aas_api.specs.Routes.{asset_methods, collection_methods, document_methods};
 ghost use Rattle.aas_api.specs.declared.ask.Ask.TheVariants.{Act, Answer};
 
@@ -36,7 +36,7 @@ pub enum Ask {
 /// In this order: `NoRoute`, `NotAllowed`, `BadIdentifier`, `NotJson`, `NotMapping`, `TooDeep`, `IdMismatch`.
 #[tactic(auto, unfolding(crate::specs::Asked::IsAsked))]
 pub fn read_ask(alloc: Global, request: &Request<'_>) -> Result<Ask, Refusal>
-    ensures { Answers (IsAsked (message_of request.now)) result }
+    ensures { OrNoMemory (IsAsked (message_of request.now)) result }
 {
     let Some((resource, segment)) = resource_at(request.target) else {
         return Err(Refusal::NoRoute);
@@ -55,7 +55,7 @@ pub fn read_ask(alloc: Global, request: &Request<'_>) -> Result<Ask, Refusal>
 
 /// What is asked of all documents of an interface.
 fn ask_collection<D: Document>(alloc: Global, method: &str, body: &[u8]) -> Result<Ask, Refusal>
-    ensures { Answers (ByMethod method.now collection_methods (AsksCollection D.interface body.now)) result }
+    ensures { OrNoMemory (ByMethod method.now collection_methods (AsksCollection D.interface body.now)) result }
 {
     if method == "POST" {
         create::<D>(alloc, body)
@@ -71,7 +71,7 @@ fn ask_document<D: Document>(
     segment: &[u8],
     body: &[u8],
 ) -> Result<Ask, Refusal>
-    ensures { Answers (ByMethod method.now document_methods (AsksDocument D.interface segment.now body.now)) result }
+    ensures { OrNoMemory (ByMethod method.now document_methods (AsksDocument D.interface segment.now body.now)) result }
 {
     if method == "GET" {
         get::<D>(alloc, segment)
@@ -86,7 +86,7 @@ fn ask_document<D: Document>(
 
 /// What is asked of the asset information of the shell whose identifier is in the segment.
 fn ask_asset(alloc: Global, method: &str, segment: &[u8], body: &[u8]) -> Result<Ask, Refusal>
-    ensures { Answers (ByMethod method.now asset_methods (AsksAsset segment.now body.now)) result }
+    ensures { OrNoMemory (ByMethod method.now asset_methods (AsksAsset segment.now body.now)) result }
 {
     if method == "GET" {
         get_asset(alloc, segment)
@@ -98,7 +98,7 @@ fn ask_asset(alloc: Global, method: &str, segment: &[u8], body: &[u8]) -> Result
 }
 
 fn create<D: Document>(alloc: Global, body: &[u8]) -> Result<Ask, Refusal>
-    ensures { Answers (ByBody D.interface.documents body.now (λ document. Ok (Act (D.interface.create document)))) result }
+    ensures { OrNoMemory (ByBody D.interface.documents body.now (λ document. Ok (Act (D.interface.create document)))) result }
 {
     let document = D::read(alloc, body)?;
     Ok(Ask::Act {
@@ -107,7 +107,7 @@ fn create<D: Document>(alloc: Global, body: &[u8]) -> Result<Ask, Refusal>
 }
 
 fn get<D: Document>(alloc: Global, segment: &[u8]) -> Result<Ask, Refusal>
-    ensures { Answers (ById segment.now (λ id asked. asked ≡ Ok (Answer (D.interface.get id)))) result }
+    ensures { OrNoMemory (ById segment.now (λ id asked. asked ≡ Ok (Answer (D.interface.get id)))) result }
 {
     let id = identifier(alloc, segment)?;
     Ok(Ask::Answer {
@@ -116,7 +116,7 @@ fn get<D: Document>(alloc: Global, segment: &[u8]) -> Result<Ask, Refusal>
 }
 
 fn replace<D: Document>(alloc: Global, segment: &[u8], body: &[u8]) -> Result<Ask, Refusal>
-    ensures { Answers (ById segment.now (λ id. ByBody D.interface.documents body.now (λ document. if_same id (D.interface.id_of document) (D.interface.replace document)))) result }
+    ensures { OrNoMemory (ById segment.now (λ id. ByBody D.interface.documents body.now (λ document. if_same id (D.interface.id_of document) (D.interface.replace document)))) result }
 {
     let id = identifier(alloc, segment)?;
     let document = D::read(alloc, body)?;
@@ -129,7 +129,7 @@ fn replace<D: Document>(alloc: Global, segment: &[u8], body: &[u8]) -> Result<As
 }
 
 fn delete<D: Document>(alloc: Global, segment: &[u8]) -> Result<Ask, Refusal>
-    ensures { Answers (ById segment.now (λ id asked. asked ≡ Ok (Act (D.interface.delete id)))) result }
+    ensures { OrNoMemory (ById segment.now (λ id asked. asked ≡ Ok (Act (D.interface.delete id)))) result }
 {
     let id = identifier(alloc, segment)?;
     Ok(Ask::Act {
@@ -138,7 +138,7 @@ fn delete<D: Document>(alloc: Global, segment: &[u8]) -> Result<Ask, Refusal>
 }
 
 fn get_asset(alloc: Global, segment: &[u8]) -> Result<Ask, Refusal>
-    ensures { Answers (ById segment.now (λ id asked. asked ≡ Ok (Answer (Asset id)))) result }
+    ensures { OrNoMemory (ById segment.now (λ id asked. asked ≡ Ok (Answer (Asset id)))) result }
 {
     let id = identifier(alloc, segment)?;
     Ok(Ask::Answer {
@@ -147,7 +147,7 @@ fn get_asset(alloc: Global, segment: &[u8]) -> Result<Ask, Refusal>
 }
 
 fn set_asset(alloc: Global, segment: &[u8], body: &[u8]) -> Result<Ask, Refusal>
-    ensures { Answers (ById segment.now (λ id. ByBody asset_informations body.now (λ asset. Ok (Act (SetAsset id asset))))) result }
+    ensures { OrNoMemory (ById segment.now (λ id. ByBody asset_informations body.now (λ asset. Ok (Act (SetAsset id asset))))) result }
 {
     let shell = identifier(alloc, segment)?;
     match read_asset_information(alloc, body) {

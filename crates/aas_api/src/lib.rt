@@ -1,4 +1,7 @@
 //! From a request to what it asks for, and from a refusal to its reply.
+//!
+//! The resources, their paths and their methods are tables in `specs/Routes.antt`. What a command or a question comes to
+//! in a repository belongs to the crates above.
 
 #![tactic(auto)]
 

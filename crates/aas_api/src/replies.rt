@@ -22,6 +22,7 @@ pub fn refused(alloc: Global, refusal: &Refusal) -> Result<Reply, NoMemory>
     ensures phrase { IfOk result (λ reply. IsSome (phrase reply.status)) }
 {
     let text = refusal.text(alloc)?;
+    // It is UTF-8, which its contract doesn't say.
     let Ok(text) = str::from_utf8(&text) else {
         return Err(NoMemory);
     };
