@@ -121,6 +121,16 @@ impl<T: Drop> Many<T> {
     }
 }
 
+impl<T> From<Vec<T>> for Many<T> {
+    ghost use Rattle.std.specs.Prelude.{◌≡◌};
+
+    ghost from_gives = { λ items many. many ≡ items.items };
+
+    fn from(items: Vec<T>) -> Many<T> {
+        Many { items }
+    }
+}
+
 impl<T: Duplicate> Duplicate for Many<T> {
     fn copy(&self) -> Result<Many<T>, NoMemory> {
         let mut copies = Many::new(self.alloc());
