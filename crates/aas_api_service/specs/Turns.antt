@@ -1,0 +1,60 @@
+-- What a request comes to in a repository (IDTA-01002-3-0, HTTP/REST API): it is refused, or a question is answered, or a command is done. Which status and which body
+-- a reply has is this profile's own rule.
+use Rattle.std.specs.Prelude.{◌≡◌, ℕ, List, [], ◌∷◌, false, Result, Ok, Err}
+use Rattle.aas_json_spelling.specs.Spells.{canonical_text}
+use Rattle.aas_json_mapping.specs.Trees.{concepts, shells, submodels}
+use Rattle.aas_command.specs.Commands.{payload_of}
+use Rattle.aas_command.specs.declared.command.Command.{Command}
+use Rattle.aas_command.specs.declared.command.Command.TheVariants.{CreateShell, CreateSubmodel, CreateConcept}
+use Rattle.aas_command.specs.declared.refusal.Refusal.{Refusal}
+use Rattle.aas_http.specs.FirstRequest.{Message}
+use Rattle.aas_http.specs.declared.replies.Reply.{Reply}
+use Rattle.aas_rule.specs.Rule.{Repository, Room, Rule, Outcome}
+use Rattle.aas_store.specs.Documents.{Documents}
+use Rattle.aas_step.specs.Step.{Result as StepResult, accepted, refused, Steps}
+use Rattle.aas_repo.specs.Answers.{answer_of}
+use Rattle.aas_api.specs.Asked.{Asked, IsAsked}
+use Rattle.aas_api.specs.Replies.{refusal_reply}
+use Rattle.aas_api.specs.declared.ask.Ask.{Ask}
+use Rattle.aas_api.specs.declared.ask.Ask.TheVariants.{Act, Answer}
+
+-- ---- replies
+
+abbrev pub reply_with : ℕ → List ℕ → Reply
+reply_with status body = record { status = status; body = body; allow = []; close = false }
+
+-- 200 with what is asked for, or the reply of the refusal
+abbrev pub answer_reply : Result (List ℕ) Refusal → Reply
+answer_reply (Ok body) = reply_with 200 body
+answer_reply (Err refusal) = refusal_reply refusal
+
+-- the reply to a command that is accepted: 201 with what it creates, or else 204
+abbrev pub success_reply : Command → Reply
+success_reply (CreateShell d) = reply_with 201 (canonical_text shells d)
+success_reply (CreateSubmodel d) = reply_with 201 (canonical_text submodels d)
+success_reply (CreateConcept d) = reply_with 201 (canonical_text concepts d)
+success_reply c = reply_with 204 []
+
+-- ---- outcomes
+
+-- a reply, and nothing changes
+abbrev pub unchanged : Repository Documents → Reply → Outcome Documents Reply
+unchanged r reply = record { reply = reply; documents = r.documents; kept = [] }
+
+-- what a command comes to
+abbrev pub outcome_of : Repository Documents → Command → StepResult → Outcome Documents Reply
+outcome_of r c (refused refusal) = unchanged r (refusal_reply refusal)
+outcome_of r c (accepted new) = record { reply = success_reply c; documents = new; kept = payload_of c ∷ [] }
+
+-- what is asked comes to
+unfoldable pub AskComesTo : Room → Repository Documents → Ask → Outcome Documents Reply → Type 0
+AskComesTo room r (Answer q) outcome = outcome ≡ unchanged r (answer_reply (answer_of r.documents q))
+AskComesTo room r (Act c) outcome = (result : StepResult) × Steps room r c result × (outcome ≡ outcome_of r c result)
+
+abbrev pub AskedComesTo : Room → Repository Documents → Asked → Outcome Documents Reply → Type 0
+AskedComesTo room r (Ok ask) outcome = AskComesTo room r ask outcome
+AskedComesTo room r (Err refusal) outcome = outcome ≡ unchanged r (refusal_reply refusal)
+
+-- a request, where the keeper has this rule for room
+unfoldable pub Turns : Room → Rule Documents Message Reply
+Turns room r message outcome = (asked : Asked) × IsAsked message asked × AskedComesTo room r asked outcome

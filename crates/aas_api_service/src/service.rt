@@ -1,0 +1,86 @@
+// The repository behind its interface.
+ghost use Rattle.std.specs.Prelude.{◌≡◌, ◌≢◌, ◌≤◌, ℕ, List, false, Err, IfOk, IsSome};
+ghost use Rattle.aas_http.specs.ReplyText.{phrase};
+ghost use Rattle.aas_http.specs.Steps.{message_of};
+ghost use Rattle.aas_outside.specs.Faults.{Rose};
+ghost use Rattle.aas_rule.specs.State.{IsSettledState, PassesTo, repository_of};
+ghost use Rattle.aas_repo.specs.Held.{state_of};
+ghost use Rattle.aas_session.specs.Answers.{Answers};
+ghost use Rattle.aas_session.specs.declared.machine.Stop.TheVariants.{StorageFault};
+ghost use Rattle.aas_api_service.specs.Turns.{AskComesTo, Turns};
+ghost use Rattle.aas_api_service.specs.WellFormed.{IsWellFormedAsk};
+
+use aas_api::Ask;
+use aas_http::{Reply, Request};
+use aas_outside::Keeper;
+use aas_repo::Repo;
+use aas_session::{Machine, Stop};
+use aas_store::Store;
+use std::alloc::Global;
+
+/// A repository that answers the requests of its interface.
+///
+/// IDTA-01002-3-0, HTTP/REST API.
+#[derive(Drop)]
+pub struct Service<S: Store, K: Keeper> {
+    alloc: Global,
+    pub repo: Repo<S, K>,
+}
+
+impl<S: Store, K: Keeper> Service<S, K> {
+    pub fn new(alloc: Global, repo: Repo<S, K>) -> Service<S, K>
+        ensures { result.repo ≡ repo }
+    {
+        Service { alloc, repo }
+    }
+}
+
+impl<S: Store, K: Keeper> Machine for Service<S, K> {
+    ghost use Rattle.aas_repo.specs.Held.{state_of};
+    ghost use Rattle.aas_store.specs.Documents.{Documents};
+    ghost use Rattle.aas_api_service.specs.Turns.{Turns};
+
+    ghost Documents = { Documents };
+
+    ghost Image = { K.Image };
+
+    ghost stands_for = { K.stands_for };
+
+    ghost rule = { Turns };
+
+    ghost room = { λ service. K.room_behind service.repo.keeper };
+
+    ghost state = { λ service. state_of K.kept K.moment K.left_at service.repo };
+
+    ghost faults = { λ service. K.faults service.repo.keeper };
+
+    ghost stopped = { λ service. service.repo.stopped };
+
+    fn answer(&mut self, _request: &Request) -> Result<Reply, Stop> {
+        Err(Stop::NoMemory)
+    }
+}
+
+/// Does what is asked, and answers the reply, whose `close` is false. The success reply to a command is made before the
+/// command is taken, so that nothing is kept which can't be answered.
+///
+/// # Errors
+///
+/// Want of memory, which leaves everything as it was, or a fault of the keeper.
+pub fn answer<S: Store, K: Keeper>(_alloc: Global, repo: &mut Repo<S, K>, _ask: Ask) -> Result<Reply, Stop>
+    requires open { repo.old.stopped ≡ false }
+    requires well_formed { IsWellFormedAsk _ask }
+    ensures answered { (records : List (List ℕ)) →
+        IsSettledState K.stands_for (state_of K.kept K.moment K.left_at repo.old) records →
+        Answers (AskComesTo (K.room_behind repo.old.keeper)) K.stands_for
+        (repository_of (state_of K.kept K.moment K.left_at repo.old) records) _ask
+        (K.moment repo.old.keeper) (state_of K.kept K.moment K.left_at repo.new) result }
+    ensures reply { IfOk result (λ reply. IsSome (phrase reply.status)) }
+    ensures room { K.room_behind repo.new.keeper ≡ K.room_behind repo.old.keeper }
+    ensures past { PassesTo (state_of K.kept K.moment K.left_at repo.old) (state_of K.kept K.moment K.left_at repo.new) }
+    ensures stopped { result ≢ Err StorageFault → repo.new.stopped ≡ false }
+    ensures later { K.faults repo.old.keeper ≤ K.faults repo.new.keeper }
+    ensures fault { result ≡ Err StorageFault → Rose (K.faults repo.old.keeper) (K.faults repo.new.keeper) }
+{
+    Err(Stop::NoMemory)
+}

