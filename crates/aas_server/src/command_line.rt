@@ -8,6 +8,10 @@ use aas_model::{Many, Text};
 pub enum CommandLine {
     /// The value form of the element on the console.
     Value,
+    /// The repository on the console, as one connection.
+    Pipe,
+    /// The repository on so many connections of a wire, 1 to 1,000,000. The address stands in the words.
+    Serve { count: u32 },
 }
 
 /// The command that the words ask for, or `None` where they ask for none.

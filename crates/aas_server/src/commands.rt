@@ -17,18 +17,17 @@ use aas_model::{Many, Text};
 use aas_outside::Link;
 use std::alloc::Global;
 
-/// Does what the words ask for on this console, and answers the exit status of the program.
-pub fn run<C: Link>(alloc: Global, words: &Many<Text>, console: &mut C) -> u8
-    // The console gets an answer, or a front of one where it fails.
-    ensures answer { ForAsked words.now (λ asked. result ≢ 3 → result ≢ 10 →
-        GivesAnswer (IsAnswer asked (C.left console.old)) result (C.sent console.old) (C.sent console.new)) }
-    ensures front { ForAsked words.now (λ asked. result ≡ 3 →
-        GivesFrontOf (IsAnswer asked (C.left console.old)) (C.sent console.old) (C.sent console.new)) }
-
-    // When each status comes.
+/// Does what the words ask for on this console and this wire, and answers the exit status of the program.
+pub fn run<C: Link, W: Wire>(
+    alloc: Global,
+    words: &Many<Text>,
+    console: &mut C,
+    wire: &mut W,
+) -> u8
+    ensures does { ForAsked words.now (λ asked. Does asked result
+        (console_of C.left C.sent C.faults console.old) (console_of C.left C.sent C.faults console.new)
+        (wire_of W.left W.sent W.faults W.surroundings wire.old) (wire_of W.left W.sent W.faults W.surroundings wire.new)) }
     ensures statuses { ForAsked words.now (λ asked. Contains (statuses_of asked) result) }
-    ensures fault { result ≡ 3 → Rose (C.faults console.old) (C.faults console.new) }
-    ensures memory { result ≡ 10 → C.sent console.new ≡ C.sent console.old }
 {
     match command_of(words) {
         Some(CommandLine::Value) => value(alloc, console).exit_code(),

@@ -7,8 +7,10 @@ pub enum Status {
     Done = 0,
     /// The words are no command.
     NotACommand = 2,
-    /// The console failed.
+    /// The console failed, or the wire couldn't listen or begin a connection.
     LinkFault = 3,
+    /// The keeper failed.
+    KeeperFault = 4,
     /// The input was refused.
     Refused = 7,
     /// Memory was refused.
