@@ -4,11 +4,10 @@ use Rattle.std.specs.Prelude.{◌≢◌, Result}
 use Rattle.aas_command.specs.Commands.{payload_of}
 use Rattle.aas_command.specs.declared.command.Command.{Command}
 use Rattle.aas_command.specs.declared.refusal.Refusal.{Refusal}
-use Rattle.aas_command.specs.declared.refusal.Refusal.TheVariants.{StorageFault, NoMemory}
+use Rattle.aas_command.specs.declared.refusal.Refusal.TheVariants.{StorageFault}
 use Rattle.aas_outside.specs.Moments.{InTurn, IsSettled}
-use Rattle.aas_outside.proofs.Turns.{in_turn_none}
 use Rattle.aas_rule.specs.Rule.{Room}
-use Rattle.aas_rule.specs.State.{Holds, IsSettledState, repository_of}
+use Rattle.aas_rule.specs.State.{IsSettledState, repository_of}
 use Rattle.aas_store.specs.Documents.{Documents}
 use Rattle.aas_repo.specs.Acts.{Acts, done_of}
 use Rattle.aas_repo.specs.Decisions.{IsPlan}
@@ -23,7 +22,6 @@ held documents keeper stopped = record { documents = documents; keeper = keeper;
 -- what is known of the repository before speaks of it as its fields are, mid
 module _ {K I : Type 0} (stands_for : I → List (List ℕ) → Type 0) (kept : K → List (List ℕ) → Type 0) (moment : K → ℕ) (left_at : K → ℕ → I → Type 0) (room_behind : K → Room)
     (c : Command) (has_room : ℕ → Bool) (mid old new : Held K) (same : mid ≡ old) where
-
   abbrev Does : Result Done Refusal → Held K → Type 0
   Does result old = (records : List (List ℕ)) → IsSettledState stands_for (state_of kept moment left_at old) records
       → Acts (room_behind old.keeper) stands_for (repository_of (state_of kept moment left_at old) records) c (moment old.keeper) (state_of kept moment left_at new) result
@@ -33,15 +31,18 @@ module _ {K I : Type 0} (stands_for : I → List (List ℕ) → Type 0) (kept : 
       → ((payloads : List (List ℕ)) → IsSettled stands_for (kept mid.keeper) (moment mid.keeper) (left_at mid.keeper) payloads
       → InTurn stands_for (left_at new.keeper) (moment mid.keeper) (moment new.keeper) payloads (frame ∷ []) [])
       → Does (Ok done) old
-  keeps frame done is planned adds turn = subst (Does (Ok done)) same (λ records settled. (is, record {
-    new = new.documents;
-    steps = planned.2 records settled.told;
-    holds = record {
-      documents = refl;
-      kept = subst (λ (p : List ℕ). kept new.keeper (records ++ p ∷ [])) planned.0 (adds records settled.told);
-      in_turn = subst (λ (p : List ℕ). InTurn stands_for (left_at new.keeper) (moment mid.keeper) (moment new.keeper) records (p ∷ []) []) planned.0 (turn records settled);
-    };
-  }))
+  keeps frame done is planned adds turn = subst (Does (Ok done)) same (λ records settled. (
+    is,
+    record {
+      new = new.documents;
+      steps = planned.2 records settled.told;
+      holds = record {
+        documents = refl;
+        kept = subst (λ (p : List ℕ). kept new.keeper (records ++ p ∷ [])) planned.0 (adds records settled.told);
+        in_turn = subst (λ (p : List ℕ). InTurn stands_for (left_at new.keeper) (moment mid.keeper) (moment new.keeper) records (p ∷ []) []) planned.0 (turn records settled);
+      };
+    },
+  ))
 
   pub tears : (frame : List ℕ) → IsPlan has_room (kept mid.keeper) (room_behind mid.keeper) mid.documents c new.documents (plan.Made frame)
       → ((payloads : List (List ℕ)) → IsSettled stands_for (kept mid.keeper) (moment mid.keeper) (left_at mid.keeper) payloads
@@ -59,22 +60,3 @@ module _ {K I : Type 0} (stands_for : I → List (List ℕ) → Type 0) (kept : 
     λ not. absurd (not refl),
     λ not. absurd (not refl),
   ))
-
-  -- the keeper wasn't called, and the documents are as they were
-  untouched : (records : List (List ℕ)) → IsSettledState stands_for (state_of kept moment left_at mid) records → new.documents ≡ mid.documents → new.keeper ≡ mid.keeper
-      → Holds stands_for records [] (repository_of (state_of kept moment left_at mid) records) (moment mid.keeper) (state_of kept moment left_at new)
-  untouched records settled documents keeper = record {
-    documents = documents;
-    kept = subst (λ (k : K). kept k records) (sym keeper) settled.told;
-    in_turn = subst (λ (k : K). InTurn stands_for (left_at k) (moment mid.keeper) (moment k) records [] []) (sym keeper)
-        (in_turn_none stands_for (left_at mid.keeper) (moment mid.keeper) records settled.alone);
-  }
-
-  pub refuses : (refusal : Refusal) → IsPlan has_room (kept mid.keeper) (room_behind mid.keeper) mid.documents c new.documents (plan.Refused refusal) → new.keeper ≡ mid.keeper
-      → Does (Err refusal) old
-  refuses refusal planned keeper = subst (Does (Err refusal)) same
-      (λ records settled. (λ is. absurd (planned.1 is), λ not. untouched records settled planned.0 keeper, λ not more. planned.2 records settled.told))
-
-  pub wants_memory : new.documents ≡ mid.documents → new.keeper ≡ mid.keeper → Does (Err NoMemory) old
-  wants_memory documents keeper = subst (Does (Err NoMemory)) same
-      (λ records settled. (λ is. absurd (cc), λ not. untouched records settled documents keeper, λ not more. absurd (more refl)))

@@ -12,3 +12,6 @@ mod repo;
 mod stored;
 
 pub use repo::{Done, Repo};
+
+#[cfg(test)]
+mod tests;

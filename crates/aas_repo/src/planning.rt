@@ -4,8 +4,8 @@ ghost use Rattle.aas_command.specs.Commands.{IsWellFormed, payload_of};
 ghost use Rattle.aas_repo.specs.Decisions.{IsDecision, IsPlan};
 ghost use Rattle.aas_step.specs.Valid.{AreValid};
 
-use crate::decision::{Decision, Plan};
 use crate::deciding::decide;
+use crate::decision::{Decision, Plan};
 use aas_command::{Command, EncodeFault, encode};
 use aas_outside::Keeper;
 use aas_step::documents_stay_valid;

@@ -10,8 +10,8 @@ ghost use Rattle.aas_repo.specs.Answers.{answer_of};
 ghost use Rattle.aas_repo.specs.Held.{state_of};
 
 use crate::answers::{asset_answer, concept_answer, shell_answer, submodel_answer};
-use crate::planning::plan;
 use crate::decision::Plan;
+use crate::planning::plan;
 use aas_command::{Command, Question, Refusal};
 use aas_model::Many;
 use aas_outside::{Failed, Keeper};

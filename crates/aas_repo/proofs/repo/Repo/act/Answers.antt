@@ -2,7 +2,6 @@ use Rattle.std.proofs.Common.{true}
 use Rattle.aas_repo.proofs.Acted.{held, keeps, tears}
 use Rattle.aas_repo.proofs.repo.Repo.act.Goals as goal
 
-
 pub returns-in-Ok-clause-acts : goal.returns-in-Ok-clause-acts
 returns-in-Ok-clause-acts g c =
     let K = g.K.Keeper in
