@@ -1,5 +1,5 @@
 -- What a wire over TCP does to the stream of its present connection. This profile's own rule.
-use Rattle.std.specs.Prelude.{◌≡◌, ℕ, List, take, Result, MatchResult, Option, None, Some, IsNone}
+use Rattle.std.specs.Prelude.{ℕ, List, take, Result, MatchResult, Option, None, Some, IsNone}
 use Rattle.std.specs.Io.KnownBytes.{Consumes, Keeps}
 
 -- A read took what it answers from the front of what the stream had left, and nothing where it failed.
