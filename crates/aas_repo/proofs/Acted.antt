@@ -1,7 +1,6 @@
 -- What a keeper's call makes of a plan.
-use Rattle.std.proofs.Common.{◌≡◌, ℕ, Bool, List, [], ◌∷◌, ◌++◌, refl, sym, subst, Ok, Err}
-use Rattle.std.specs.Prelude.{◌≢◌, Result}
-use Rattle.aas_command.specs.Commands.{payload_of}
+use Rattle.std.proofs.Common.{◌≡◌, ℕ, Bool, List, [], ◌∷◌, ◌++◌, refl, subst, Ok, Err}
+use Rattle.std.specs.Prelude.{Result}
 use Rattle.aas_command.specs.declared.command.Command.{Command}
 use Rattle.aas_command.specs.declared.refusal.Refusal.{Refusal}
 use Rattle.aas_command.specs.declared.refusal.Refusal.TheVariants.{StorageFault}
@@ -12,7 +11,6 @@ use Rattle.aas_store.specs.Documents.{Documents}
 use Rattle.aas_repo.specs.Acts.{Acts, done_of}
 use Rattle.aas_repo.specs.Decisions.{IsPlan}
 use Rattle.aas_repo.specs.Held.{Held, state_of}
-use Rattle.aas_repo.specs.declared.decision.Plan.{Plan}
 use Rattle.aas_repo.specs.declared.decision.Plan.TheVariants as plan
 use Rattle.aas_repo.specs.declared.repo.Done.{Done}
 

@@ -21,8 +21,8 @@ use Rattle.aas_model_names.specs.declared.collection.Collection.TheVariants.{She
 use Rattle.aas_reference.specs.Rules.{first}
 use Rattle.aas_step.proofs.Validity.{whole_with_asset}
 use Rattle.aas_step.specs.Causes.{Cause, absent_of, causes, first_of, has_too_many, is_absent, is_there, unless, when}
-use Rattle.aas_step.specs.Made.{left, with_document}
-use Rattle.aas_step.specs.Step.{Result, accepted, refused, result_of, later_causes, ComesBy, ComesTo}
+use Rattle.aas_step.specs.Made.{with_document}
+use Rattle.aas_step.specs.Step.{accepted, refused, result_of, later_causes, ComesBy, ComesTo}
 use Rattle.aas_step.specs.Valid.{AreValid}
 use Rattle.aas_store.specs.Documents.{Documents, has, without}
 use Rattle.aas_repo.specs.Decisions.{Deletes, IsDecision, Puts, with_asset}

@@ -1,13 +1,10 @@
 -- From what is decided to what a command comes to in a repository, and what the keeper's call adds.
-use Rattle.std.proofs.Common.{◌≡◌, ◌≤◌, ◌<◌, ◌^◌, ℕ, Bool, true, false, List, [], ◌∷◌, ◌++◌, length, refl, sym, ap, ◌∙◌, subst, arith, Ok, Err}
-use Rattle.std.specs.Prelude.{◌≢◌, IsTrue, OnOk, Result, MatchResult}
+use Rattle.std.proofs.Common.{◌≡◌, ◌≤◌, ◌<◌, ◌^◌, ℕ, Bool, true, false, List, length, refl, sym, ap, ◌∙◌, subst, arith}
+use Rattle.std.specs.Prelude.{IsTrue}
 use Rattle.aas_command.specs.Commands.{IsWellFormed, payload_of}
 use Rattle.aas_command.specs.declared.command.Command.{Command}
 use Rattle.aas_command.specs.declared.refusal.Refusal.{Refusal}
-use Rattle.aas_command.specs.declared.refusal.Refusal.TheVariants.{StorageFault, NoMemory}
-use Rattle.aas_outside.proofs.Turns.{in_turn_none}
-use Rattle.aas_rule.specs.Rule.{Repository, Room}
-use Rattle.aas_rule.specs.State.{Holds, IsFaulted, IsSettledState, State}
+use Rattle.aas_rule.specs.Rule.{Room}
 use Rattle.aas_store.specs.Documents.{Documents}
 use Rattle.aas_step.proofs.Validity.{stays_valid}
 use Rattle.aas_step.specs.Step as step

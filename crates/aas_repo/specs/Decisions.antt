@@ -8,7 +8,7 @@ use Rattle.aas_command.specs.declared.command.Command.{Command}
 use Rattle.aas_command.specs.declared.refusal.Refusal.TheVariants.{StorageFault}
 use Rattle.aas_model.specs.declared.asset.AssetInformation.{AssetInformation}
 use Rattle.aas_model.specs.declared.documents.Shell.{Shell}
-use Rattle.aas_rule.specs.Rule.{Repository, Room}
+use Rattle.aas_rule.specs.Rule.{Room}
 use Rattle.aas_store.specs.Documents.{Documents, without}
 use Rattle.aas_step.specs.Causes.{Cause, causes, is_absent}
 use Rattle.aas_step.specs.Made.{IsMade, left}

@@ -1,5 +1,4 @@
-use Rattle.std.proofs.Common.{length, ◌≡◌, ◌+◌, arith, refl}
-use Rattle.aas_path_trees.specs.Patched.{kinds, kinds_of_all}
+use Rattle.std.proofs.Common.{arith, refl}
 use Rattle.aas_repo.proofs.Counted.{count_out, counted}
 use Rattle.aas_repo.proofs.count.+count.Goals as goal
 
