@@ -3,7 +3,12 @@
 //! Nothing is decided here: the real ends stand here, and what they tell is trusted.
 #![tactic(auto)]
 
+mod arrivals;
+mod calls;
 mod console;
+mod faults;
+mod patience;
+mod tcp_wire;
 
 use aas_model_text::{Many, NoMemory, Text};
 use aas_server::{Status, run};
