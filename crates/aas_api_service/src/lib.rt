@@ -3,6 +3,9 @@
 //! What a request asks for is said below (`aas_api`), and so is what a command comes to (`aas_step`).
 #![tactic(auto)]
 
+mod laws;
+mod replies;
 mod service;
 
+pub use laws::{asks_are_well_formed, requests_come_to_one_outcome, sessions_stay_valid};
 pub use service::{Service, answer};

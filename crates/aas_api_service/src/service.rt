@@ -1,17 +1,23 @@
 // The repository behind its interface.
-ghost use Rattle.std.specs.Prelude.{◌≡◌, ◌≢◌, ◌≤◌, ℕ, List, false, Err, IfOk, IsSome};
+ghost use Rattle.std.specs.Prelude.{◌≡◌, ◌≢◌, ◌≤◌, ◌⊎◌, ℕ, List, false, Err, IfOk, IsSome};
+ghost use Rattle.aas_api.specs.declared.ask.Ask.TheVariants.{Act};
+ghost use Rattle.aas_command.specs.Commands.{IsWellFormed};
 ghost use Rattle.aas_http.specs.ReplyText.{phrase};
 ghost use Rattle.aas_http.specs.Steps.{message_of};
 ghost use Rattle.aas_outside.specs.Faults.{Rose};
 ghost use Rattle.aas_rule.specs.State.{IsSettledState, PassesTo, repository_of};
+ghost use Rattle.aas_repo.specs.Answers.{answer_of};
 ghost use Rattle.aas_repo.specs.Held.{state_of};
 ghost use Rattle.aas_session.specs.Answers.{Answers};
 ghost use Rattle.aas_session.specs.declared.machine.Stop.TheVariants.{StorageFault};
 ghost use Rattle.aas_api_service.specs.Turns.{AskComesTo, Turns};
 ghost use Rattle.aas_api_service.specs.WellFormed.{IsWellFormedAsk};
 
-use aas_api::Ask;
+use crate::replies::{finish, refuse, success, told};
+use aas_api::{Ask, read_ask};
+use aas_command::{Command, Question, Refusal};
 use aas_http::{Reply, Request};
+use aas_model::{Many, NoMemory};
 use aas_outside::Keeper;
 use aas_repo::Repo;
 use aas_session::{Machine, Stop};
@@ -56,8 +62,11 @@ impl<S: Store, K: Keeper> Machine for Service<S, K> {
 
     ghost stopped = { λ service. service.repo.stopped };
 
-    fn answer(&mut self, _request: &Request) -> Result<Reply, Stop> {
-        Err(Stop::NoMemory)
+    fn answer(&mut self, request: &Request) -> Result<Reply, Stop> {
+        match read_ask(self.alloc, request) {
+            Ok(ask) => answer(self.alloc, &mut self.repo, ask),
+            Err(refusal) => refuse(self.alloc, refusal),
+        }
     }
 }
 
@@ -67,13 +76,17 @@ impl<S: Store, K: Keeper> Machine for Service<S, K> {
 /// # Errors
 ///
 /// Want of memory, which leaves everything as it was, or a fault of the keeper.
-pub fn answer<S: Store, K: Keeper>(_alloc: Global, repo: &mut Repo<S, K>, _ask: Ask) -> Result<Reply, Stop>
+pub fn answer<S: Store, K: Keeper>(
+    alloc: Global,
+    repo: &mut Repo<S, K>,
+    ask: Ask,
+) -> Result<Reply, Stop>
     requires open { repo.old.stopped ≡ false }
-    requires well_formed { IsWellFormedAsk _ask }
+    requires well_formed { IsWellFormedAsk ask }
     ensures answered { (records : List (List ℕ)) →
         IsSettledState K.stands_for (state_of K.kept K.moment K.left_at repo.old) records →
         Answers (AskComesTo (K.room_behind repo.old.keeper)) K.stands_for
-        (repository_of (state_of K.kept K.moment K.left_at repo.old) records) _ask
+        (repository_of (state_of K.kept K.moment K.left_at repo.old) records) ask
         (K.moment repo.old.keeper) (state_of K.kept K.moment K.left_at repo.new) result }
     ensures reply { IfOk result (λ reply. IsSome (phrase reply.status)) }
     ensures room { K.room_behind repo.new.keeper ≡ K.room_behind repo.old.keeper }
@@ -82,5 +95,42 @@ pub fn answer<S: Store, K: Keeper>(_alloc: Global, repo: &mut Repo<S, K>, _ask: 
     ensures later { K.faults repo.old.keeper ≤ K.faults repo.new.keeper }
     ensures fault { result ≡ Err StorageFault → Rose (K.faults repo.old.keeper) (K.faults repo.new.keeper) }
 {
-    Err(Stop::NoMemory)
+    match ask {
+        Ask::Act { command } => act(alloc, repo, command),
+        Ask::Answer { question } => told(alloc, tell(repo, question)),
+    }
+}
+
+/// Takes a command.
+fn act<S: Store, K: Keeper>(
+    alloc: Global,
+    repo: &mut Repo<S, K>,
+    command: Command,
+) -> Result<Reply, Stop>
+    requires open { repo.old.stopped ≡ false }
+    requires well_formed { IsWellFormed command }
+    ensures answered { (records : List (List ℕ)) →
+        IsSettledState K.stands_for (state_of K.kept K.moment K.left_at repo.old) records →
+        Answers (AskComesTo (K.room_behind repo.old.keeper)) K.stands_for
+        (repository_of (state_of K.kept K.moment K.left_at repo.old) records) (Act command)
+        (K.moment repo.old.keeper) (state_of K.kept K.moment K.left_at repo.new) result }
+    ensures reply { IfOk result (λ reply. IsSome (phrase reply.status)) }
+    ensures room { K.room_behind repo.new.keeper ≡ K.room_behind repo.old.keeper }
+    ensures past { PassesTo (state_of K.kept K.moment K.left_at repo.old) (state_of K.kept K.moment K.left_at repo.new) }
+    ensures stopped { result ≢ Err StorageFault → repo.new.stopped ≡ false }
+    ensures later { K.faults repo.old.keeper ≤ K.faults repo.new.keeper }
+    ensures fault { result ≡ Err StorageFault → Rose (K.faults repo.old.keeper) (K.faults repo.new.keeper) }
+{
+    match success(alloc, &command) {
+        Ok(reply) => finish(alloc, repo.act(command), reply),
+        Err(NoMemory) => Err(Stop::NoMemory),
+    }
+}
+
+/// What a question is answered.
+fn tell<S: Store, K: Keeper>(repo: &Repo<S, K>, question: Question) -> Result<Many<u8>, Refusal>
+    requires { repo.now.stopped ≡ false }
+    ensures { (result ≡ Err Refusal.NoMemory) ⊎ (result ≡ answer_of repo.now.documents question) }
+{
+    repo.ask(&question)
 }

@@ -1,0 +1,4 @@
+pub mod OneOutcome
+pub mod Outcomes
+pub mod Sessions
+pub mod WellFormed

@@ -1,0 +1,104 @@
+-- Answers have an outcome of what is asked.
+use Rattle.std.proofs.Common.{inl, inr, ℕ, List, [], Result, Ok, Err, refl, sym, subst}
+use Rattle.std.proofs.lemmas.List.{append-nil}
+use Rattle.aas_command.specs.declared.command.Command.{Command}
+use Rattle.aas_command.specs.declared.question.Question.{Question}
+use Rattle.aas_command.specs.declared.refusal.Refusal.{Refusal}
+use Rattle.aas_http.specs.FirstRequest.{Message}
+use Rattle.aas_http.specs.declared.replies.Reply.{Reply}
+use Rattle.aas_outside.proofs.Turns.{in_turn_none}
+use Rattle.aas_rule.specs.Rule.{Repository, Room, after}
+use Rattle.aas_rule.specs.State.{State, Holds, IsSettledState, repository_of}
+use Rattle.aas_store.specs.Documents.{Documents}
+use Rattle.aas_step.specs.Step.{accepted, refused}
+use Rattle.aas_repo.specs.Acts.{Acts}
+use Rattle.aas_repo.specs.Answers.{answer_of}
+use Rattle.aas_repo.specs.declared.repo.Done.{Done}
+use Rattle.aas_session.specs.Answers.{Answers}
+use Rattle.aas_session.specs.declared.machine.Stop.{Stop}
+use Rattle.aas_session.specs.declared.machine.Stop.TheVariants as stop
+use Rattle.aas_api.specs.Asked.{IsAsked, OrNoMemory}
+use Rattle.aas_api.specs.Replies.{refusal_reply}
+use Rattle.aas_api.specs.declared.ask.Ask.{Ask}
+use Rattle.aas_api.specs.declared.ask.Ask.TheVariants.{Act, Answer}
+use Rattle.aas_api_service.specs.Finished.{Finishes, IsRefused, IsReply}
+use Rattle.aas_api_service.specs.Turns.{AskComesTo, Turns, answer_reply, outcome_of, success_reply, unchanged}
+
+-- what was read is what is asked for
+pub asked_of : (m : Message) (ask : Ask) → OrNoMemory (IsAsked m) (Ok ask) → IsAsked m (Ok ask)
+asked_of m ask (inl none) = absurd (cc)
+asked_of m ask (inr asked) = asked
+
+module _ {I : Type 0} (room : Room) (stands_for : I → List (List ℕ) → Type 0) where
+  -- nothing has been done
+  pub holds_still : (state : State Documents I) (records : List (List ℕ)) → IsSettledState stands_for state records → Holds stands_for records [] (repository_of state records) state.moment state
+  holds_still state records settled = record {
+    documents = refl;
+    kept = settled.told;
+    in_turn = in_turn_none stands_for state.left_at state.moment records settled.alone;
+  }
+
+  -- nor by an outcome that changes nothing
+  holds_unchanged : (r : Repository Documents) (reply : Reply) (from : ℕ) (now : State Documents I) → Holds stands_for r.records [] r from now
+      → Holds stands_for r.records [] (after r (unchanged r reply)) from now
+  holds_unchanged r reply from now still = record {
+    documents = still.documents;
+    kept = subst now.kept (sym (append-nil r.records)) still.kept;
+    in_turn = still.in_turn;
+  }
+
+  -- ---- questions
+
+  pub answers_question : (state : State Documents I) (records : List (List ℕ)) → IsSettledState stands_for state records → (q : Question) (answer : Result Reply Stop)
+      → IsReply (answer_reply (answer_of state.documents q)) answer → Answers (AskComesTo room) stands_for (repository_of state records) (Answer q) state.moment state answer
+  unfolding AskComesTo
+  answers_question state records settled q answer (inl none) =
+      let P : Result Reply Stop → Type 0 = λ a. Answers (AskComesTo room) stands_for (repository_of state records) (Answer q) state.moment state a in
+      subst P (sym none) (holds_still state records settled)
+  answers_question state records settled q answer (inr is) =
+      let P : Result Reply Stop → Type 0 = λ a. Answers (AskComesTo room) stands_for (repository_of state records) (Answer q) state.moment state a in
+      let r = repository_of state records in
+      let reply = answer_reply (answer_of state.documents q) in
+      subst P (sym is) (unchanged r reply, refl, refl, holds_unchanged r reply state.moment state (holds_still state records settled))
+
+  -- ---- commands
+
+  pub answers_command : (r : Repository Documents) (from : ℕ) (now : State Documents I) (c : Command) (done : Result Done Refusal) → Acts room stands_for r c from now done
+      → (answer : Result Reply Stop) → Finishes done (success_reply c) answer → Answers (AskComesTo room) stands_for r (Act c) from now answer
+  unfolding AskComesTo
+  answers_command r from now c (Ok done) acts answer is =
+      let P : Result Reply Stop → Type 0 = λ a. Answers (AskComesTo room) stands_for r (Act c) from now a in
+      let new = acts.1.new in
+      subst P (sym is) (outcome_of r c (accepted new), (accepted new, acts.1.steps, refl), refl, acts.1.holds)
+  answers_command r from now c (Err why) acts answer (inl (fault, is)) =
+      let P : Result Reply Stop → Type 0 = λ a. Answers (AskComesTo room) stands_for r (Act c) from now a in
+      let torn = acts.0 fault in
+      subst P (sym is) (outcome_of r c (accepted torn.new), (accepted torn.new, torn.steps, refl), torn.faulted)
+  answers_command r from now c (Err why) acts answer (inr (no_fault, inl is)) =
+      let P : Result Reply Stop → Type 0 = λ a. Answers (AskComesTo room) stands_for r (Act c) from now a in
+      subst P (sym is) (acts.1 no_fault)
+  answers_command r from now c (Err why) acts answer (inr (no_fault, inr (some, is))) =
+      let P : Result Reply Stop → Type 0 = λ a. Answers (AskComesTo room) stands_for r (Act c) from now a in
+      subst P (sym is) (outcome_of r c (refused why), (refused why, acts.2 no_fault some, refl), refl, holds_unchanged r (refusal_reply why) from now (acts.1 no_fault))
+
+  -- ---- requests
+
+  pub answers_asked : (r : Repository Documents) (from : ℕ) (now : State Documents I) (m : Message) (ask : Ask) (answer : Result Reply Stop) → IsAsked m (Ok ask)
+      → Answers (AskComesTo room) stands_for r ask from now answer → Answers (Turns room) stands_for r m from now answer
+  unfolding Turns
+  answers_asked r from now m ask (Ok reply) asked (outcome, comes, is, holds) = (outcome, (Ok ask, asked, comes), is, holds)
+  answers_asked r from now m ask (Err stop.NoMemory) asked holds = holds
+  answers_asked r from now m ask (Err stop.StorageFault) asked (outcome, comes, faulted) = (outcome, (Ok ask, asked, comes), faulted)
+
+  pub answers_refused : (state : State Documents I) (records : List (List ℕ)) → IsSettledState stands_for state records → (m : Message) (why : Refusal) (answer : Result Reply Stop)
+      → OrNoMemory (IsAsked m) (Err why) → IsRefused why answer → Answers (Turns room) stands_for (repository_of state records) m state.moment state answer
+  unfolding Turns
+  answers_refused state records settled m why answer asked (inl none) =
+      let P : Result Reply Stop → Type 0 = λ a. Answers (Turns room) stands_for (repository_of state records) m state.moment state a in
+      subst P (sym none) (holds_still state records settled)
+  answers_refused state records settled m why answer (inl none) (inr (some, is)) = absurd (some (cc))
+  answers_refused state records settled m why answer (inr asked) (inr (some, is)) =
+      let P : Result Reply Stop → Type 0 = λ a. Answers (Turns room) stands_for (repository_of state records) m state.moment state a in
+      let r = repository_of state records in
+      subst P (sym is)
+      (unchanged r (refusal_reply why), (Err why, asked, refl), refl, holds_unchanged r (refusal_reply why) state.moment state (holds_still state records settled))

@@ -1,0 +1,102 @@
+// The replies to questions, commands and refusals.
+ghost use Rattle.std.specs.Prelude.{◌≡◌, ◌↔◌, Err, IfOk, IsSome};
+ghost use Rattle.aas_command.specs.Commands.{IsWellFormed};
+ghost use Rattle.aas_http.specs.ReplyText.{phrase};
+ghost use Rattle.aas_api_service.specs.Finished.{Finishes, IsRefused, IsReply};
+ghost use Rattle.aas_api_service.specs.Turns.{answer_reply, reply_with, success_reply};
+
+use aas_api::refused;
+use aas_command::{Command, Refusal, concept_text, shell_text, submodel_text};
+use aas_http::Reply;
+use aas_model::{Many, NoMemory, Text};
+use aas_repo::Done;
+use aas_session::Stop;
+use std::alloc::Global;
+
+/// The reply to what a question is answered.
+pub(crate) fn told(alloc: Global, answer: Result<Many<u8>, Refusal>) -> Result<Reply, Stop>
+    ensures told { answer ≡ Err Refusal.NoMemory → result ≡ Err Stop.NoMemory }
+    ensures reply { IsReply (answer_reply answer) result }
+    ensures phrase { IfOk result (λ reply. IsSome (phrase reply.status)) }
+{
+    match answer {
+        Ok(body) => match open_reply(alloc, 200, body) {
+            Ok(reply) => Ok(reply),
+            Err(NoMemory) => Err(Stop::NoMemory),
+        },
+        Err(refusal) => refuse(alloc, refusal),
+    }
+}
+
+/// The reply to a command that is accepted.
+#[tactic(auto, unfolding(aas_command::specs::Commands::IsWellFormed))]
+pub(crate) fn success(alloc: Global, command: &Command) -> Result<Reply, NoMemory>
+    requires { IsWellFormed command.now }
+    ensures reply { IfOk result (λ reply. reply ≡ success_reply command.now) }
+    ensures phrase { IfOk result (λ reply. IsSome (phrase reply.status)) }
+{
+    match command {
+        Command::CreateShell { document } => {
+            open_reply(alloc, 201, shell_text(alloc, document)?.into())
+        }
+        Command::CreateSubmodel { document } => {
+            open_reply(alloc, 201, submodel_text(alloc, document)?.into())
+        }
+        Command::CreateConcept { document } => {
+            open_reply(alloc, 201, concept_text(alloc, document)?.into())
+        }
+        _ => open_reply(alloc, 204, Many::new(alloc)),
+    }
+}
+
+/// What is answered by what became of a command, with the reply that was made for its success.
+pub(crate) fn finish(
+    alloc: Global,
+    done: Result<Done, Refusal>,
+    reply: Reply,
+) -> Result<Reply, Stop>
+    requires { IsSome (phrase reply.status) }
+    ensures finished { Finishes done reply result }
+    ensures fault { (result ≡ Err Stop.StorageFault) ↔ (done ≡ Err Refusal.StorageFault) }
+    ensures phrase { IfOk result (λ reply. IsSome (phrase reply.status)) }
+{
+    match done {
+        Ok(_) => Ok(reply),
+        Err(Refusal::StorageFault) => Err(Stop::StorageFault),
+        Err(refusal) => refuse(alloc, refusal),
+    }
+}
+
+/// What is answered to a refusal.
+pub(crate) fn refuse(alloc: Global, refusal: Refusal) -> Result<Reply, Stop>
+    ensures refused { IsRefused refusal result }
+    ensures phrase { IfOk result (λ reply. IsSome (phrase reply.status)) }
+{
+    refuse_by(alloc, &refusal)
+}
+
+fn refuse_by(alloc: Global, refusal: &Refusal) -> Result<Reply, Stop>
+    ensures refused { IsRefused refusal.now result }
+    ensures phrase { IfOk result (λ reply. IsSome (phrase reply.status)) }
+{
+    match refusal {
+        Refusal::NoMemory => Err(Stop::NoMemory),
+        refusal => match refused(alloc, refusal) {
+            Ok(reply) => Ok(reply),
+            Err(NoMemory) => Err(Stop::NoMemory),
+        },
+    }
+}
+
+/// A reply that leaves the connection open and names no methods.
+fn open_reply(alloc: Global, status: u16, body: Many<u8>) -> Result<Reply, NoMemory>
+    ensures reply { IfOk result (λ reply. reply ≡ reply_with status body) }
+    ensures status { IfOk result (λ reply. reply.status ≡ status) }
+{
+    Ok(Reply {
+        status,
+        body,
+        allow: Text::from_str(alloc, "")?,
+        close: false,
+    })
+}
