@@ -11,12 +11,15 @@ use Rattle.aas_server.specs.ValueAnswer.{IsValueAnswer}
 
 -- ---- the commands
 
+-- so many connections can be asked for
+abbrev pub IsCount : ℕ → Type 0
+IsCount count = (1 ≤ count) × (count ≤ 1000000)
+
 -- the words of each command
 abbrev pub AreWordsOf : CommandLine → List (List ℕ) → Type 0
 AreWordsOf Value words = words ≡ codes "value" ∷ []
 AreWordsOf Pipe words = words ≡ codes "pipe" ∷ []
-AreWordsOf (Serve count) words =
-    (1 ≤ count) × (count ≤ 1000000) × ((address : List ℕ) × (words ≡ codes "serve" ∷ address ∷ decimal count ∷ []))
+AreWordsOf (Serve count) words = IsCount count × ((address : List ℕ) × (words ≡ codes "serve" ∷ address ∷ decimal count ∷ []))
 
 -- What a run of each command, or of no command, does: its status, and the console and the wire before and after it.
 abbrev pub Does : Option CommandLine → ℕ → ConsoleState → ConsoleState → WireState → WireState → Type 0

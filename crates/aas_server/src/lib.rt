@@ -6,6 +6,7 @@
 mod command_line;
 mod commands;
 mod console;
+mod server;
 mod status;
 mod stop;
 mod value;

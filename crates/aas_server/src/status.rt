@@ -1,4 +1,7 @@
+// How a run ends.
 ghost use Rattle.std.specs.Prelude.{◌≡◌};
+
+use aas_session::{Ended, WireEnded};
 
 /// How a run ends.
 #[derive(Clone, Copy)]
@@ -25,5 +28,36 @@ impl Status {
         ensures { result ≡ exit_code self }
     {
         self as u8
+    }
+}
+
+impl From<Ended> for Status {
+    ghost use Rattle.aas_server.specs.Pipe.{pipe_status};
+    ghost use Rattle.aas_server.specs.Status.{exit_code};
+
+    ghost from_gives = { λ ended given. exit_code given ≡ pipe_status ended };
+
+    fn from(ended: Ended) -> Status {
+        match ended {
+            Ended::Closed => Status::Done,
+            Ended::LinkFault => Status::LinkFault,
+            Ended::KeeperFault => Status::KeeperFault,
+            Ended::NoMemory => Status::NoMemory,
+        }
+    }
+}
+
+impl From<WireEnded> for Status {
+    ghost use Rattle.aas_server.specs.Serve.{serve_status};
+    ghost use Rattle.aas_server.specs.Status.{exit_code};
+
+    ghost from_gives = { λ ended given. exit_code given ≡ serve_status ended };
+
+    fn from(ended: WireEnded) -> Status {
+        match ended {
+            WireEnded::Done => Status::Done,
+            WireEnded::WireFault => Status::LinkFault,
+            WireEnded::KeeperFault => Status::KeeperFault,
+        }
     }
 }
