@@ -4,8 +4,15 @@
 //! What stands in the files is said above (`aas_journal`); the files of the operating system stand in the program.
 #![tactic(auto)]
 
+mod crash;
 mod disk;
+mod memory_disk;
+mod memory_file;
+mod memory_files;
+mod memory_record;
 mod part;
 
+pub use crash::Crash;
 pub use disk::Disk;
+pub use memory_disk::MemDisk;
 pub use part::Part;

@@ -1,0 +1,6 @@
+mod DiskCalls
+mod Follows
+mod Images
+mod Ones
+mod Records
+mod Written
