@@ -20,7 +20,8 @@ agrees disk part = seen_left disk.base disk.steps part
 
 -- what may be left now
 left_now : (disk : MemDiskState) (files : Files) → disk_left_at disk (clock disk) files → AreLeft (now disk) files
-left_now disk files left = subst (λ (steps : List Step). AreLeft (after_steps disk.base steps) files) (take_all (length disk.steps) disk.steps (omega arith)) left.1
+left_now disk files left =
+    subst (λ (steps : List Step). AreLeft (after_steps disk.base steps) files) (take_all (length disk.steps) disk.steps (omega arith)) left.1
 
 module _ (old new : MemDiskState) (made : List Step) (base : new.base ≡ old.base) (steps : new.steps ≡ old.steps ++ made) where
   pub clock_is : clock new ≡ clock old + length made
@@ -31,19 +32,23 @@ module _ (old new : MemDiskState) (made : List Step) (base : new.base ≡ old.ba
 
   -- what was left at a moment that is over stays
   left_before : (t : ℕ) → t ≤ clock old → (files : Files) → disk_left_at new t files → disk_left_at old t files
-  left_before t le files left = (le, subst (λ (states : Part → FileState). AreLeft states files) (λ i. after_steps (base i) (earlier t le i)) left.1)
+  left_before t le files left =
+      (le, subst (λ (states : Part → FileState). AreLeft states files) (λ i. after_steps (base i) (earlier t le i)) left.1)
 
   pub now_is : (part : Part) → now new part ≡ fold (after_step part) (now old part) made
   now_is part = (λ i. after_steps (base i) (steps i) part) ∙ fold-append (after_step part) (settled (file part old.base)) old.steps made
 
   -- at the moment at which the call began
   at_start : (t : ℕ) → clock old ≤ t → t ≤ clock old → (files : Files) → disk_left_at new t files → disk_left_at old (clock old) files
-  at_start t since until files left = left_before (clock old) (omega arith) files (subst (λ (n : ℕ). disk_left_at new n files) (omega (arith, since, until)) left)
+  at_start t since until files left =
+      left_before (clock old) (omega arith) files (subst (λ (n : ℕ). disk_left_at new n files) (omega (arith, since, until)) left)
 
   -- at the moment at which it ended
-  at_end : (t : ℕ) → clock new ≤ t → t ≤ clock new → (files : Files) → disk_left_at new t files → AreLeft (λ part. fold (after_step part) (now old part) made) files
+  at_end : (t : ℕ) → clock new ≤ t → t ≤ clock new → (files : Files) → disk_left_at new t files
+      → AreLeft (λ part. fold (after_step part) (now old part) made) files
   at_end t since until files left part =
-      subst (λ (s : FileState). IsLeft s (file part files)) (now_is part) (left_now new files (subst (λ (n : ℕ). disk_left_at new n files) (omega (arith, since, until)) left) part)
+      subst (λ (s : FileState). IsLeft s (file part files)) (now_is part)
+      (left_now new files (subst (λ (n : ℕ). disk_left_at new n files) (omega (arith, since, until)) left) part)
 
   pub seen_is : seen_files new ≡ files_of (λ part. (fold (after_step part) (now old part) made).seen)
   seen_is = λ i. files_of (λ part. (now_is part i).seen)
@@ -59,14 +64,16 @@ module _ (old new : MemDiskState) (step : Step) (base : new.base ≡ old.base) (
   after part = after_step part (now old part) step
 
   -- at each of its moments a stop leaves what one before it may have left, or one after the step
-  one_left : (t : ℕ) → clock old ≤ t → t ≤ clock new → ((files : Files) → disk_left_at new t files → disk_left_at old (clock old) files) ⊎ ((files : Files) → disk_left_at new t files → AreLeft after files)
+  one_left : (t : ℕ) → clock old ≤ t → t ≤ clock new
+      → AddsNone (disk_left_at old (clock old)) (disk_left_at new t) ⊎ AddsNone (AreLeft after) (disk_left_at new t)
   one_left t since until = ⊎_elim
       (λ low. inl (at_start old new (step ∷ []) base steps t since (omega (arith, low))))
       (λ high. inr (at_end old new (step ∷ []) base steps t (omega (arith, high, clock_is old new (step ∷ []) base steps)) until))
       (cases_lt t (clock old + 1))
 
 module _ (old new : MemDiskState) (part : Part) (base : new.base ≡ old.base) where
-  pub sync_images : (b : Bool) → new.steps ≡ old.steps ++ (if b then synced part ∷ [] else []) → Meanwhile (clock old) (clock new) (disk_left_at old) (disk_left_at new) AddsNone
+  pub sync_images : (b : Bool) → new.steps ≡ old.steps ++ (if b then synced part ∷ [] else [])
+      → Meanwhile (clock old) (clock new) (disk_left_at old) (disk_left_at new) AddsNone
   sync_images false steps = none_left old new base steps
   sync_images true steps = λ t since until files left. ⊎_elim
       (λ same. same files left)
@@ -91,7 +98,8 @@ untorn part at n old new less end each files left =
     (files, less files left, same_others part files, record { before = refl; after = refl; no_shorter = each files (less files left) })
 
 -- the same, said of equal sets
-torn_as : (part : Part) (at n : ℕ) (old wider new less : Files → Type 0) → AddsNone wider old → AddsNone old wider → AddsNone new less → Tears part at n old new → Tears part at n wider less
+torn_as : (part : Part) (at n : ℕ) (old wider new less : Files → Type 0)
+    → AddsNone wider old → AddsNone old wider → AddsNone new less → Tears part at n old new → Tears part at n wider less
 torn_as part at n old wider new less to from fewer tears end each files left =
     let d = tears end (λ c is. each c (to c is)) files (fewer files left) in (d.0, to d.0 d.1, d.2, d.3)
 
@@ -106,10 +114,12 @@ on_ok_never (Err e) P never = tt
 module _ (old new : MemDiskState) (part : Part) (at : ℕ) (bytes : List ℕ) (base : new.base ≡ old.base) where
   pub write_images : (b : Bool) → new.steps ≡ old.steps ++ (if b then wrote part at bytes ∷ [] else [])
       → Meanwhile (clock old) (clock new) (disk_left_at old) (disk_left_at new) (Tears part at (length bytes))
-  write_images false steps = λ t since until. untorn part at (length bytes) (disk_left_at old (clock old)) (disk_left_at new t) (none_left old new base steps t since until)
+  write_images false steps = λ t since until.
+      untorn part at (length bytes) (disk_left_at old (clock old)) (disk_left_at new t) (none_left old new base steps t since until)
   write_images true steps = λ t since until. ⊎_elim
       (λ same. untorn part at (length bytes) (disk_left_at old (clock old)) (disk_left_at new t) same)
-      (λ after. torn_as part at (length bytes) (AreLeft (now old)) (disk_left_at old (clock old)) (AreLeft (λ p. after_step p (now old p) (wrote part at bytes))) (disk_left_at new t)
+      (λ after. torn_as part at (length bytes) (AreLeft (now old)) (disk_left_at old (clock old))
+      (AreLeft (λ p. after_step p (now old p) (wrote part at bytes))) (disk_left_at new t)
       (now_left old) (left_now old) after (write_tears (now old) (agrees old) part at bytes))
       (one_left old new (wrote part at bytes) base steps t since until)
 
@@ -120,10 +130,15 @@ module _ (old new : MemDiskState) (part : Part) (at : ℕ) (bytes : List ℕ) (b
   made result Selector within = ((refl, refl), writes_at at bytes (now old Selector).seen within, on_ok result _ refl)
 
   -- a write that isn't made fails
-  pub write_seen : {E : Type 0} (result : Result (Unit {0}) E) (b : Bool) → OnOk result (IsTrue b) → new.steps ≡ old.steps ++ (if b then wrote part at bytes ∷ [] else [])
+  pub write_seen : {E : Type 0} (result : Result (Unit {0}) E) (b : Bool) → OnOk result (IsTrue b)
+      → new.steps ≡ old.steps ++ (if b then wrote part at bytes ∷ [] else [])
       → at ≤ length (file part (seen_files old)) → Writes part at bytes (Some (seen_files old)) (Some (seen_files new)) result
   write_seen result false never steps within =
-      subst (λ (f : Files). Writes part at bytes (Some (seen_files old)) (Some f) result) (sym (seen_is old new [] base steps))
-      (same_others part (seen_files old), record { before = refl; after = refl; no_shorter = omega arith; no_longer = omega arith }, on_ok_never result _ never)
+      subst (λ (f : Files). Writes part at bytes (Some (seen_files old)) (Some f) result) (sym (seen_is old new [] base steps)) (
+        same_others part (seen_files old),
+        record { before = refl; after = refl; no_shorter = omega arith; no_longer = omega arith },
+        on_ok_never result _ never,
+      )
   write_seen result true ok steps within =
-      subst (λ (f : Files). Writes part at bytes (Some (seen_files old)) (Some f) result) (sym (seen_is old new (wrote part at bytes ∷ []) base steps)) (made result part within)
+      subst (λ (f : Files). Writes part at bytes (Some (seen_files old)) (Some f) result) (sym (seen_is old new (wrote part at bytes ∷ []) base steps))
+      (made result part within)

@@ -1,3 +1,4 @@
+mod Crashes
 mod DiskCalls
 mod Follows
 mod Images

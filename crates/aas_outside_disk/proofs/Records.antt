@@ -25,7 +25,8 @@ length-steps_of (Wrote part at size ∷ entries) bytes = ap suc (length-steps_of
 length-steps_of (Synced part ∷ entries) bytes = ap suc (length-steps_of entries bytes)
 
 -- the first write's bytes are there
-first_fits : (part : Part) (at size : ℕ) (entries : List Entry) (bytes : List ℕ) → sum_by entry_size (Wrote part at size ∷ entries) ≡ length bytes → size ≤ length bytes
+first_fits : (part : Part) (at size : ℕ) (entries : List Entry) (bytes : List ℕ) → sum_by entry_size (Wrote part at size ∷ entries) ≡ length bytes
+    → size ≤ length bytes
 first_fits part at size entries bytes whole = omega (arith, whole, sum_by-cons entry_size (Wrote part at size) entries)
 
 -- and behind them those of the others
@@ -33,10 +34,12 @@ rest_whole : (part : Part) (at size : ℕ) (entries : List Entry) (bytes : List 
     → sum_by entry_size entries ≡ length (drop size bytes)
 rest_whole part at size entries bytes whole = omega (arith, whole, sum_by-cons entry_size (Wrote part at size) entries, length-drop size bytes)
 
-rest_synced : (part : Part) (entries : List Entry) (bytes : List ℕ) → sum_by entry_size (Synced part ∷ entries) ≡ length bytes → sum_by entry_size entries ≡ length bytes
+rest_synced : (part : Part) (entries : List Entry) (bytes : List ℕ) → sum_by entry_size (Synced part ∷ entries) ≡ length bytes
+    → sum_by entry_size entries ≡ length bytes
 rest_synced part entries bytes whole = omega (arith, whole, sum_by-cons entry_size (Synced part) entries)
 
-pub bytes_of_steps-steps_of : (entries : List Entry) (bytes : List ℕ) → sum_by entry_size entries ≡ length bytes → bytes_of_steps (steps_of entries bytes) ≡ length bytes
+pub bytes_of_steps-steps_of : (entries : List Entry) (bytes : List ℕ) → sum_by entry_size entries ≡ length bytes
+    → bytes_of_steps (steps_of entries bytes) ≡ length bytes
 bytes_of_steps-steps_of [] bytes whole = whole
 bytes_of_steps-steps_of (Wrote part at size ∷ entries) bytes whole =
     let rest = steps_of entries (drop size bytes) in
@@ -63,8 +66,10 @@ steps_of-push (Wrote part at size ∷ entries) entry bytes more whole =
     ap₂
     (λ (b : List ℕ) (s : List Step). wrote part at b ∷ s)
     (take-append-le size bytes more here)
-    (ap (steps_of (entries ++ entry ∷ [])) (drop-append-le size bytes more here) ∙ steps_of-push entries entry (drop size bytes) more (rest_whole part at size entries bytes whole))
-steps_of-push (Synced part ∷ entries) entry bytes more whole = ap (λ (s : List Step). synced part ∷ s) (steps_of-push entries entry bytes more (rest_synced part entries bytes whole))
+    (ap (steps_of (entries ++ entry ∷ [])) (drop-append-le size bytes more here)
+    ∙ steps_of-push entries entry (drop size bytes) more (rest_whole part at size entries bytes whole))
+steps_of-push (Synced part ∷ entries) entry bytes more whole =
+    ap (λ (s : List Step). synced part ∷ s) (steps_of-push entries entry bytes more (rest_synced part entries bytes whole))
 
 -- what the view says of the fields
 pub record Sizes (a : Inside) (state : MemRecordState) : Type 0 where
@@ -81,8 +86,10 @@ sizes a state is sound = subst (Sizes a) is (record {
 
 -- a step more, with its bytes behind the others
 module _ (a : Inside) (sound : IsSound a) (entry : Entry) (more : List ℕ) (steps : List Step) (is : steps_of (entry ∷ []) more ≡ steps) where
-  pub view-push : (entries : Vec Entry Global) (bytes : Vec ℕ Global) (state : MemRecordState) → record_view a ≡ state → entries.items ≡ a.entries.items ++ entry ∷ []
-      → bytes.items ≡ a.bytes.items ++ more → record_view (record a { entries = entries; bytes = bytes }) ≡ record state { steps = state.steps ++ steps }
+  pub view-push : (entries : Vec Entry Global) (bytes : Vec ℕ Global) (state : MemRecordState) → record_view a ≡ state
+      → entries.items ≡ a.entries.items ++ entry ∷ []
+      → bytes.items ≡ a.bytes.items ++ more
+      → record_view (record a { entries = entries; bytes = bytes }) ≡ record state { steps = state.steps ++ steps }
   view-push entries bytes state view pushed appended =
       let all : steps_of entries.items bytes.items ≡ steps_of a.entries.items a.bytes.items ++ steps =
       ap₂ (λ (e : List Entry) (b : List ℕ). steps_of e b) pushed appended ∙ steps_of-push a.entries.items entry a.bytes.items more sound.whole

@@ -24,8 +24,11 @@ pub record FileState : Type 0 where
   -- what reads give
   pub seen : List ℕ
 
+abbrev pub is_in : Range → ℕ → Bool
+is_in range place = nat_le range.at place && nat_lt place (range.at + range.size)
+
 abbrev pub is_written : List Range → ℕ → Bool
-is_written ranges place = list_any (λ range. nat_le range.at place && nat_lt place (range.at + range.size)) ranges
+is_written ranges place = list_any (λ range. is_in range place) ranges
 
 -- a stop leaves these bytes
 abbrev pub settled : List ℕ → FileState
@@ -48,7 +51,8 @@ file_after part bytes steps = fold (after_step part) (settled bytes) steps
 pub record IsLeft (s : FileState) (bytes : List ℕ) : Type 0 where
   pub no_shorter : length s.durable ≤ length bytes
   pub no_longer : length bytes ≤ length s.seen
-  pub kept : (place : ℕ) → place < length s.durable → IsFalse (is_written s.ranges place) → slice_index bytes place ≡ slice_index s.durable place
+  pub kept : (place : ℕ) → place < length s.durable → IsFalse (is_written s.ranges place)
+      → slice_index bytes place ≡ slice_index s.durable place
 
 -- 1 in each place that was written, where these bytes stand from a place on
 abbrev pub with_ones : List Range → ℕ → List ℕ → List ℕ

@@ -6,7 +6,7 @@ use Rattle.aas_outside_disk.specs.declared.crash.Crash.{Crash}
 use Rattle.aas_outside_disk.specs.declared.part.Part.{Part}
 use Rattle.aas_outside_disk.specs.Files.{Files, file, files_of}
 use Rattle.aas_outside_disk.specs.FileState.{Step, FileState, file_after, IsLeft, crash_of}
-use Rattle.aas_outside_disk.specs.MemRecord.{bytes_of_steps}
+use Rattle.aas_outside_disk.specs.MemRecord.{MemRecordState, has_room_for_bytes, has_room_for_step}
 
 pub record MemDiskState : Type 0 where
   -- what its files began with
@@ -62,14 +62,14 @@ is_past_stop disk = nat_lt 0 disk.stop && nat_lt disk.stop (next_call disk)
 abbrev pub IsFailing : MemDiskState → Type 0
 IsFailing disk = IsNextFailing disk.calls ⊎ ((0 < disk.stop) × (disk.stop ≤ next_call disk))
 
--- 4,096 steps are recorded
-abbrev pub can_record : MemDiskState → Bool
-can_record disk = nat_lt (length disk.steps) 4096
+-- the record holds eight times the capacity of a file in bytes
+abbrev pub record_of : MemDiskState → MemRecordState
+record_of disk = record { steps = disk.steps; capacity = 8 * disk.capacity }
 
 -- a write of so many bytes at a place lies within the capacity of its file and has room in the record
 abbrev pub has_room : MemDiskState → ℕ → ℕ → Bool
 has_room disk at count =
-    nat_le (at + count) disk.capacity && (can_record disk && nat_le (bytes_of_steps disk.steps + count) (8 * disk.capacity))
+    nat_le (at + count) disk.capacity && (has_room_for_step (record_of disk) && has_room_for_bytes (record_of disk) count)
 
 -- such a write is made, also where it then fails
 abbrev pub is_made : MemDiskState → ℕ → ℕ → Bool

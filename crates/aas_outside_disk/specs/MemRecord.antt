@@ -16,7 +16,7 @@ bytes_of_step (synced part) = 0
 abbrev pub bytes_of_steps : List Step → ℕ
 bytes_of_steps steps = sum_by bytes_of_step steps
 
--- it has at most 4,096 steps
+-- a record holds 4,096 steps
 abbrev pub has_room_for_step : MemRecordState → Bool
 has_room_for_step state = nat_lt (length state.steps) 4096
 

@@ -6,7 +6,8 @@ ghost use Rattle.aas_outside.specs.Moments.{Passes};
 ghost use Rattle.aas_outside_disk.specs.Disk.{AddsNone, HoldsWhatIsRead, Meanwhile, Tears, Writes};
 ghost use Rattle.aas_outside_disk.specs.Files.{file};
 ghost use Rattle.aas_outside_disk.specs.FileState.{wrote, synced};
-ghost use Rattle.aas_outside_disk.specs.MemDisk.{new_disk, seen_files, crash_files, clock, disk_left_at, is_past_stop, IsFailing, can_record, has_room, is_made, IsDiskCall};
+ghost use Rattle.aas_outside_disk.specs.MemDisk.{new_disk, seen_files, crash_files, clock, disk_left_at, is_past_stop, IsFailing, record_of, has_room, is_made, IsDiskCall};
+ghost use Rattle.aas_outside_disk.specs.MemRecord.{has_room_for_step};
 
 use crate::memory_file::MemFile;
 use crate::memory_files::MemFiles;
@@ -78,6 +79,23 @@ impl MemDisk {
         })
     }
 
+    /// A disk as a crash leaves this one, without failing calls and without a stop: of what was written since the last sync of
+    /// its file the old bytes, the new ones, or 1 in each place.
+    pub fn crash(&self, alloc: Global, choice: Crash) -> Result<MemDisk, NoMemory>
+        ensures begins { IfOk result (λ disk. disk ≡ new_disk (crash_files choice self.now) self.now.capacity [] 0) }
+        ensures image { disk_left_at self.now (clock self.now) (crash_files choice self.now) }
+    {
+        MemDisk::new(
+            alloc,
+            self.left(choice, Part::Main),
+            self.left(choice, Part::Spare),
+            self.left(choice, Part::Selector),
+            self.capacity,
+            &[],
+            0,
+        )
+    }
+
     /// What reads give of a file.
     pub fn contents(&self, part: Part) -> &[u8]
         ensures { result.now ≡ file part (seen_files self.now) }
@@ -142,7 +160,7 @@ impl MemDisk {
 
     // Makes and records a sync where there is room, and answers whether it did.
     fn make_sync(&mut self, part: Part) -> bool
-        ensures value { result ≡ can_record self.old }
+        ensures value { result ≡ has_room_for_step (record_of self.old) }
         ensures after { self.new ≡ record self.old { steps = self.old.steps ++ (if result then synced part ∷ [] else []) } }
     {
         if !self.recorded.has_room_for_step() {
@@ -182,7 +200,7 @@ impl MemDisk {
 
     fn try_sync(&mut self, part: Part) -> Result<(), Failed>
         ensures called { IsDiskCall self.old self.new (if is_ok result then synced part ∷ [] else []) result }
-        ensures fails { IsErr result ↔ (IsFailing self.old ⊎ IsFalse (can_record self.old)) }
+        ensures fails { IsErr result ↔ (IsFailing self.old ⊎ IsFalse (has_room_for_step (record_of self.old))) }
         ensures later { self.old.faults ≤ self.new.faults }
     {
         if self.next_fails() || !self.make_sync(part) {
@@ -258,7 +276,7 @@ impl Disk for MemDisk {
         ensures past { Passes (clock self.old) (disk_left_at self.old) (clock self.new) (disk_left_at self.new) }
         ensures cause { HasCause self.old.faults self.new.faults result }
         ensures called { IsDiskCall self.old self.new (if is_ok result then synced part ∷ [] else []) result }
-        ensures fails { IsErr result ↔ (IsFailing self.old ⊎ IsFalse (can_record self.old)) }
+        ensures fails { IsErr result ↔ (IsFailing self.old ⊎ IsFalse (has_room_for_step (record_of self.old))) }
     {
         self.try_sync(part)
     }

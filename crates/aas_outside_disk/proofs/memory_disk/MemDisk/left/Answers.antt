@@ -5,4 +5,5 @@ use Rattle.aas_outside_disk.proofs.memory_disk.MemDisk.left.Goals as goal
 
 pub returns : goal.returns
 returns c =
-    c.left.ensures ∙ ap (λ (f : MemFileState). left_by c.args.choice f) c.file.ensures ∙ left_is c.self.inside c.args.self.now c.self.view_is c.self.invariant c.args.choice c.args.part
+    c.left.ensures ∙ ap (λ (f : MemFileState). left_by c.args.choice f) c.file.ensures
+    ∙ left_is c.self.inside c.args.self.now c.self.view_is c.self.invariant c.args.choice c.args.part

@@ -15,5 +15,7 @@ invariant_of-self c =
     let bytes = c.args.bytes.now in
     let within : at ≤ length (mem_file c.args.part c.self.inside.files).seen =
     omega (arith, c.requires, ap length (left_is c.self.inside c.args.self.now c.self.view_is c.self.invariant New c.args.part)) in
-    step_sound c.self.inside c.self.invariant c.args.part (wrote c.args.part at bytes) (after_file_write at bytes) (after_write at bytes) (λ f. refl) (λ f. refl) (λ part s. refl)
-    (λ s. write_follows at bytes (mem_file c.args.part c.self.inside.files) s within) c.write.new.self c.write.ensures c.push_write.new.self c.push_write.ensures
+    step_sound c.self.inside c.self.invariant c.args.part (wrote c.args.part at bytes) (after_file_write at bytes) (after_write at bytes)
+    (λ f. refl) (λ f. refl) (λ part s. refl)
+    (λ s. write_follows at bytes (mem_file c.args.part c.self.inside.files) s within)
+    c.write.new.self c.write.ensures c.push_write.new.self c.push_write.ensures

@@ -12,5 +12,6 @@ push_reserved-requires c =
 
 pub returns : goal.returns
 returns c =
-    view-push c.self.inside c.self.invariant (Synced c.args.part) [] _ refl c.push_reserved.new.self c.self.inside.bytes c.args.self.now c.self.view_is c.push_reserved.ensures.items
+    view-push c.self.inside c.self.invariant (Synced c.args.part) [] _ refl
+    c.push_reserved.new.self c.self.inside.bytes c.args.self.now c.self.view_is c.push_reserved.ensures.items
     (sym (append-nil c.self.inside.bytes.items))

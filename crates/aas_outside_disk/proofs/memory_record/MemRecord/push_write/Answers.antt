@@ -27,8 +27,11 @@ invariant_of-self c =
     let fits : bytes_of_steps c.args.self.now.steps + length c.args.bytes.now ≤ c.args.self.now.capacity = leb-true _ _ c.requires.bytes_room in
     let size : length c.append_reserved.new.list.items ≡ length c.self.inside.bytes.items + length c.args.bytes.now =
     ap length c.append_reserved.ensures.items ∙ length-append c.self.inside.bytes.items c.args.bytes.now in
+    let entries_size : sum_by entry_size c.push_reserved.new.self.items ≡ sum_by entry_size c.self.inside.entries.items + length c.args.bytes.now =
+    ap (λ (l : List Entry). sum_by entry_size l) c.push_reserved.ensures.items
+    ∙ sum_by-push entry_size c.self.inside.entries.items (Wrote c.args.part c.args.at (length c.args.bytes.now)) in
     record {
-      whole = omega (arith, size, c.self.invariant.whole, ap (λ (l : List Entry). sum_by entry_size l) c.push_reserved.ensures.items, sum_by-push entry_size c.self.inside.entries.items (Wrote c.args.part c.args.at (length c.args.bytes.now)));
+      whole = omega (arith, size, c.self.invariant.whole, entries_size);
       within = omega (arith, size, s.bytes, s.capacity, fits);
       bytes_room = omega (arith, c.self.invariant.bytes_room, c.append_reserved.ensures.capacity);
       entries_room = omega (arith, c.self.invariant.entries_room, c.push_reserved.ensures.capacity);
@@ -36,6 +39,7 @@ invariant_of-self c =
 
 pub returns : goal.returns
 returns c =
-    view-push c.self.inside c.self.invariant (Wrote c.args.part c.args.at (length c.args.bytes.now)) c.args.bytes.now (wrote c.args.part c.args.at c.args.bytes.now ∷ [])
+    view-push c.self.inside c.self.invariant (Wrote c.args.part c.args.at (length c.args.bytes.now)) c.args.bytes.now
+    (wrote c.args.part c.args.at c.args.bytes.now ∷ [])
     (ap (λ (l : List ℕ). wrote c.args.part c.args.at l ∷ []) (take_all (length c.args.bytes.now) c.args.bytes.now (omega arith)))
     c.push_reserved.new.self c.append_reserved.new.list c.args.self.now c.self.view_is c.push_reserved.ensures.items c.append_reserved.ensures.items
