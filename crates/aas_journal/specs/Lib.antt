@@ -1,0 +1,4 @@
+pub mod Bank
+pub mod Causes
+pub mod Image
+pub mod Laws

@@ -1,0 +1,12 @@
+//! A journal: payloads kept in one of the files of a disk, so that a stop at any moment leaves what was kept before, or that
+//! and what was being kept.
+//!
+//! What stands in a payload is said above (`aas_command`); disks, and what a stop leaves of them, stand below
+//! (`aas_outside_disk`).
+#![tactic(auto)]
+
+mod fault;
+mod laws;
+
+pub use fault::{InitFault, OpenFault};
+pub use laws::{have_one_condition, have_one_list};
