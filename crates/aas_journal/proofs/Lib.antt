@@ -1,2 +1,7 @@
+mod Disks
 mod Gates
+mod Images
+mod Keeping
+mod Placed
 mod Records
+mod Torn

@@ -1,4 +1,5 @@
 pub mod Bank
 pub mod Causes
 pub mod Image
+pub mod Kept
 pub mod Laws

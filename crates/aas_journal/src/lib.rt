@@ -5,8 +5,11 @@
 //! (`aas_outside_disk`).
 #![tactic(auto)]
 
+mod durable;
 mod fault;
+mod journal;
 mod laws;
 
 pub use fault::{InitFault, OpenFault};
+pub use journal::Journal;
 pub use laws::{have_one_condition, have_one_list};
