@@ -1,6 +1,7 @@
 mod Disks
 mod Gates
 mod Images
+mod Initial
 mod Keeping
 mod Placed
 mod Records

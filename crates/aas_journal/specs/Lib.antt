@@ -3,3 +3,4 @@ pub mod Causes
 pub mod Image
 pub mod Kept
 pub mod Laws
+pub mod Reads

@@ -7,9 +7,11 @@
 
 mod durable;
 mod fault;
+mod init;
 mod journal;
 mod laws;
 
 pub use fault::{InitFault, OpenFault};
+pub use init::init_journal;
 pub use journal::Journal;
 pub use laws::{have_one_condition, have_one_list};
