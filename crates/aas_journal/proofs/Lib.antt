@@ -1,8 +1,10 @@
 mod Disks
 mod Gates
+mod Heads
 mod Images
 mod Initial
 mod Keeping
 mod Placed
 mod Records
 mod Torn
+mod Walks

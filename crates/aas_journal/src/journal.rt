@@ -8,7 +8,7 @@ use aas_outside::{Failed, Frame, Keeper};
 use aas_outside_disk::{Disk, Part};
 
 /// The byte of an open gate.
-const OPEN: u8 = 1;
+pub(crate) const OPEN: u8 = 1;
 
 /// The most bytes that a journal writes to a file.
 const MOST_BYTES: u64 = 268_435_456;
@@ -19,11 +19,11 @@ const RECORD_BYTES: u64 = 6;
 /// Payloads in the chosen file of a disk. Its clock and its count of faults are the disk's.
 #[derive(Drop)]
 pub struct Journal<D: Disk> {
-    disk: D,
+    pub(crate) disk: D,
     /// The chosen file.
-    part: Part,
+    pub(crate) part: Part,
     /// Where its closed gate stands.
-    gate: u64,
+    pub(crate) gate: u64,
     ghost placed: { ForSome (D.seen disk) (λ files. IsPlaced files (D.left_at disk (D.moment disk)) part gate) },
 }
 

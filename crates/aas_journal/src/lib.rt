@@ -10,8 +10,11 @@ mod fault;
 mod init;
 mod journal;
 mod laws;
+mod open;
+mod walk;
 
 pub use fault::{InitFault, OpenFault};
 pub use init::init_journal;
 pub use journal::Journal;
 pub use laws::{have_one_condition, have_one_list};
+pub use open::NotOpened;
