@@ -1,10 +1,11 @@
 mod Disks
-mod Gates
+pub mod Gates
 mod Heads
-mod Images
+pub mod Images
 mod Initial
 mod Keeping
+mod Opening
 mod Placed
-mod Records
-mod Torn
-mod Walks
+pub mod Records
+pub mod Torn
+pub mod Walks

@@ -17,4 +17,4 @@ pub use fault::{InitFault, OpenFault};
 pub use init::init_journal;
 pub use journal::Journal;
 pub use laws::{have_one_condition, have_one_list};
-pub use open::NotOpened;
+pub use open::{NotOpened, open_journal};

@@ -1,7 +1,7 @@
 // The walk over the gates of a file.
-ghost use Rattle.std.specs.Prelude.{◌≡◌, ◌<◌, ◌≤◌, Err, IfErr, IfOk, IfSome, drop, length, take};
+ghost use Rattle.std.specs.Prelude.{◌≡◌, ◌<◌, ◌≤◌, ◌↔◌, Err, IfErr, IfOk, IfSome, IsTrue, OnOk, drop, length, take};
 ghost use Rattle.std.specs.Int.{from_be_bytes, to_be_bytes, w32};
-ghost use Rattle.aas_journal.specs.Bank.{chosen};
+ghost use Rattle.aas_journal.specs.Bank.{chosen, chosen_file};
 ghost use Rattle.aas_journal.specs.Causes.{HasFault};
 ghost use Rattle.aas_journal.specs.Gates.{IsBetween, IsClosedAt, StandsAt};
 ghost use Rattle.aas_journal.specs.Image.{IsHeader};
@@ -10,6 +10,7 @@ ghost use Rattle.aas_journal.specs.declared.fault.OpenFault.TheVariants.{Failed 
 ghost use Rattle.aas_outside.specs.Faults.{HasCause, Rose};
 ghost use Rattle.aas_outside_disk.specs.Disk.{HoldsWhatIsRead};
 ghost use Rattle.aas_outside_disk.specs.Files.{file};
+ghost use Rattle.aas_outside_disk.specs.declared.part.Part.TheVariants.{Selector};
 
 use crate::OpenFault;
 use crate::journal::OPEN;
@@ -32,6 +33,36 @@ pub enum Gate {
     },
     /// The gate is open, and its record passes the end of the file.
     PastEnd,
+}
+
+/// The part that the selector chooses, after a sync of the selector.
+fn chosen_part<D: Disk>(disk: &mut D) -> Result<Part, Failed>
+    ensures value { IfOk result (λ part. IfSome (D.seen disk.old) (λ files. part ≡ chosen files.selector)) }
+    ensures durable { OnOk result
+        (HoldsWhatIsRead Selector (D.seen disk.old) (D.left_at disk.new (D.moment disk.new))) }
+    ensures reads { OnlyReads D.seen D.moment D.left_at disk.old disk.new }
+    ensures cause { HasCause (D.faults disk.old) (D.faults disk.new) result }
+{
+    disk.sync(Part::Selector)?;
+    if disk.length(Part::Selector)? == 0 {
+        return Ok(Part::Main);
+    }
+    let mut first = [0];
+    disk.read_at(Part::Selector, 0, &mut first)?;
+    Ok(if first[0] % 2 == 0 { Part::Main } else { Part::Spare })
+}
+
+/// Whether a file begins with a header. It has so many bytes.
+fn has_header<D: Disk>(disk: &mut D, part: Part) -> Result<bool, Failed>
+    requires { IfSome (D.seen disk.old) (λ files. 8 ≤ length (file part files)) }
+    ensures value { IfOk result (λ known. IfSome (D.seen disk.old) (λ files.
+        IsTrue known ↔ IsHeader (take 8 (file part files)))) }
+    ensures reads { OnlyReads D.seen D.moment D.left_at disk.old disk.new }
+    ensures cause { HasCause (D.faults disk.old) (D.faults disk.new) result }
+{
+    let mut header = [0; 8];
+    disk.read_at(part, 0, &mut header)?;
+    Ok(header == *b"AASJ0001" || header == *b"AASJ0002")
 }
 
 /// The length that four bytes tell, the greatest first.
@@ -91,4 +122,38 @@ fn closed_gate<D: Disk>(disk: &mut D, part: Part, size: u64) -> Result<u64, Open
             Gate::PastEnd => return Err(OpenFault::Damaged { at: gate }),
         }
     }
+}
+
+/// Where the records of a journal end.
+#[derive(Clone, Copy, Drop)]
+pub struct End {
+    /// The chosen file.
+    pub part: Part,
+    /// Where its closed gate stands.
+    pub gate: u64,
+}
+
+/// Finds the closed gate of the chosen file, after a sync of the selector and of that file.
+pub fn find_end<D: Disk>(disk: &mut D) -> Result<End, OpenFault>
+    ensures found { IfOk result (λ end. IfSome (D.seen disk.old) (λ files.
+        (end.part ≡ chosen files.selector) × IsClosedAt (chosen_file files) end.gate)) }
+    ensures durable { IfOk result (λ end.
+        HoldsWhatIsRead Selector (D.seen disk.old) (D.left_at disk.new (D.moment disk.new))
+        × HoldsWhatIsRead end.part (D.seen disk.old) (D.left_at disk.new (D.moment disk.new))) }
+    ensures fault { IfErr result (λ fault. IfSome (D.seen disk.old) (λ files. HasFault (chosen_file files) fault)) }
+    ensures failed { result ≡ Err DiskFailed → Rose (D.faults disk.old) (D.faults disk.new) }
+    ensures later { D.faults disk.old ≤ D.faults disk.new }
+    ensures reads { OnlyReads D.seen D.moment D.left_at disk.old disk.new }
+{
+    let part = chosen_part(disk)?;
+    disk.sync(part)?;
+    let size = disk.length(part)?;
+    if size <= FIRST_GATE {
+        return Err(OpenFault::NotInitialised);
+    }
+    if !has_header(disk, part)? {
+        return Err(OpenFault::NotInitialised);
+    }
+    let gate = closed_gate(disk, part, size)?;
+    Ok(End { part, gate })
 }
