@@ -1,0 +1,11 @@
+mod Disks
+pub mod Gates
+mod Heads
+pub mod Images
+mod Initial
+mod Keeping
+mod Opening
+mod Placed
+pub mod Records
+pub mod Torn
+pub mod Walks
