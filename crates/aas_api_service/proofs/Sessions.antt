@@ -1,5 +1,5 @@
 -- The turns of a session leave every constraint true.
-use Rattle.std.proofs.Common.{◌≡◌, inl, inr, ℕ, ◌-◌, Bool, true, false, List, [], ◌∷◌, length, Ok, Err, sym, subst}
+use Rattle.std.proofs.Common.{inl, inr, ℕ, ◌-◌, Bool, true, false, List, [], ◌∷◌, length, Ok, Err, sym, subst}
 use Rattle.std.specs.Prelude.{if◌then◌else◌}
 use Rattle.aas_command.specs.Commands.{payload_of}
 use Rattle.aas_http.specs.FirstRequest.{Message, FirstRequest, Nothing, Bad, TooLarge, NotImplemented, Whole}
