@@ -1,5 +1,7 @@
 // A peer that may be silent.
+ghost use Rattle.std.specs.Prelude.{◌≡◌, ◌↔◌, IsTrue};
 ghost use Rattle.std.specs.Io.{ReadsAtMost};
+ghost use Rattle.std.specs.IoError.{error_kind};
 ghost use Rattle.aasd.specs.TcpWire.{ReadsFront};
 
 use crate::arrivals::Arrivals;
@@ -54,6 +56,8 @@ pub fn close<S: Read + OpenStream + Drop>(mut stream: S) {
 }
 
 /// Whether a read waited for the peer in vain.
-fn is_silence(fault: &io::Error) -> bool {
+fn is_silence(fault: &io::Error) -> bool
+    ensures { IsTrue result ↔ (error_kind fault.now ≡ ErrorKind.WouldBlock) }
+{
     fault.kind() == ErrorKind::WouldBlock
 }
