@@ -12,7 +12,7 @@ use Rattle.aas_journal.proofs.Gates.{header_eight}
 use Rattle.aas_journal.proofs.Records.{Short, size, size_four}
 use Rattle.aas_journal.proofs.Torn.{long, torn_behind, torn_gate, written_behind, written_gate}
 
-abbrev record_size : List ℕ → ℕ
+abbrev pub record_size : List ℕ → ℕ
 record_size payload = 5 + length payload
 
 pub length-records : (payloads : List (List ℕ)) → length (records payloads) ≡ sum_by record_size payloads

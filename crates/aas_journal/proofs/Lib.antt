@@ -5,6 +5,7 @@ pub mod Images
 mod Initial
 mod Keeping
 mod Opening
+pub mod PayloadsRead
 mod Placed
 pub mod Records
 pub mod Torn

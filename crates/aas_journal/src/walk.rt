@@ -21,7 +21,7 @@ use aas_outside_disk::{Disk, Part};
 const FIRST_GATE: u64 = 8;
 
 /// The bytes of a gate and of the length behind it.
-const HEAD_BYTES: u64 = 5;
+pub const HEAD_BYTES: u64 = 5;
 
 /// What stands at a gate.
 #[derive(Clone, Copy, Drop)]
