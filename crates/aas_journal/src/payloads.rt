@@ -1,5 +1,6 @@
 // How payloads are read from a journal.
-ghost use Rattle.std.specs.Prelude.{◌≡◌, ◌<◌, ◌≤◌, ◌+◌, ◌⊎◌, ◌++◌, List, ℕ, Err, IfErr, IfOk, IfSome, OnErr, OnOk, drop, length, take};
+ghost use Rattle.std.specs.Prelude.{◌≡◌, ◌<◌, ◌≤◌, ◌+◌, ◌⊎◌, ◌++◌, List, ℕ, Err, IfErr, IfOk, IfSome};
+ghost use Rattle.std.specs.Prelude.{OnErr, OnOk, drop, length, take};
 ghost use Rattle.aas_journal.specs.Bank.{IsBankImage};
 ghost use Rattle.aas_journal.specs.Given.{GivesNext, IsGateOf};
 ghost use Rattle.aas_journal.specs.Reads.{OnlyReads};
@@ -40,6 +41,7 @@ impl<D: Disk> Journal<D> {
         ensures reads { OnlyReads D.seen D.moment D.left_at (disk_of self.old) (disk_of self.new) }
         ensures kept { (payloads : List (List ℕ)) → ⟦<Journal<D> as Keeper>⟧.kept self.old payloads →
             ⟦<Journal<D> as Keeper>⟧.kept self.new payloads }
+        ensures room { ⟦<Journal<D> as Keeper>⟧.has_room self.new ≡ ⟦<Journal<D> as Keeper>⟧.has_room self.old }
     {
         if at >= self.gate {
             return Ok(None);

@@ -1,6 +1,6 @@
-use Rattle.std.proofs.Common.{◌≡◌, ◌∙◌, [], ◌++◌, ◌+◌, ◌<◌, ◌≤◌, Some, refl, sym, ap, subst, ℕ, List, length, get_or, take, drop, arith}
+use Rattle.std.proofs.Common.{◌≡◌, ◌∙◌, [], ◌++◌, ◌+◌, ◌≤◌, Some, refl, sym, ap, ℕ, List, length, get_or, arith}
 use Rattle.std.proofs.lemmas.Option.{slice_get-get_or}
-use Rattle.aas_outside_disk.specs.Files.{Files, file}
+use Rattle.aas_outside_disk.specs.Files.{file}
 use Rattle.aas_journal.specs.Image.{gate_of}
 use Rattle.aas_journal.proofs.Disks.{known}
 use Rattle.aas_journal.proofs.Initial.{where_told}
@@ -50,8 +50,10 @@ returns-clause-given g c = λ payloads n kept gate.
     c.length_in-length.ensures.value ∙ read_length (file self.part files) c.args.at payload it c.read_at.new.buf (known files (D.seen self.disk) _ told c.in_ok-read_at.ensures.value) in
     let within : c.args.at + (5 + length payload) ≤ self.gate = omega (arith, next_within payloads n below, gate.at_is, kept.gate_is) in
     let from : c.saturating_add-from.result ≡ c.args.at + 5 = omega (arith, c.saturating_add-from.ensures, within) in
-    let next : c.saturating_add.result ≡ gate_of payloads (n + 1) = omega (arith, c.saturating_add.ensures, from, count, within, next_gate_of payloads n below, gate.at_is) in
-    (payload, slice_get-get_or payloads n [] below,
-    known files (D.seen c.read_at.new.self) _ (c.read_at.ensures.seen ∙ told) c.in_ok-append_from.ensures.appended
-    ∙ ap (λ (l : List ℕ). c.args.out.now.items ++ l) (read_payload (file self.part files) c.args.at payload it c.saturating_add-from.result c.length_in-length.result from count),
-    next)
+    let next : c.saturating_add.result ≡ gate_of payloads (n + 1) = omega (arith, c.saturating_add.ensures, from, count, within, next_gate_of payloads n below, gate.at_is) in (
+      payload,
+      slice_get-get_or payloads n [] below,
+      known files (D.seen c.read_at.new.self) _ (c.read_at.ensures.seen ∙ told) c.in_ok-append_from.ensures.appended
+          ∙ ap (λ (l : List ℕ). c.args.out.now.items ++ l) (read_payload (file self.part files) c.args.at payload it c.saturating_add-from.result c.length_in-length.result from count),
+      next,
+    )
