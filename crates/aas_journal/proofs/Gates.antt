@@ -1,9 +1,9 @@
 -- What a file's gates say of it.
-use Rattle.std.proofs.Common.{◌≡◌, ◌≢◌, ◌⊎◌, inl, inr, ⊎_elim, ℕ, ◌+◌, ◌<◌, ◌≤◌, List, [], ◌∷◌, ◌++◌, length, take, drop, refl, sym, ◌∙◌, ap, subst, arith, length-append}
+use Rattle.std.proofs.Common.{◌≡◌, ⊎_elim, ℕ, List, ◌∷◌, ◌++◌, length, take, drop, sym, ◌∙◌, ap, subst, arith, length-append}
 use Rattle.std.proofs.lemmas.List.{take_at, drop_at}
 use Rattle.aas_journal.specs.Image.{HasGate, IsHeader, IsImage, records, gate_of}
-use Rattle.aas_journal.specs.Causes.{IsDamaged, IsNotInitialised, PassesEnd}
-use Rattle.aas_journal.proofs.Records.{OneOrOpen, Reaches, one_or_open}
+use Rattle.aas_journal.specs.Causes.{IsDamaged, IsNotInitialised}
+use Rattle.aas_journal.proofs.Records.{OneOrOpen, one_or_open}
 
 pub header_eight : (header : List ℕ) → IsHeader header → length header ≡ 8
 header_eight header known = ⊎_elim (λ e. ap length e) (λ e. ap length e) known

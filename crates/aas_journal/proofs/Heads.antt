@@ -1,10 +1,9 @@
 -- What the bytes of a gate and of the length behind it tell.
-use Rattle.std.proofs.Common.{◌≡◌, ℕ, ◌+◌, ◌-◌, ◌<◌, ◌≤◌, ◌^◌, List, [], ◌∷◌, ◌++◌, length, get_or, take, drop, refl, sym, ◌∙◌, ap, ap₂, subst, arith, length-drop, take-append-drop}
+use Rattle.std.proofs.Common.{◌≡◌, ℕ, ◌+◌, ◌-◌, ◌<◌, ◌≤◌, ◌^◌, List, [], ◌∷◌, ◌++◌, length, get_or, take, drop, refl, sym, ◌∙◌, ap, ap₂, arith, length-drop, take-append-drop}
 use Rattle.std.specs.Int.{from_be_bytes, to_be_bytes, w32}
 use Rattle.std.proofs.lemmas.List.{length-take-le}
-use Rattle.aas_journal.specs.Causes.{PassesEnd}
 use Rattle.aas_journal.specs.Gates.{StandsAt}
-use Rattle.aas_journal.specs.declared.walk.Gate.TheVariants.{Closed, Open, PastEnd}
+use Rattle.aas_journal.specs.declared.walk.Gate.TheVariants.{Open, PastEnd}
 
 -- the four bytes behind a gate
 abbrev pub four : List ℕ → List ℕ

@@ -1,18 +1,18 @@
 -- Images of one list of payloads, and of that with one more.
-use Rattle.std.proofs.Common.{◌≡◌, ◌≢◌, ◌⊎◌, inl, inr, ⊎_elim, ℕ, ◌+◌, ◌≤◌, ◌<◌, ◌^◌, List, [], ◌∷◌, ◌++◌, length, take, drop, refl, sym, ◌∙◌, ap, subst, arith, append_assoc, length-append}
-use Rattle.std.specs.Prelude.{All, sum_by}
+use Rattle.std.proofs.Common.{◌≡◌, ◌≢◌, ◌⊎◌, inl, inr, ⊎_elim, ℕ, ◌+◌, ◌≤◌, ◌<◌, ◌^◌, List, [], ◌∷◌, ◌++◌, length, take, drop, refl, sym, ◌∙◌, ap, arith, append_assoc, length-append}
+use Rattle.std.specs.Prelude.{sum_by}
 use Rattle.std.proofs.lemmas.Bool.{cases_eq}
 use Rattle.std.proofs.lemmas.List.{append-nil, take_all}
 use Rattle.std.proofs.lemmas.List.Elements.{All-append, All-cons, All-nil}
 use Rattle.std.proofs.lemmas.List.Sums.{sum_by-append}
 use Rattle.aas_outside.specs.Frame.{frame_bytes}
 use Rattle.aas_outside_disk.specs.Disk.{written, Torn}
-use Rattle.aas_journal.specs.Image.{HasGate, IsHeader, IsImage, gate_of, records}
+use Rattle.aas_journal.specs.Image.{IsHeader, IsImage, gate_of, records}
 use Rattle.aas_journal.proofs.Gates.{header_eight}
 use Rattle.aas_journal.proofs.Records.{Short, size, size_four}
 use Rattle.aas_journal.proofs.Torn.{long, torn_behind, torn_gate, written_behind, written_gate}
 
-abbrev record_size : List ℕ → ℕ
+abbrev pub record_size : List ℕ → ℕ
 record_size payload = 5 + length payload
 
 pub length-records : (payloads : List (List ℕ)) → length (records payloads) ≡ sum_by record_size payloads

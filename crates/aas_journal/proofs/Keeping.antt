@@ -71,9 +71,10 @@ module _ (files : Files) (part : Part) (gate : ℕ) (payloads : List (List ℕ))
       in_second : (t : ℕ) → m1 ≤ t → t ≤ m2 → (c : Files) → l2 t c → (c.selector ≡ files.selector) × (IsImage (file part c) payloads ⊎ IsImage (file part c) (payloads ++ payload ∷ []))
       in_second t since until c left =
           let from = images2 t since until (length staged) (λ d h. omega (arith, ap length (holds1 d h))) c left in
-          let was = in_first m1 past1.later (omega arith) from.0 from.1 in
-          (stays from.0 c was.0 from.2,
-          opening payloads gate at (file part files) is_told payload small staged whole (file part c) (subst (λ (l : List ℕ). Torn (length staged) gate 1 l (file part c)) (holds1 from.0 from.1) from.3))
+          let was = in_first m1 past1.later (omega arith) from.0 from.1 in (
+            stays from.0 c was.0 from.2,
+            opening payloads gate at (file part files) is_told payload small staged whole (file part c) (subst (λ (l : List ℕ). Torn (length staged) gate 1 l (file part c)) (holds1 from.0 from.1) from.3),
+          )
 
       second : During IsBankImage l2 m0 m2 payloads (payload ∷ [])
       second t since until c left = ⊎_elim
@@ -89,11 +90,13 @@ module _ (files : Files) (part : Part) (gate : ℕ) (payloads : List (List ℕ))
         m2,
         omega (arith, past1.later, past2.later),
         second,
-        (omega arith,
-        λ t since until c left.
-        let here : l2 m2 c = subst (λ (k : ℕ). l2 k c) (omega (arith, since, until)) left in
-        inl (bank c (payloads ++ payload ∷ []) (in_second m2 past2.later (omega arith) c here).0
-        (subst (λ (l : List ℕ). IsImage l (payloads ++ payload ∷ [])) (sym (holds2 c here)) (opened payloads gate at (file part files) is_told payload small staged whole last last_is)))),
+        (
+          omega arith,
+          λ t since until c left.
+              let here : l2 m2 c = subst (λ (k : ℕ). l2 k c) (omega (arith, since, until)) left in
+              inl (bank c (payloads ++ payload ∷ []) (in_second m2 past2.later (omega arith) c here).0
+              (subst (λ (l : List ℕ). IsImage l (payloads ++ payload ∷ [])) (sym (holds2 c here)) (opened payloads gate at (file part files) is_told payload small staged whole last last_is))),
+        ),
       )
 
 pub at_err : {T E B : Type 0} (A : Type 0) (r : Result T E) → IsErr r → B → MatchResult r (λ _. A) (λ _. B)

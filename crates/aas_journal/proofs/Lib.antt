@@ -1,11 +1,12 @@
 mod Disks
 pub mod Gates
 mod Heads
-pub mod Images
+mod Images
 mod Initial
 mod Keeping
 mod Opening
+mod PayloadsRead
 mod Placed
-pub mod Records
-pub mod Torn
-pub mod Walks
+mod Records
+mod Torn
+mod Walks

@@ -1,5 +1,5 @@
 -- Which fault a file has.
-use Rattle.std.proofs.Common.{◌≡◌, ◌⊎◌, inl, inr, ℕ, ◌+◌, ◌<◌, ◌≤◌, List, length, refl, sym, ◌∙◌, ap, arith}
+use Rattle.std.proofs.Common.{◌≡◌, ◌⊎◌, inl, inr, ℕ, ◌<◌, List, length, refl, ◌∙◌, ap, arith}
 use Rattle.aas_journal.specs.Causes.{HasFault, IsDamaged}
 use Rattle.aas_journal.specs.Gates.{IsClosedAt}
 use Rattle.aas_journal.specs.Image.{IsImage, gate_of}

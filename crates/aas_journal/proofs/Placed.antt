@@ -1,12 +1,12 @@
 -- A journal's file stays the chosen one.
-use Rattle.std.proofs.Common.{◌≡◌, ℕ, ◌+◌, ◌<◌, ◌≤◌, Bool, true, false, List, [], ◌∷◌, ◌++◌, length, take, drop, Option, Some, None, refl, sym, ◌∙◌, ap, subst, arith, length-append}
+use Rattle.std.proofs.Common.{◌≡◌, ℕ, ◌+◌, ◌≤◌, Bool, true, false, List, [], ◌∷◌, ◌++◌, length, take, drop, Option, Some, None, refl, sym, ◌∙◌, ap, subst, arith, length-append}
 use Rattle.std.specs.Option.{ForSome}
 use Rattle.std.specs.Prelude.{Result, Ok, if◌then◌else◌, ◌==◌, ◌%◌}
 use Rattle.std.proofs.lemmas.List.{length-take-le}
-use Rattle.aas_outside_disk.specs.Disk.{AddsNone, Becomes, Meanwhile, Tears, Writes, WritesAt, written}
+use Rattle.aas_outside_disk.specs.Disk.{Becomes, Meanwhile, Tears, Writes}
 use Rattle.aas_outside_disk.specs.Files.{Files, SameOthers, file}
 use Rattle.aas_outside_disk.specs.declared.part.Part.{Part}
-use Rattle.aas_outside_disk.specs.declared.part.Part.TheVariants.{Main, Spare, Selector}
+use Rattle.aas_outside_disk.specs.declared.part.Part.TheVariants.{Main, Spare}
 use Rattle.aas_journal.specs.Bank.{chosen}
 use Rattle.aas_journal.specs.Kept.{IsPlaced}
 
@@ -42,12 +42,13 @@ module _ {D : Type 0} (seen : D → Option Files) (moment : D → ℕ) (left_at 
   selectors at n a b gate placed same torn =
       let keeps : (x y : Files) → SameOthers part x y → x.selector ≡ a.selector → y.selector ≡ x.selector =
       λ x y h e. same_selector x.selector x y (subst (λ (q : Part). SameOthers q x y) (placed.part_is ∙ ap chosen (sym e)) h) in
-      let told : b.selector ≡ a.selector = keeps a b same refl in
-      (told,
-      λ image left.
-      let from = torn (moment e) later (omega arith) 0 (λ c h. omega arith) image left in
-      let was = placed.selectors from.0 from.1 in
-      keeps from.0 image from.2 was ∙ was ∙ sym told)
+      let told : b.selector ≡ a.selector = keeps a b same refl in (
+        told,
+        λ image left.
+            let from = torn (moment e) later (omega arith) 0 (λ c h. omega arith) image left in
+            let was = placed.selectors from.0 from.1 in
+            keeps from.0 image from.2 was ∙ was ∙ sym told,
+      )
 
   pub placed_write : {E : Type 0} (at : ℕ) (bytes : List ℕ) (result : Result (Unit {0}) E) (gate : ℕ) → Placed d gate → Writes part at bytes (seen d) (seen e) result → Torn at (length bytes) → Placed e gate
   placed_write at bytes result gate placed writes torn b is =

@@ -1,5 +1,5 @@
 -- What bytes are the records of.
-use Rattle.std.proofs.Common.{◌≡◌, ◌≢◌, ◌⊎◌, inl, inr, ⊎_elim, ℕ, suc, ◌+◌, ◌-◌, ◌<◌, ◌≤◌, ◌^◌, List, [], ◌∷◌, ◌++◌, length, take, drop, refl, sym, ◌∙◌, ap, ap₂, subst, arith, append_assoc, length-append}
+use Rattle.std.proofs.Common.{◌≡◌, ◌⊎◌, inl, inr, ⊎_elim, ℕ, suc, ◌+◌, ◌<◌, ◌^◌, List, [], ◌∷◌, ◌++◌, length, take, drop, refl, sym, ◌∙◌, ap, ap₂, subst, arith, append_assoc, length-append}
 use Rattle.std.specs.Prelude.{All}
 use Rattle.std.specs.Int.{from_be_bytes, to_be_bytes, w32}
 use Rattle.std.proofs.lemmas.List.{take_at, drop_at}
@@ -56,9 +56,10 @@ same_payload : (p q more rest : List ℕ) → length p < 2 ^ 32 → length q < 2
 same_payload p q more rest p_short q_short e =
     let sizes : size p ≡ size q = sym (take_size p (p ++ more)) ∙ ap (λ (l : List ℕ). take 4 l) e ∙ take_size q (q ++ rest) in
     let lengths : length p ≡ length q = sym (read_size p p_short) ∙ ap (λ (l : List ℕ). from_be_bytes w32 l) sizes ∙ read_size q q_short in
-    let behind : p ++ more ≡ q ++ rest = sym (drop_size p (p ++ more)) ∙ ap (λ (l : List ℕ). drop 4 l) e ∙ drop_size q (q ++ rest) in
-    (sym (take_at p more (length p) refl) ∙ ap (λ (l : List ℕ). take (length p) l) behind ∙ take_at q rest (length p) (sym lengths),
-    sym (drop_at p more (length p) refl) ∙ ap (λ (l : List ℕ). drop (length p) l) behind ∙ drop_at q rest (length p) (sym lengths))
+    let behind : p ++ more ≡ q ++ rest = sym (drop_size p (p ++ more)) ∙ ap (λ (l : List ℕ). drop 4 l) e ∙ drop_size q (q ++ rest) in (
+      sym (take_at p more (length p) refl) ∙ ap (λ (l : List ℕ). take (length p) l) behind ∙ take_at q rest (length p) (sym lengths),
+      sym (drop_at p more (length p) refl) ∙ ap (λ (l : List ℕ). drop (length p) l) behind ∙ drop_at q rest (length p) (sym lengths),
+    )
 
 -- Of two gates in the same bytes, they are one, or one is open and its record is within the bytes.
 abbrev pub OneOrOpen : List (List ℕ) → List (List ℕ) → ℕ → ℕ → List ℕ → List ℕ → Type 0
@@ -67,9 +68,10 @@ OneOrOpen a b g h r s = ((a ≡ b) × (g ≡ h)) ⊎ ((g ≡ 1) × Reaches r) �
 open_behind : (payload : List ℕ) (payloads : List (List ℕ)) (g h : ℕ) (r s : List ℕ) → length payload < 2 ^ 32 → g ∷ r ≡ records (payload ∷ payloads) ++ h ∷ s → (g ≡ 1) × Reaches r
 open_behind payload payloads g h r s short e =
     let more = records payloads ++ h ∷ s in
-    let all : g ∷ r ≡ 1 ∷ (size payload ++ (payload ++ more)) = e ∙ records_then payload payloads (h ∷ s) in
-    (first_is g 1 r (size payload ++ (payload ++ more)) all,
-    subst (λ (l : List ℕ). Reaches l) (sym (rest_is g 1 r (size payload ++ (payload ++ more)) all)) (reaches payload more short (omega (arith, length-append (records payloads) (h ∷ s)))))
+    let all : g ∷ r ≡ 1 ∷ (size payload ++ (payload ++ more)) = e ∙ records_then payload payloads (h ∷ s) in (
+      first_is g 1 r (size payload ++ (payload ++ more)) all,
+      subst (λ (l : List ℕ). Reaches l) (sym (rest_is g 1 r (size payload ++ (payload ++ more)) all)) (reaches payload more short (omega (arith, length-append (records payloads) (h ∷ s)))),
+    )
 
 one_more : (p q : List ℕ) (a b : List (List ℕ)) (g h : ℕ) (r s : List ℕ) → p ≡ q → OneOrOpen a b g h r s → OneOrOpen (p ∷ a) (q ∷ b) g h r s
 one_more p q a b g h r s same it = ⊎_elim

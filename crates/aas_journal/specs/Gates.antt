@@ -2,7 +2,7 @@
 use Rattle.std.specs.Prelude.{◌≡◌, ◌≢◌, ℕ, ◌+◌, ◌<◌, ◌^◌, List, ◌∷◌, ◌++◌, ⊤, length}
 use Rattle.std.specs.Int.{to_be_bytes, w32}
 use Rattle.aas_journal.specs.Causes.{PassesEnd}
-use Rattle.aas_journal.specs.Image.{HasGate, IsImage, gate_of}
+use Rattle.aas_journal.specs.Image.{IsImage, gate_of}
 use Rattle.aas_journal.specs.declared.walk.Gate.{Gate}
 use Rattle.aas_journal.specs.declared.walk.Gate.TheVariants.{Closed, Open, PastEnd}
 

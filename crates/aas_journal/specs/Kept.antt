@@ -31,7 +31,8 @@ fits gate n = nat_le (gate + n + 6) most_bytes
 abbrev pub has_room_behind : List (List ℕ) → ℕ → Bool
 has_room_behind payloads n = fits (gate_of payloads (length payloads)) n
 
-pub room_law : (seen : Option Files) (gate : ℕ) (payloads : List (List ℕ)) (n : ℕ) → Keeps seen gate payloads → fits gate n ≡ has_room_behind payloads n
+pub room_law : (seen : Option Files) (gate : ℕ) (payloads : List (List ℕ)) (n : ℕ) → Keeps seen gate payloads
+    → fits gate n ≡ has_room_behind payloads n
 room_law seen gate payloads n keeps = ap (λ (place : ℕ). fits place n) keeps.gate_is
 
 pub limit_law : (gate n : ℕ) → IsTrue (fits gate n) → n < 2 ^ 32

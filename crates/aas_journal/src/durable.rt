@@ -9,12 +9,7 @@ use aas_outside::Failed;
 use aas_outside_disk::{Disk, Part};
 
 /// Writes at a place and syncs the file: at `Ok` a stop leaves of it what reads give.
-pub fn write_durably<D: Disk>(
-    disk: &mut D,
-    part: Part,
-    at: u64,
-    bytes: &[u8],
-) -> Result<(), Failed>
+pub fn write_durably<D: Disk>(disk: &mut D, part: Part, at: u64, bytes: &[u8]) -> Result<(), Failed>
     requires { IfSome (D.seen disk.old) (λ files. at ≤ length (file part files)) }
     ensures written { Writes part at bytes.now (D.seen disk.old) (D.seen disk.new) result }
     ensures durable { OnOk result

@@ -1,5 +1,5 @@
-use aas_model_text::NoMemory;
 use aas_outside::Failed as EndFailed;
+use std::alloc::AllocError;
 use thiserror::Error;
 
 /// Why no journal was made.
@@ -51,13 +51,13 @@ impl From<EndFailed> for OpenFault {
     }
 }
 
-impl From<NoMemory> for OpenFault {
+impl From<AllocError> for OpenFault {
     ghost use Rattle.std.specs.Prelude.{◌≡◌};
     ghost use Rattle.aas_journal.specs.declared.fault.OpenFault.TheVariants as open_fault;
 
     ghost from_gives = { λ _ fault. fault ≡ open_fault.NoMemory };
 
-    fn from(_fault: NoMemory) -> OpenFault {
+    fn from(_fault: AllocError) -> OpenFault {
         OpenFault::NoMemory
     }
 }

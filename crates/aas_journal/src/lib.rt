@@ -11,6 +11,7 @@ mod init;
 mod journal;
 mod laws;
 mod open;
+mod payloads;
 mod walk;
 
 pub use fault::{InitFault, OpenFault};

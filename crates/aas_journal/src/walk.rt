@@ -1,12 +1,12 @@
 // The walk over the gates of a file.
-ghost use Rattle.std.specs.Prelude.{◌≡◌, ◌<◌, ◌≤◌, ◌↔◌, Err, IfErr, IfOk, IfSome, IsTrue, OnOk, drop, length, take};
+ghost use Rattle.std.specs.Prelude.{◌≡◌, ◌≢◌, ◌<◌, ◌≤◌, ◌↔◌, Err, IfErr, IfOk, IfSome, IsTrue, OnOk, drop, length, take};
 ghost use Rattle.std.specs.Int.{from_be_bytes, to_be_bytes, w32};
 ghost use Rattle.aas_journal.specs.Bank.{chosen, chosen_file};
 ghost use Rattle.aas_journal.specs.Causes.{HasFault};
 ghost use Rattle.aas_journal.specs.Gates.{IsBetween, IsClosedAt, StandsAt};
 ghost use Rattle.aas_journal.specs.Image.{IsHeader};
 ghost use Rattle.aas_journal.specs.Reads.{OnlyReads};
-ghost use Rattle.aas_journal.specs.declared.fault.OpenFault.TheVariants.{Failed as DiskFailed};
+ghost use Rattle.aas_journal.specs.declared.fault.OpenFault.TheVariants.{Failed as DiskFailed, NoMemory};
 ghost use Rattle.aas_outside.specs.Faults.{HasCause, Rose};
 ghost use Rattle.aas_outside_disk.specs.Disk.{HoldsWhatIsRead};
 ghost use Rattle.aas_outside_disk.specs.Files.{file};
@@ -21,7 +21,7 @@ use aas_outside_disk::{Disk, Part};
 const FIRST_GATE: u64 = 8;
 
 /// The bytes of a gate and of the length behind it.
-const HEAD_BYTES: u64 = 5;
+pub const HEAD_BYTES: u64 = 5;
 
 /// What stands at a gate.
 #[derive(Clone, Copy, Drop)]
@@ -49,7 +49,11 @@ fn chosen_part<D: Disk>(disk: &mut D) -> Result<Part, Failed>
     }
     let mut first = [0];
     disk.read_at(Part::Selector, 0, &mut first)?;
-    Ok(if first[0] % 2 == 0 { Part::Main } else { Part::Spare })
+    Ok(if first[0] % 2 == 0 {
+        Part::Main
+    } else {
+        Part::Spare
+    })
 }
 
 /// Whether a file begins with a header. It has so many bytes.
@@ -88,7 +92,11 @@ fn gate_at<D: Disk>(disk: &mut D, part: Part, at: u64, size: u64) -> Result<Gate
     if behind <= HEAD_BYTES {
         let mut gate = [0];
         disk.read_at(part, at, &mut gate)?;
-        return Ok(if gate[0] == OPEN { Gate::PastEnd } else { Gate::Closed });
+        return Ok(if gate[0] == OPEN {
+            Gate::PastEnd
+        } else {
+            Gate::Closed
+        });
     }
     let mut head = [0; 5];
     disk.read_at(part, at, &mut head)?;
@@ -99,7 +107,9 @@ fn gate_at<D: Disk>(disk: &mut D, part: Part, at: u64, size: u64) -> Result<Gate
     if length >= behind - HEAD_BYTES {
         return Ok(Gate::PastEnd);
     }
-    Ok(Gate::Open { next: at + HEAD_BYTES + length })
+    Ok(Gate::Open {
+        next: at + HEAD_BYTES + length,
+    })
 }
 
 /// The place of the closed gate of a file that has a header, or of the first gate whose record passes the end.
@@ -110,6 +120,7 @@ fn closed_gate<D: Disk>(disk: &mut D, part: Part, size: u64) -> Result<u64, Open
     ensures closed { IfOk result (λ gate. IfSome (D.seen disk.old) (λ files. IsClosedAt (file part files) gate)) }
     ensures within { IfOk result (λ gate. gate < size) }
     ensures fault { IfErr result (λ fault. IfSome (D.seen disk.old) (λ files. HasFault (file part files) fault)) }
+    ensures memory { IfErr result (λ fault. fault ≢ NoMemory) }
     ensures failed { result ≡ Err DiskFailed → Rose (D.faults disk.old) (D.faults disk.new) }
     ensures later { D.faults disk.old ≤ D.faults disk.new }
     ensures reads { OnlyReads D.seen D.moment D.left_at disk.old disk.new }
@@ -141,6 +152,7 @@ pub fn find_end<D: Disk>(disk: &mut D) -> Result<End, OpenFault>
         HoldsWhatIsRead Selector (D.seen disk.old) (D.left_at disk.new (D.moment disk.new))
         × HoldsWhatIsRead end.part (D.seen disk.old) (D.left_at disk.new (D.moment disk.new))) }
     ensures fault { IfErr result (λ fault. IfSome (D.seen disk.old) (λ files. HasFault (chosen_file files) fault)) }
+    ensures memory { IfErr result (λ fault. fault ≢ NoMemory) }
     ensures failed { result ≡ Err DiskFailed → Rose (D.faults disk.old) (D.faults disk.new) }
     ensures later { D.faults disk.old ≤ D.faults disk.new }
     ensures reads { OnlyReads D.seen D.moment D.left_at disk.old disk.new }

@@ -1,7 +1,5 @@
-use Rattle.std.proofs.Common.{◌≡◌, ◌∙◌, true, Some, rules}
-use Rattle.std.specs.Prelude.{IsTrue}
+use Rattle.std.proofs.Common.{◌≡◌, ◌∙◌, true, rules}
 use Rattle.aas_outside.specs.declared.link.Failed.{Failed}
-use Rattle.aas_outside_disk.specs.Files.{Files}
 use Rattle.aas_journal.specs.Causes.{AreEmpty}
 use Rattle.aas_journal.proofs.Disks.{known}
 use Rattle.aas_journal.proofs.Initial.{made_images, where_told}

@@ -1,5 +1,5 @@
 use Rattle.std.proofs.Common.{◌≡◌, ◌∙◌, ◌<◌, Some, length, sym, subst}
-use Rattle.aas_outside_disk.specs.Files.{Files, file}
+use Rattle.aas_outside_disk.specs.Files.{file}
 use Rattle.aas_outside_disk.specs.declared.part.Part.{Part}
 use Rattle.aas_journal.specs.Bank.{chosen_file}
 use Rattle.aas_journal.proofs.Disks.{known}

@@ -1,4 +1,4 @@
-use Rattle.std.proofs.Common.{◌≡◌, ◌+◌, ◌-◌, ℕ, length, drop, arith, length-drop}
+use Rattle.std.proofs.Common.{◌≡◌, ◌-◌, length, drop, arith, length-drop}
 use Rattle.aas_outside_disk.specs.Files.{file}
 use Rattle.aas_journal.proofs.Disks.{known}
 use Rattle.aas_journal.proofs.Heads.{is_open, long_past, short_past}

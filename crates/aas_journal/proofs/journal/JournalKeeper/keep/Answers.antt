@@ -1,9 +1,6 @@
-use Rattle.std.proofs.Common.{◌≡◌, ◌∷◌, [], ◌++◌, ◌∙◌, ◌+◌, ap, sym, subst, List, ℕ, Some, Ok, refl, length, arith}
+use Rattle.std.proofs.Common.{◌∷◌, [], ◌+◌, refl, length}
 use Rattle.aas_outside.specs.declared.link.Failed.{Failed}
-use Rattle.aas_outside.specs.Frame.{frame_bytes}
-use Rattle.aas_outside_disk.specs.Disk.{Meanwhile, Tears, written}
-use Rattle.aas_outside_disk.specs.Files.{Files, file}
-use Rattle.aas_journal.specs.Image.{gate_of}
+use Rattle.aas_outside_disk.specs.Files.{file}
 use Rattle.aas_journal.specs.Kept.{limit_law}
 use Rattle.aas_journal.proofs.Disks.{known, told}
 use Rattle.aas_journal.proofs.Placed.{placed_further, placed_write, same_part}
