@@ -18,13 +18,16 @@ abbrev pub held : {K : Type 0} → Documents → K → Bool → Held K
 held documents keeper stopped = record { documents = documents; keeper = keeper; stopped = stopped }
 
 -- what is known of the repository before speaks of it as its fields are, mid
-module _ {K I : Type 0} (stands_for : I → List (List ℕ) → Type 0) (kept : K → List (List ℕ) → Type 0) (moment : K → ℕ) (left_at : K → ℕ → I → Type 0) (room_behind : K → Room)
+module _ {K I : Type 0} (stands_for : I → List (List ℕ) → Type 0) (kept : K → List (List ℕ) → Type 0)
+    (moment : K → ℕ) (left_at : K → ℕ → I → Type 0) (room_behind : K → Room)
     (c : Command) (has_room : ℕ → Bool) (mid old new : Held K) (same : mid ≡ old) where
   abbrev Does : Result Done Refusal → Held K → Type 0
   Does result old = (records : List (List ℕ)) → IsSettledState stands_for (state_of kept moment left_at old) records
-      → Acts (room_behind old.keeper) stands_for (repository_of (state_of kept moment left_at old) records) c (moment old.keeper) (state_of kept moment left_at new) result
+      → Acts (room_behind old.keeper) stands_for (repository_of (state_of kept moment left_at old) records) c (moment old.keeper)
+      (state_of kept moment left_at new) result
 
-  pub keeps : (frame : List ℕ) (done : Done) → done ≡ done_of c → IsPlan has_room (kept mid.keeper) (room_behind mid.keeper) mid.documents c new.documents (plan.Made frame)
+  pub keeps : (frame : List ℕ) (done : Done) → done ≡ done_of c
+      → IsPlan has_room (kept mid.keeper) (room_behind mid.keeper) mid.documents c new.documents (plan.Made frame)
       → ((payloads : List (List ℕ)) → kept mid.keeper payloads → kept new.keeper (payloads ++ frame ∷ []))
       → ((payloads : List (List ℕ)) → IsSettled stands_for (kept mid.keeper) (moment mid.keeper) (left_at mid.keeper) payloads
       → InTurn stands_for (left_at new.keeper) (moment mid.keeper) (moment new.keeper) payloads (frame ∷ []) [])
@@ -37,7 +40,8 @@ module _ {K I : Type 0} (stands_for : I → List (List ℕ) → Type 0) (kept : 
       holds = record {
         documents = refl;
         kept = subst (λ (p : List ℕ). kept new.keeper (records ++ p ∷ [])) planned.0 (adds records settled.told);
-        in_turn = subst (λ (p : List ℕ). InTurn stands_for (left_at new.keeper) (moment mid.keeper) (moment new.keeper) records (p ∷ []) []) planned.0 (turn records settled);
+        in_turn = subst (λ (p : List ℕ). InTurn stands_for (left_at new.keeper) (moment mid.keeper) (moment new.keeper) records (p ∷ []) [])
+            planned.0 (turn records settled);
       };
     },
   ))
@@ -52,7 +56,8 @@ module _ {K I : Type 0} (stands_for : I → List (List ℕ) → Type 0) (kept : 
       steps = planned.2 records settled.told;
       faulted = record {
         documents = refl;
-        in_turn = subst (λ (p : List ℕ). InTurn stands_for (left_at new.keeper) (moment mid.keeper) (moment new.keeper) records [] (p ∷ [])) planned.0 (turn records settled);
+        in_turn = subst (λ (p : List ℕ). InTurn stands_for (left_at new.keeper) (moment mid.keeper) (moment new.keeper) records [] (p ∷ []))
+            planned.0 (turn records settled);
       };
     },
     λ not. absurd (not refl),

@@ -25,7 +25,7 @@ IsDecision has_room old c new (decision.Refused refusal) = (new ≡ old) × (ref
 IsDecision has_room old c new decision.NoMemory = new ≡ old
 
 -- the same, where the keeper that keeps these records has room for so many bytes or not
-abbrev pub IsPlan : (has_room : ℕ → Bool) (kept : List (List ℕ) → Type 0) (room : Room) (old : Documents) (c : Command) (new : Documents) → Plan → Type 0
+abbrev pub IsPlan : (has_room : ℕ → Bool) (kept : List (List ℕ) → Type 0) (room : Room) → Documents → Command → Documents → Plan → Type 0
 IsPlan has_room kept room old c new (plan.Made frame) =
     (frame ≡ payload_of c) × IsTrue (has_room (length frame))
     × ((records : List (List ℕ)) → kept records → Steps room (record { documents = old; records = records }) c (accepted new))

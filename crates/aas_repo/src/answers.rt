@@ -39,7 +39,8 @@ pub(crate) fn asset_answer<S: Store>(
     id: &Text,
 ) -> Result<Many<u8>, Refusal>
     ensures { (result ≡ Err NoMemory) ⊎ (result ≡
-        text_or_absent absent.Shell (λ s. canonical_text asset_informations s.asset) (map.get (S.documents store.now).shells (encode_utf8_all id.now))) }
+        text_or_absent absent.Shell (λ s. canonical_text asset_informations s.asset)
+        (map.get (S.documents store.now).shells (encode_utf8_all id.now))) }
 {
     match store.shell(id.as_str()) {
         Some(shell) => Ok(Many::from(asset_text(alloc, &shell.asset)?)),
