@@ -14,26 +14,24 @@ use Rattle.aas_session.specs.declared.wire.WireEnded.{WireEnded}
 use Rattle.aas_session.specs.declared.wire.WireEnded.TheVariants as wire
 use Rattle.aas_step.specs.Valid.{AreValid}
 use Rattle.aas_api_service.specs.Turns.{Turns}
-use Rattle.aas_server.specs.Beginning.{begun, beginning, memory_room, memory_state}
+use Rattle.aas_server.specs.Beginning.{begun, beginning, memory_room, memory_state, StandsFor}
 use Rattle.aas_server.specs.Ends.{ConsoleState, WireState}
 use Rattle.aas_server.specs.Pipe.{IsPiped, pipe_status}
 use Rattle.aas_server.specs.Serve.{IsServed, Serves, serve_status}
 
--- what is kept in memory is an image of itself alone
-abbrev pub Stands : List (List ℕ) → List (List ℕ) → Type 0
-Stands image payloads = image ≡ payloads
-
-settled : IsSettledState Stands (memory_state begun) []
+settled : IsSettledState StandsFor (memory_state begun) []
 settled = record { told = refl; alone = λ image left. left }
 
 -- ---- one connection
 
 abbrev pub ServesFrom : Held MemKeeperState → Held MemKeeperState → Ended → ConsoleState → ConsoleState → Type 0
-ServesFrom from held ended old new = (input : List ℕ) (records : List (List ℕ)) → old.left ≡ Some input → IsSettledState Stands (memory_state from) records
-    → Served (Turns (has_room_behind from.keeper.capacity)) Stands (repository_of (memory_state from) records) input (clock from.keeper) (memory_state held) old.sent new.sent (Rose old.faults new.faults) ended
+ServesFrom from held ended old new = (input : List ℕ) (records : List (List ℕ)) → old.left ≡ Some input
+    → IsSettledState StandsFor (memory_state from) records
+    → Served (Turns (has_room_behind from.keeper.capacity)) StandsFor (repository_of (memory_state from) records) input
+    (clock from.keeper) (memory_state held) old.sent new.sent (Rose old.faults new.faults) ended
 
-pub piped : (from held : Held MemKeeperState) (ended : Ended) (old new : ConsoleState) → from ≡ begun → ServesFrom from held ended old new → AreValid held.documents
-    → (input : List ℕ) → old.left ≡ Some input → IsPiped ended input old new
+pub piped : (from held : Held MemKeeperState) (ended : Ended) (old new : ConsoleState) → from ≡ begun
+    → ServesFrom from held ended old new → AreValid held.documents → (input : List ℕ) → old.left ≡ Some input → IsPiped ended input old new
 piped from held ended old new begins serves valid input told = record {
   held = held;
   served = subst (λ (f : Held MemKeeperState). ServesFrom f held ended old new) begins serves input [] told settled;
@@ -49,13 +47,13 @@ pipe_statuses ended.NoMemory status is = (3, lit< tt, sym is)
 -- ---- connections in order
 
 abbrev pub ServesAllFrom : Held MemKeeperState → Held MemKeeperState → ℕ → WireEnded → WireState → WireState → Type 0
-ServesAllFrom from held count ended old new = (c : Connections) (sent : List ℕ) (records : List (List ℕ)) → old.connections ≡ Some c → old.sent ≡ Some sent
-    → IsSettledState Stands (memory_state from) records
-    → ServesAll (Turns (has_room_behind from.keeper.capacity)) Stands (repository_of (memory_state from) records) c.coming (sent_on_all c sent) count (clock from.keeper) (memory_state held)
-    new.connections new.sent (Rose old.faults new.faults) ended
+ServesAllFrom from held count ended old new = (c : Connections) (sent : List ℕ) (records : List (List ℕ))
+    → old.connections ≡ Some c → old.sent ≡ Some sent → IsSettledState StandsFor (memory_state from) records
+    → ServesAll (Turns (has_room_behind from.keeper.capacity)) StandsFor (repository_of (memory_state from) records) c.coming
+    (sent_on_all c sent) count (clock from.keeper) (memory_state held) new.connections new.sent (Rose old.faults new.faults) ended
 
-pub served : (from held : Held MemKeeperState) (count : ℕ) (ended : WireEnded) (old new : WireState) → from ≡ begun → ServesAllFrom from held count ended old new → AreValid held.documents
-    → (c : Connections) (sent : List ℕ) → old.connections ≡ Some c → old.sent ≡ Some sent → IsServed count ended c sent old new
+pub served : (from held : Held MemKeeperState) (count : ℕ) (ended : WireEnded) (old new : WireState) → from ≡ begun
+    → ServesAllFrom from held count ended old new → AreValid held.documents → (c : Connections) (sent : List ℕ) → old.connections ≡ Some c → old.sent ≡ Some sent → IsServed count ended c sent old new
 served from held count ended old new begins serves valid c sent told told_sent = record {
   held = held;
   served = subst (λ (f : Held MemKeeperState). ServesAllFrom f held count ended old new) begins serves c sent [] told told_sent settled;
@@ -63,18 +61,20 @@ served from held count ended old new begins serves valid c sent told told_sent =
 }
 
 -- the wire served is as it was before it listened
-before_listening : (count : ℕ) (ended : WireEnded) (c : Connections) (sent : List ℕ) (old mid new : WireState) → mid.faults ≡ old.faults
-    → IsServed count ended c sent mid new → IsServed count ended c sent old new
+before_listening : (count : ℕ) (ended : WireEnded) (c : Connections) (sent : List ℕ) (old mid new : WireState)
+    → mid.faults ≡ old.faults → IsServed count ended c sent mid new → IsServed count ended c sent old new
 before_listening count ended c sent old mid new same s = record {
   held = s.held;
-  served = subst (λ (faults : ℕ). ServesAll (Turns memory_room) Stands beginning c.coming (sent_on_all c sent) count 0 (memory_state s.held)
-      new.connections new.sent (Rose faults new.faults) ended) same s.served;
+  served = subst (λ (faults : ℕ). ServesAll (Turns memory_room) StandsFor beginning c.coming (sent_on_all c sent) count 0
+      (memory_state s.held) new.connections new.sent (Rose faults new.faults) ended) same s.served;
   valid = s.valid;
 }
 
-pub serves : (count status : ℕ) (ended : WireEnded) (old mid new : WireState) → mid.connections ≡ old.connections → mid.sent ≡ old.sent → mid.faults ≡ old.faults
-    → old.wire_faults ≤ mid.wire_faults → status ≡ serve_status ended → (ended ≡ wire.WireFault → Rose mid.wire_faults new.wire_faults)
-    → ((c : Connections) (sent : List ℕ) → mid.connections ≡ Some c → mid.sent ≡ Some sent → IsServed count ended c sent mid new) → Serves count status old new
+pub serves : (count status : ℕ) (ended : WireEnded) (old mid new : WireState) → mid.connections ≡ old.connections
+    → mid.sent ≡ old.sent → mid.faults ≡ old.faults → old.wire_faults ≤ mid.wire_faults → status ≡ serve_status ended
+    → (ended ≡ wire.WireFault → Rose mid.wire_faults new.wire_faults)
+    → ((c : Connections) (sent : List ℕ) → mid.connections ≡ Some c → mid.sent ≡ Some sent → IsServed count ended c sent mid new)
+    → Serves count status old new
 serves count status ended old mid new connections sent faults later is fault all =
     inr (inr (
       ended,

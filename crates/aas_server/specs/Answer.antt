@@ -35,7 +35,8 @@ GivesAnswer P status old new = (answer : Answer) × P answer × (status ≡ answ
 abbrev pub GivesFrontOf : (Answer → Type 0) → Option (List ℕ) → Option (List ℕ) → Type 0
 GivesFrontOf P old new = (new ≡ old) ⊎ ((answer : Answer) × P answer × GivesFront old new answer.text)
 
--- The console gets the text of an answer with P, whose status is the run's, or a front of it where the console fails, or nothing for want of memory.
+-- The console gets the text of an answer with P, whose status is the run's, or a front of it where the console fails, or
+-- nothing for want of memory.
 pub record Says (P : Answer → Type 0) (status : ℕ) (old new : ConsoleState) : Type 0 where
   pub given : status ≢ 3 → status ≢ 10 → GivesAnswer P status old.sent new.sent
   pub front : status ≡ 3 → GivesFrontOf P old.sent new.sent

@@ -1,5 +1,5 @@
 -- The repository with which a run begins: it has no documents, and keeps its commands in memory.
-use Rattle.std.specs.Prelude.{ℕ, false, List, []}
+use Rattle.std.specs.Prelude.{◌≡◌, ℕ, false, List, []}
 use Rattle.aas_outside.specs.MemKeeper.{MemKeeperState, clock, has_room_behind, is_all, kept_at}
 use Rattle.aas_repo.specs.Held.{Held, state_of}
 use Rattle.aas_rule.specs.Rule.{Repository, Room}
@@ -23,6 +23,10 @@ begun = record {
   keeper = record { payloads = []; capacity = room_size; calls = record { fails = []; made = 0 }; faults = 0 };
   stopped = false;
 }
+
+-- what a stop leaves of the payloads that are kept in memory: a list of these payloads
+abbrev pub StandsFor : List (List ℕ) → List (List ℕ) → Type 0
+StandsFor image payloads = image ≡ payloads
 
 -- what a repository in memory holds
 abbrev pub memory_state : Held MemKeeperState → State Documents (List (List ℕ))

@@ -19,9 +19,10 @@ IsCount count = (1 ≤ count) × (count ≤ 1000000)
 abbrev pub AreWordsOf : CommandLine → List (List ℕ) → Type 0
 AreWordsOf Value words = words ≡ codes "value" ∷ []
 AreWordsOf Pipe words = words ≡ codes "pipe" ∷ []
-AreWordsOf (Serve count) words = IsCount count × ((address : List ℕ) × (words ≡ codes "serve" ∷ address ∷ decimal count ∷ []))
+AreWordsOf (Serve count) words =
+    IsCount count × ((address : List ℕ) × (words ≡ codes "serve" ∷ address ∷ decimal count ∷ []))
 
--- What a run of each command, or of no command, does: its status, and the console and the wire before and after it.
+-- what a run of each command, or of no command, does: its status, and the console and the wire before and after it
 abbrev pub Does : Option CommandLine → ℕ → ConsoleState → ConsoleState → WireState → WireState → Type 0
 Does None status old new wire_old wire_new = Says (λ answer. answer ≡ not_a_command) status old new × (wire_new ≡ wire_old)
 Does (Some Value) status old new wire_old wire_new =

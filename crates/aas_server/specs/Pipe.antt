@@ -8,7 +8,7 @@ use Rattle.aas_session.specs.declared.connection.Ended.{Ended}
 use Rattle.aas_session.specs.declared.connection.Ended.TheVariants.{Closed, LinkFault, KeeperFault, NoMemory}
 use Rattle.aas_step.specs.Valid.{AreValid}
 use Rattle.aas_api_service.specs.Turns.{Turns}
-use Rattle.aas_server.specs.Beginning.{beginning, memory_room, memory_state}
+use Rattle.aas_server.specs.Beginning.{beginning, memory_room, memory_state, StandsFor}
 use Rattle.aas_server.specs.Ends.{ConsoleState}
 
 -- the status of a connection that ended so
@@ -21,7 +21,8 @@ pipe_status NoMemory = 10
 -- Of the session on the input of the console this was done, and the documents that it left are valid.
 pub record IsPiped (ended : Ended) (input : List ℕ) (old new : ConsoleState) : Type 0 where
   pub held : Held MemKeeperState
-  pub served : Served (Turns memory_room) (λ image payloads. image ≡ payloads) beginning input 0 (memory_state held) old.sent new.sent (Rose old.faults new.faults) ended
+  pub served : Served (Turns memory_room) StandsFor beginning input 0 (memory_state held) old.sent new.sent
+      (Rose old.faults new.faults) ended
   pub valid : AreValid held.documents
 
 -- there was no memory to begin with, or the connection was served
