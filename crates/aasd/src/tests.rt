@@ -54,6 +54,16 @@ fn a_console_that_is_interrupted(rt: HostRuntime) {
     assert_eq!(rt; console.give(b"b"), Err(Failed), "nothing is taken");
 }
 
+/// The first of some addresses at which the wire can listen.
+fn listens<N: Net>(wire: &mut TcpWire<N>) -> Option<&'static str> {
+    for address in ["127.0.0.1:23791", "127.0.0.1:23792", "127.0.0.1:23793"] {
+        if wire.listen(address).is_ok() {
+            return Some(address);
+        }
+    }
+    None
+}
+
 /// Whether four bytes go each way.
 fn exchanges<N: Net>(wire: &mut TcpWire<N>, peer: &mut TcpStream) -> io::Result<bool> {
     let mut buf = [0; 4];
@@ -82,9 +92,10 @@ fn serves_second<N: Net>(
 
 #[test]
 fn a_wire_whose_first_peer_is_silent(rt: HostRuntime) -> Result<(), Fail> {
-    let address = "127.0.0.1:47391";
     let mut wire = TcpWire::new(rt.clone()?);
-    assert!(rt; wire.listen(address).is_ok());
+    let Some(address) = listens(&mut wire) else {
+        return Err(Fail::from("no address is free"));
+    };
     let mut first = TcpStream::connect(&rt, address)?;
     let mut second = TcpStream::connect(&rt, address)?;
     assert!(rt; serves_second(&mut wire, &mut first, &mut second)?);
