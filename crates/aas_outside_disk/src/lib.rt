@@ -18,3 +18,6 @@ pub use crash::Crash;
 pub use disk::Disk;
 pub use memory_disk::MemDisk;
 pub use part::Part;
+
+#[cfg(test)]
+mod tests;
