@@ -7,7 +7,7 @@ use Rattle.aas_record.specs.declared.fault.RecordFault.TheVariants.{NotARecord, 
 
 -- the bytes begin with a field that holds a whole value, behind which there is the rest
 pub record HasField {A : Type 0} (IsWhole : A → Type 0) (bytes_of : A → List ℕ) (HasForm : List ℕ → Type 0)
-  (bytes : List ℕ) (value : A) (rest : List ℕ) : Type 0 where
+    (bytes : List ℕ) (value : A) (rest : List ℕ) : Type 0 where
   pub begins : Begins bytes (bytes_of value) rest
   pub whole : IsWhole value
   pub form : HasForm (bytes_of value)
