@@ -7,7 +7,7 @@ use Rattle.std.proofs.Math.Nat.{le_refl}
 use Rattle.serde_json.specs.Data.{Data}
 use Rattle.aas_model.specs.declared.read_fault.ReadFault.{ReadFault}
 use Rattle.aas_model.specs.declared.read_fault.ReadFault.TheVariants.{NoMemory}
-use Rattle.aas_json_table.specs.TooDeep.{Levels, limits}
+use Rattle.aas_json_table.specs.TooDeep.{limits}
 use Rattle.aas_json_spelling.specs.Reading.{reading}
 use Rattle.aas_json_spelling.specs.Reads.{ReadsIf, ReadsBytes, ReadsEachIf, ReadsEachOfBytes}
 use Rattle.aas_json_spelling.specs.Spells.{Trees, Spells, IsWithinLimits, canonical_text}

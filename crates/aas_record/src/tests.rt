@@ -1,7 +1,5 @@
 // Payloads that are read, and where others go wrong.
 use crate::{RecordFault, decode};
-use aas_command::Command;
-use std::alloc::Global;
 use std::test::Fail;
 
 /// Creates a submodel: a tag, a length and 38 bytes.
@@ -15,22 +13,26 @@ const WITH_SPACE: &[u8] = b"\x02\x00\x00\x00\x27{ \"id\":\"urn:x1\",\"modelType\
 
 const ASSET: &[u8] = b"\x0a\x00\x00\x00\x05urn:a\x00\x00\x00\x18{\"assetKind\":\"Instance\"}";
 
-/// Where the payload goes wrong.
-fn wrong_at(alloc: Global, payload: &[u8]) -> Option<u64> {
-    match decode(alloc, payload) {
+/// Where a payload goes wrong.
+fn wrong_at<C: Drop>(answer: Result<C, RecordFault>) -> Option<u64> {
+    match answer {
         Err(RecordFault::NotARecord { at }) => Some(at),
         _ => None,
     }
 }
 
+fn is_read<C: Drop>(answer: Result<C, RecordFault>) -> bool {
+    answer.is_ok()
+}
+
 #[test]
 fn payloads(rt: HostRuntime) -> Result<(), Fail> {
     let alloc = rt.alloc();
-    assert!(rt; matches!(decode(alloc, SUBMODEL), Ok(Command::CreateSubmodel { .. })));
-    assert!(rt; matches!(decode(alloc, ASSET), Ok(Command::SetAsset { .. })));
-    assert_eq!(rt; wrong_at(alloc, b"\xff"), Some(0));
-    assert_eq!(rt; wrong_at(alloc, ONE_MORE), Some(43));
-    assert_eq!(rt; wrong_at(alloc, ONE_LESS), Some(1));
-    assert_eq!(rt; wrong_at(alloc, WITH_SPACE), Some(1));
+    assert!(rt; is_read(decode(alloc, SUBMODEL)));
+    assert!(rt; is_read(decode(alloc, ASSET)));
+    assert_eq!(rt; wrong_at(decode(alloc, b"\xff")), Some(0));
+    assert_eq!(rt; wrong_at(decode(alloc, ONE_MORE)), Some(43));
+    assert_eq!(rt; wrong_at(decode(alloc, ONE_LESS)), Some(1));
+    assert_eq!(rt; wrong_at(decode(alloc, WITH_SPACE)), Some(1));
     Ok(())
 }
