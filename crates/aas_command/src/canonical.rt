@@ -1,5 +1,6 @@
 // Canonical texts of whole documents.
 ghost use Rattle.std.specs.Prelude.{◌≡◌, IfOk};
+ghost use Rattle.std.specs.Str.{IsUtf8};
 ghost use Rattle.aas_json_spelling.specs.Spells.{canonical_text};
 ghost use Rattle.aas_json_mapping.specs.Trees.{asset_informations, concepts, shells, submodels};
 ghost use Rattle.aas_json_table.specs.TooDeep.{limits};
@@ -13,7 +14,8 @@ use std::alloc::Global;
 /// The canonical text of a shell.
 pub fn shell_text(alloc: Global, shell: &Shell) -> Result<Vec<u8>, NoMemory>
     requires { shells.IsWhole limits shell.now }
-    ensures { IfOk result (λ text. text.items ≡ canonical_text shells shell.now) }
+    ensures text { IfOk result (λ text. text.items ≡ canonical_text shells shell.now) }
+    ensures utf8 { IfOk result (λ text. IsUtf8 text.items) }
 {
     whole_trees_are_in_order();
     let mut text = Vec::new(alloc);
@@ -24,7 +26,8 @@ pub fn shell_text(alloc: Global, shell: &Shell) -> Result<Vec<u8>, NoMemory>
 /// The canonical text of a submodel.
 pub fn submodel_text(alloc: Global, submodel: &Submodel) -> Result<Vec<u8>, NoMemory>
     requires { submodels.IsWhole limits submodel.now }
-    ensures { IfOk result (λ text. text.items ≡ canonical_text submodels submodel.now) }
+    ensures text { IfOk result (λ text. text.items ≡ canonical_text submodels submodel.now) }
+    ensures utf8 { IfOk result (λ text. IsUtf8 text.items) }
 {
     whole_trees_are_in_order();
     let mut text = Vec::new(alloc);
@@ -35,7 +38,8 @@ pub fn submodel_text(alloc: Global, submodel: &Submodel) -> Result<Vec<u8>, NoMe
 /// The canonical text of a concept description.
 pub fn concept_text(alloc: Global, concept: &Concept) -> Result<Vec<u8>, NoMemory>
     requires { concepts.IsWhole limits concept.now }
-    ensures { IfOk result (λ text. text.items ≡ canonical_text concepts concept.now) }
+    ensures text { IfOk result (λ text. text.items ≡ canonical_text concepts concept.now) }
+    ensures utf8 { IfOk result (λ text. IsUtf8 text.items) }
 {
     whole_trees_are_in_order();
     let mut text = Vec::new(alloc);
@@ -45,7 +49,8 @@ pub fn concept_text(alloc: Global, concept: &Concept) -> Result<Vec<u8>, NoMemor
 
 /// The canonical text of what a shell says of its asset.
 pub fn asset_text(alloc: Global, asset: &AssetInformation) -> Result<Vec<u8>, NoMemory>
-    ensures { IfOk result (λ text. text.items ≡ canonical_text asset_informations asset.now) }
+    ensures text { IfOk result (λ text. text.items ≡ canonical_text asset_informations asset.now) }
+    ensures utf8 { IfOk result (λ text. IsUtf8 text.items) }
 {
     let mut text = Vec::new(alloc);
     write_asset_information(alloc, asset, &mut text)?;

@@ -1,7 +1,8 @@
 // Commands as payloads.
-ghost use Rattle.std.specs.Prelude.{◌≡◌, ◌++◌, [], ◌∷◌, IfErr, MatchResult};
+ghost use Rattle.std.specs.Prelude.{◌≡◌, ◌++◌, [], ◌∷◌, IfErr, MatchResult, OnOk};
+ghost use Rattle.std.specs.Str.{IsUtf8};
 ghost use Rattle.aas_command.specs.Commands.{IsWellFormed, bytes_of, field, payload_of, tagged};
-ghost use Rattle.aas_command.specs.Encoding.{IsFaultOf};
+ghost use Rattle.aas_command.specs.Encoding.{HasFields, IsFaultOf, IsField};
 ghost use Rattle.aas_command.specs.declared.command.Command.TheVariants.{SetAsset};
 
 use crate::Command;
@@ -41,9 +42,10 @@ impl From<AllocError> for EncodeFault {
 /// The frame of a command's payload. The command is well formed.
 pub fn encode(alloc: Global, command: &Command) -> Result<Frame, EncodeFault>
     requires { IsWellFormed command.now }
-    ensures { MatchResult result
+    ensures payload { MatchResult result
         (λ frame. frame ≡ payload_of command.now)
         (IsFaultOf (payload_of command.now)) }
+    ensures fields { OnOk result (HasFields command.now) }
 {
     let payload = payload(alloc, command)?;
     if payload.len() as u64 > u32::MAX as u64 {
@@ -53,12 +55,13 @@ pub fn encode(alloc: Global, command: &Command) -> Result<Frame, EncodeFault>
 }
 
 /// The payload of a command.
-#[tactic(auto, unfolding(crate::specs::Commands::IsWellFormed, crate::specs::Commands::payload_of))]
+#[tactic(auto, unfolding(crate::specs::Commands::IsWellFormed, crate::specs::Commands::payload_of, crate::specs::Encoding::HasFields))]
 fn payload(alloc: Global, command: &Command) -> Result<Vec<u8>, EncodeFault>
     requires { IsWellFormed command.now }
-    ensures { MatchResult result
+    ensures payload { MatchResult result
         (λ payload. payload.items ≡ payload_of command.now)
         (IsFaultOf (payload_of command.now)) }
+    ensures fields { OnOk result (HasFields command.now) }
 {
     match command {
         Command::CreateShell { document } => one_field(alloc, 1, &shell_text(alloc, document)?),
@@ -81,37 +84,42 @@ fn payload(alloc: Global, command: &Command) -> Result<Vec<u8>, EncodeFault>
 }
 
 /// The payload of the command that sets the asset information of a shell.
-#[tactic(auto, using(crate::proofs::Payloads::longer), unfolding(crate::specs::Commands::payload_of))]
+#[tactic(auto, using(crate::proofs::Payloads::longer), unfolding(crate::specs::Commands::payload_of, crate::specs::Encoding::HasFields))]
 fn asset_payload(
     alloc: Global,
     shell: &Text,
     asset: &AssetInformation,
 ) -> Result<Vec<u8>, EncodeFault>
-    ensures { MatchResult result
+    ensures payload { MatchResult result
         (λ payload. payload.items ≡ payload_of (SetAsset shell.now asset.now))
         (IsFaultOf (payload_of (SetAsset shell.now asset.now))) }
+    ensures fields { OnOk result (HasFields (SetAsset shell.now asset.now)) }
 {
     let mut payload = one_field(alloc, 10, shell.as_str().as_bytes())?;
     push_field(&mut payload, &asset_text(alloc, asset)?)?;
     Ok(payload)
 }
 
-/// The payload of a tag and one field.
+/// The payload of a tag and one field, whose content is UTF-8.
 fn one_field(alloc: Global, tag: u8, content: &[u8]) -> Result<Vec<u8>, EncodeFault>
-    ensures { MatchResult result
+    requires { IsUtf8 content.now }
+    ensures payload { MatchResult result
         (λ payload. payload.items ≡ bytes_of (tagged tag (content.now ∷ [])))
         (IsFaultOf (bytes_of (tagged tag (content.now ∷ [])))) }
+    ensures field { OnOk result (IsField content.now) }
 {
     let mut payload = Vec::from_slice(alloc, &[tag])?;
     push_field(&mut payload, content)?;
     Ok(payload)
 }
 
-/// Appends a field.
+/// Appends a field, whose content is UTF-8.
 fn push_field(payload: &mut Vec<u8>, content: &[u8]) -> Result<(), EncodeFault>
-    ensures { MatchResult result
+    requires { IsUtf8 content.now }
+    ensures payload { MatchResult result
         (λ _. payload.new.items ≡ payload.old.items ++ field content.now)
         (IsFaultOf content.now) }
+    ensures field { OnOk result (IsField content.now) }
 {
     if content.len() as u64 > u32::MAX as u64 {
         return Err(EncodeFault::TooLong);

@@ -17,15 +17,18 @@ mod memory_connection;
 mod memory_keeper;
 mod memory_link;
 mod memory_wire;
+mod reserved;
 mod wire;
 
 pub use frame::Frame;
 pub use giving::give_all;
 pub use keeper::Keeper;
 pub use link::{Failed, Link};
+pub use memory_calls::MemCalls;
 pub use memory_keeper::MemKeeper;
 pub use memory_link::MemLink;
 pub use memory_wire::MemWire;
+pub use reserved::append_reserved;
 pub use wire::Wire;
 
 #[cfg(test)]

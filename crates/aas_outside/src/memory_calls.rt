@@ -32,6 +32,13 @@ impl MemCalls {
         })
     }
 
+    /// How many calls were made.
+    pub fn made(&self) -> u64
+        ensures { result ≡ self.now.made }
+    {
+        self.made
+    }
+
     /// Counts a call, and answers whether it fails.
     pub fn next_fails(&mut self) -> bool
         ensures value { IsTrue result ↔ IsNextFailing self.old }

@@ -1,11 +1,12 @@
 // A keeper in memory, for tests: its payloads, and the calls that fail.
-ghost use Rattle.std.specs.Prelude.{◌≡◌, ◌<◌, ◌≤◌, ◌+◌, ◌^◌, ◌↔◌, ◌++◌, [], ◌∷◌, List, ℕ, IfOk, OnOk, IsErr, IsTrue, MatchResult, length, vec_len, vec_capacity};
+ghost use Rattle.std.specs.Prelude.{◌≡◌, ◌<◌, ◌≤◌, ◌+◌, ◌^◌, ◌↔◌, ◌++◌, [], ◌∷◌, List, ℕ, IfOk, OnOk, IsErr, IsTrue, MatchResult, length};
 ghost use Rattle.aas_outside.specs.Faults.{HasCause};
 ghost use Rattle.aas_outside.specs.MemCalls.{IsNextFailing};
 ghost use Rattle.aas_outside.specs.MemKeeper.{has_room_behind, is_all, clock, kept_at, IsKeepCall};
 ghost use Rattle.aas_outside.specs.Moments.{Passes, KeepsInTurn};
 
 use crate::memory_calls::MemCalls;
+use crate::reserved::append_reserved;
 use crate::{Failed, Frame, Keeper};
 use aas_model_text::NoMemory;
 use std::alloc::Global;
@@ -75,15 +76,6 @@ impl MemKeeper {
         append_reserved(&mut self.bytes, payload);
         self.lengths.push_reserved(payload.len());
     }
-}
-
-/// Appends bytes for which there is storage.
-fn append_reserved(list: &mut Vec<u8>, bytes: &[u8])
-    requires { vec_len list.old + length bytes.now ≤ vec_capacity list.old }
-    ensures items { list.new.items ≡ list.old.items ++ bytes.now }
-    ensures capacity { vec_capacity list.old ≤ vec_capacity list.new }
-{
-    let _ = list.extend_from_slice(bytes);
 }
 
 impl Keeper for MemKeeper {

@@ -1,5 +1,5 @@
 -- What the calls of a disk do to what reads give and to what a stop may leave. This profile's own rule.
-use Rattle.std.specs.Prelude.{◌≡◌, ◌⊎◌, ℕ, ◌+◌, ◌≤◌, min, max, List, ◌++◌, length, take, drop, Option, Some, None, Result, OnOk, IfOk, IfSome}
+use Rattle.std.specs.Prelude.{◌≡◌, ℕ, ◌+◌, ◌≤◌, min, max, List, ◌++◌, length, take, drop, Option, Some, None, Result, OnOk, IfSome}
 use Rattle.aas_outside_disk.specs.declared.part.Part.{Part}
 use Rattle.aas_outside_disk.specs.Files.{Files, file, SameOthers}
 

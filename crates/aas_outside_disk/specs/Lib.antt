@@ -1,2 +1,10 @@
 pub mod Disk
+pub mod FileState
 pub mod Files
+pub mod MemDisk
+pub mod MemDiskInside
+pub mod MemDiskLaw
+pub mod MemFile
+pub mod MemFiles
+pub mod MemRecord
+pub mod MemRecordInside

@@ -5,13 +5,16 @@ ghost use Rattle.aas_command.specs.declared.refusal.Refusal.TheVariants.{NoMemor
 ghost use Rattle.aas_outside.specs.Faults.{Rose};
 ghost use Rattle.aas_rule.specs.State.{IsSettledState, PassesTo, repository_of};
 ghost use Rattle.aas_step.specs.Valid.{AreValid};
-ghost use Rattle.aas_repo.specs.Acts.{Acts};
+ghost use Rattle.aas_repo.specs.Acts.{Acts, done_of};
 ghost use Rattle.aas_repo.specs.Answers.{answer_of};
 ghost use Rattle.aas_repo.specs.Held.{state_of};
 
+use crate::answers::{asset_answer, concept_answer, shell_answer, submodel_answer};
+use crate::decision::Plan;
+use crate::planning::plan;
 use aas_command::{Command, Question, Refusal};
 use aas_model::Many;
-use aas_outside::Keeper;
+use aas_outside::{Failed, Keeper};
 use aas_store::Store;
 use std::alloc::Global;
 use std::marker::Model;
@@ -39,10 +42,12 @@ pub struct Repo<S: Store, K: Keeper> {
 }
 
 impl<S: Store, K: Keeper> Model for Repo<S, K> {
-    ghost use Rattle.aas_repo.specs.Held.{Held};
+    ghost use Rattle.aas_repo.specs.Held.{Held, held_code};
     ghost use Rattle.aas_step.specs.Valid.{AreValid};
 
     ghost Value = { Held K };
+
+    ghost coded = { held_code K.code };
 
     ghost view = { λ repo. record {
       documents = S.documents repo.store;
@@ -71,28 +76,22 @@ impl<S: Store, K: Keeper> Repo<S, K> {
 
     /// Whether the keeper has failed. Nothing more is done then.
     pub fn stopped(&self) -> bool
-        ensures { result ≡ self.now.stopped }
+        ensures value { result ≡ self.now.stopped }
+        ensures valid { AreValid self.now.documents }
     {
         self.stopped
-    }
-
-    /// Gives the keeper back.
-    pub fn into_keeper(self) -> K
-        ensures { result ≡ self.keeper }
-    {
-        self.keeper
     }
 
     /// Does what a command asks for, or refuses it by the first of its causes, in the order of [`Refusal`] from `NotFound`
     /// on. At `Ok` every stop leaves the command from now on. At `StorageFault` the keeper failed, and the repository is
     /// stopped; at any other error nothing has changed.
-    pub fn act(&mut self, _command: Command) -> Result<Done, Refusal>
+    pub fn act(&mut self, command: Command) -> Result<Done, Refusal>
         requires open { self.old.stopped ≡ false }
-        requires well_formed { IsWellFormed _command }
+        requires well_formed { IsWellFormed command }
         ensures acts { (records : List (List ℕ)) →
             IsSettledState K.stands_for (state_of K.kept K.moment K.left_at self.old) records →
             Acts (K.room_behind self.old.keeper) K.stands_for
-            (repository_of (state_of K.kept K.moment K.left_at self.old) records) _command
+            (repository_of (state_of K.kept K.moment K.left_at self.old) records) command
             (K.moment self.old.keeper) (state_of K.kept K.moment K.left_at self.new) result }
         ensures room { K.room_behind self.new.keeper ≡ K.room_behind self.old.keeper }
         ensures past { PassesTo (state_of K.kept K.moment K.left_at self.old) (state_of K.kept K.moment K.left_at self.new) }
@@ -100,14 +99,52 @@ impl<S: Store, K: Keeper> Repo<S, K> {
         ensures later { K.faults self.old.keeper ≤ K.faults self.new.keeper }
         ensures fault { result ≡ Err StorageFault → Rose (K.faults self.old.keeper) (K.faults self.new.keeper) }
     {
-        Err(Refusal::NoMemory)
+        let done = done_of(&command);
+        match plan(self.alloc, &mut self.store, &self.keeper, command) {
+            Plan::Made(frame) => match self.keeper.keep(&frame) {
+                Ok(()) => Ok(done),
+                Err(Failed) => {
+                    self.stopped = true;
+                    Err(Refusal::StorageFault)
+                }
+            },
+            Plan::Refused(refusal) => Err(refusal),
+            Plan::NoMemory => Err(Refusal::NoMemory),
+        }
     }
 
     /// The body of the reply to a question, or why there is none: only `NotFound` and `NoMemory` come.
-    pub fn ask(&self, _question: &Question) -> Result<Many<u8>, Refusal>
+    #[tactic(auto, unfolding(crate::specs::Answers::answer_of))]
+    pub fn ask(&self, question: &Question) -> Result<Many<u8>, Refusal>
         requires { self.now.stopped ≡ false }
-        ensures { (result ≡ Err NoMemory) ⊎ (result ≡ answer_of self.now.documents _question.now) }
+        ensures { (result ≡ Err NoMemory) ⊎ (result ≡ answer_of self.now.documents question.now) }
     {
-        Err(Refusal::NoMemory)
+        match question {
+            Question::Shell { id } => shell_answer(self.alloc, &self.store, id),
+            Question::Asset { id } => asset_answer(self.alloc, &self.store, id),
+            Question::Submodel { id } => submodel_answer(self.alloc, &self.store, id),
+            Question::Concept { id } => concept_answer(self.alloc, &self.store, id),
+        }
+    }
+}
+
+impl<S: Store + Drop, K: Keeper> Repo<S, K> {
+    /// Gives the keeper back.
+    pub fn into_keeper(self) -> K
+        ensures { result ≡ self.keeper }
+    {
+        self.keeper
+    }
+}
+
+/// What the command does where it is accepted.
+fn done_of(command: &Command) -> Done
+    ensures { result ≡ done_of command.now }
+{
+    match command {
+        Command::CreateShell { .. } => Done::Created,
+        Command::CreateSubmodel { .. } => Done::Created,
+        Command::CreateConcept { .. } => Done::Created,
+        _ => Done::Changed,
     }
 }

@@ -12,3 +12,12 @@ pub refused_status : (n : ℕ) → (n ≡ 3) ⊎ (n ≡ 7) ⊎ (n ≡ 10) → Co
 refused_status n (inl is) = (1, lit< tt, sym is)
 refused_status n (inr (inl is)) = (2, lit< tt, sym is)
 refused_status n (inr (inr is)) = (3, lit< tt, sym is)
+
+-- a text that is made is given without memory
+pub never_ten : (n : ℕ) → (n ≡ 3) ⊎ (n ≡ 0) → n ≡ 10 → ⊥
+never_ten n (inl is) ten = cc
+never_ten n (inr is) ten = cc
+
+pub done_status : (n : ℕ) → (n ≡ 3) ⊎ (n ≡ 0) → Contains (0 ∷ 3 ∷ 7 ∷ 10 ∷ []) n
+done_status n (inl is) = (1, lit< tt, sym is)
+done_status n (inr is) = (0, lit< tt, sym is)

@@ -1,3 +1,4 @@
 mod Given
+mod Serving
 mod ValueAnswers
 mod Words

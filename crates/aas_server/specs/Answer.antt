@@ -1,9 +1,11 @@
 -- What a command answers. This profile's own rule.
-use Rattle.std.specs.Prelude.{◌≡◌, ◌⊎◌, ℕ, List, [], ◌∷◌, ◌++◌, codes, decimal, Option}
+use Rattle.std.specs.Prelude.{◌≡◌, ◌≢◌, ◌⊎◌, ℕ, List, [], ◌∷◌, ◌++◌, codes, decimal, Option}
 use Rattle.std.specs.Io.KnownBytes.{append_known}
 use Rattle.aas_command.specs.Refusals.{code_of, text_of}
 use Rattle.aas_command.specs.declared.refusal.Refusal.{Refusal}
+use Rattle.aas_outside.specs.Faults.{Rose}
 use Rattle.aas_outside.specs.Link.{GivesFront}
+use Rattle.aas_server.specs.Ends.{ConsoleState}
 
 -- the status of the run, and all that the console gets
 pub record Answer : Type 0 where
@@ -32,3 +34,11 @@ GivesAnswer P status old new = (answer : Answer) × P answer × (status ≡ answ
 -- nothing was given, or a front of the text of an answer with P
 abbrev pub GivesFrontOf : (Answer → Type 0) → Option (List ℕ) → Option (List ℕ) → Type 0
 GivesFrontOf P old new = (new ≡ old) ⊎ ((answer : Answer) × P answer × GivesFront old new answer.text)
+
+-- The console gets the text of an answer with P, whose status is the run's, or a front of it where the console fails, or
+-- nothing for want of memory.
+pub record Says (P : Answer → Type 0) (status : ℕ) (old new : ConsoleState) : Type 0 where
+  pub given : status ≢ 3 → status ≢ 10 → GivesAnswer P status old.sent new.sent
+  pub front : status ≡ 3 → GivesFrontOf P old.sent new.sent
+  pub fault : status ≡ 3 → Rose old.faults new.faults
+  pub memory : status ≡ 10 → new.sent ≡ old.sent

@@ -1,26 +1,41 @@
--- The words of the command line: which commands there are, what each answers, and how it may end. This profile's own rule.
-use Rattle.std.specs.Prelude.{◌≡◌, ℕ, List, [], ◌∷◌, ◌==◌, Bool, false, codes, Option, Some, None, IfSome}
+-- The words of the command line: which commands there are, what a run of each does, and how it may end. This profile's own rule.
+use Rattle.std.specs.Prelude.{◌≡◌, ◌≤◌, ℕ, List, [], ◌∷◌, ◌==◌, Bool, false, codes, decimal, Option, Some, None, IfSome}
 use Rattle.std.specs.List.{list_any}
 use Rattle.aas_server.specs.declared.command_line.CommandLine.{CommandLine}
-use Rattle.aas_server.specs.declared.command_line.CommandLine.TheVariants.{Value}
-use Rattle.aas_server.specs.Answer.{Answer, not_a_command}
+use Rattle.aas_server.specs.declared.command_line.CommandLine.TheVariants.{Value, Pipe, Serve}
+use Rattle.aas_server.specs.Answer.{Says, not_a_command}
+use Rattle.aas_server.specs.Ends.{ConsoleState, WireState}
+use Rattle.aas_server.specs.Pipe.{Pipes}
+use Rattle.aas_server.specs.Serve.{Serves}
 use Rattle.aas_server.specs.ValueAnswer.{IsValueAnswer}
 
 -- ---- the commands
 
--- the words of each command
-abbrev pub words_of : CommandLine → List (List ℕ)
-words_of Value = codes "value" ∷ []
+-- so many connections can be asked for
+abbrev pub IsCount : ℕ → Type 0
+IsCount count = (1 ≤ count) × (count ≤ 1000000)
 
--- what each command, or no command, answers to what is left on the console, where that is told
-abbrev pub IsAnswer : Option CommandLine → Option (List ℕ) → Answer → Type 0
-IsAnswer None left answer = answer ≡ not_a_command
-IsAnswer (Some Value) left answer = IfSome left (λ input. IsValueAnswer input answer)
+-- the words of each command
+abbrev pub AreWordsOf : CommandLine → List (List ℕ) → Type 0
+AreWordsOf Value words = words ≡ codes "value" ∷ []
+AreWordsOf Pipe words = words ≡ codes "pipe" ∷ []
+AreWordsOf (Serve count) words =
+    IsCount count × ((address : List ℕ) × (words ≡ codes "serve" ∷ address ∷ decimal count ∷ []))
+
+-- what a run of each command, or of no command, does: its status, and the console and the wire before and after it
+abbrev pub Does : Option CommandLine → ℕ → ConsoleState → ConsoleState → WireState → WireState → Type 0
+Does None status old new wire_old wire_new = Says (λ answer. answer ≡ not_a_command) status old new × (wire_new ≡ wire_old)
+Does (Some Value) status old new wire_old wire_new =
+    Says (λ answer. IfSome old.left (λ input. IsValueAnswer input answer)) status old new × (wire_new ≡ wire_old)
+Does (Some Pipe) status old new wire_old wire_new = Pipes status old new × (wire_new ≡ wire_old)
+Does (Some (Serve count)) status old new wire_old wire_new = Serves count status wire_old wire_new × (new ≡ old)
 
 -- the statuses with which a run of each command, or of no command, may end
 abbrev pub statuses_of : Option CommandLine → List ℕ
 statuses_of None = 2 ∷ 3 ∷ []
 statuses_of (Some Value) = 0 ∷ 3 ∷ 7 ∷ 10 ∷ []
+statuses_of (Some Pipe) = 0 ∷ 3 ∷ 4 ∷ 10 ∷ []
+statuses_of (Some (Serve count)) = 0 ∷ 3 ∷ 4 ∷ 10 ∷ []
 
 -- ---- the words as a whole
 
@@ -30,7 +45,7 @@ begins_with_dash (c ∷ rest) = c == 45
 
 -- they are the words of the command, and none of them begins with -
 abbrev pub Asks : List (List ℕ) → CommandLine → Type 0
-Asks words command = (words ≡ words_of command) × (list_any begins_with_dash words ≡ false)
+Asks words command = AreWordsOf command words × (list_any begins_with_dash words ≡ false)
 
 -- the command that the words ask for, or none where they ask for none
 abbrev pub IsAsked : List (List ℕ) → Option CommandLine → Type 0

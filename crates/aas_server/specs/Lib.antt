@@ -1,6 +1,10 @@
 pub mod Answer
+pub mod Beginning
 pub mod CommandLine
 pub mod Console
+pub mod Ends
+pub mod Pipe
+pub mod Serve
 pub mod Status
 pub mod Stop
 pub mod ValueAnswer

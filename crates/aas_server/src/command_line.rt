@@ -1,13 +1,22 @@
 // The words of the command line.
-ghost use Rattle.aas_server.specs.CommandLine.{IsAsked};
+ghost use Rattle.std.specs.Prelude.{◌≡◌, ◌≢◌, ℕ, [], ◌∷◌, decimal, MatchOption};
+ghost use Rattle.aas_server.specs.CommandLine.{IsAsked, IsCount, begins_with_dash};
 
 use aas_model::{Many, Text};
+use itoa::Buffer;
+
+/// The most connections that are served.
+const MOST_CONNECTIONS: u32 = 1_000_000;
 
 /// What the words of the command line ask for.
 #[derive(Clone, Copy)]
 pub enum CommandLine {
     /// The value form of the element on the console.
     Value,
+    /// The repository on the console, as one connection.
+    Pipe,
+    /// The repository on so many connections of a wire, 1 to 1,000,000. The address stands in the words.
+    Serve { count: u32 },
 }
 
 /// The command that the words ask for, or `None` where they ask for none.
@@ -15,10 +24,56 @@ pub fn command_of(words: &Many<Text>) -> Option<CommandLine>
     ensures { IsAsked words.now result }
 {
     match words.as_slice() {
-        [word] => match word.as_str() {
-            "value" => Some(CommandLine::Value),
-            _ => None,
-        },
+        [word] => lone(word),
+        [word, address, count] => serving(word, address, count),
         _ => None,
+    }
+}
+
+/// The command of one word.
+fn lone(word: &Text) -> Option<CommandLine>
+    ensures { IsAsked (word.now ∷ []) result }
+{
+    match word.as_str() {
+        "value" => Some(CommandLine::Value),
+        "pipe" => Some(CommandLine::Pipe),
+        _ => None,
+    }
+}
+
+/// The command of `serve`, an address and a count.
+fn serving(word: &Text, address: &Text, count: &Text) -> Option<CommandLine>
+    ensures { IsAsked (word.now ∷ address.now ∷ count.now ∷ []) result }
+{
+    if word.as_str() != "serve" || is_option(address) {
+        return None;
+    }
+    match count_of(count) {
+        Some(count) => Some(CommandLine::Serve { count }),
+        None => None,
+    }
+}
+
+/// Whether the word begins with `-`.
+fn is_option(word: &Text) -> bool
+    ensures { result ≡ begins_with_dash word.now }
+{
+    word.as_str().starts_with('-')
+}
+
+/// The count of connections that the word writes, or `None` where it writes none.
+fn count_of(word: &Text) -> Option<u32>
+    ensures { MatchOption result ((n : ℕ) → IsCount n → word.now ≢ decimal n) (λ n. IsCount n × (word.now ≡ decimal n)) }
+{
+    let Ok(count) = word.as_str().parse::<u32>() else {
+        return None;
+    };
+    if count == 0 || count > MOST_CONNECTIONS {
+        return None;
+    }
+    if Buffer::new().format(count) == word.as_str() {
+        Some(count)
+    } else {
+        None
     }
 }

@@ -1,49 +1,87 @@
 // The commands of the program.
-ghost use Rattle.std.specs.Prelude.{◌≡◌, ◌≢◌, ◌≤◌, IfSome, IfOk, IfErr, IsErrOf, Contains};
+ghost use Rattle.std.specs.Prelude.{◌≡◌, ◌≢◌, ◌<◌, ◌≤◌, length, IfSome, IfOk, IfErr, IsErrOf, Contains};
 ghost use Rattle.aas_outside.specs.Faults.{Rose};
-ghost use Rattle.aas_server.specs.Answer.{done, refused, GivesAnswer, GivesFrontOf};
-ghost use Rattle.aas_server.specs.CommandLine.{ForAsked, IsAnswer, statuses_of};
+ghost use Rattle.aas_server.specs.Answer.{done, not_a_command, refused, Says};
+ghost use Rattle.aas_server.specs.CommandLine.{Does, ForAsked, statuses_of};
+ghost use Rattle.aas_server.specs.Ends.{console_of, wire_of};
+ghost use Rattle.aas_server.specs.Pipe.{Pipes};
+ghost use Rattle.aas_server.specs.Serve.{Serves};
 ghost use Rattle.aas_server.specs.Status.{exit_code};
 ghost use Rattle.aas_server.specs.Stop.{IfRefused};
 ghost use Rattle.aas_server.specs.ValueAnswer.{IsValueAnswer};
 
 use crate::command_line::{CommandLine, command_of};
 use crate::console::{end_refused, end_with, read_input};
+use crate::server::Server;
 use crate::status::Status;
 use crate::stop::Stop;
 use crate::value::answer_value;
 use aas_command::Refusal;
-use aas_model::{Many, Text};
-use aas_outside::Link;
+use aas_model::{Many, NoMemory, Text};
+use aas_outside::{Failed, Link, Wire};
 use std::alloc::Global;
 
-/// Does what the words ask for on this console, and answers the exit status of the program.
-pub fn run<C: Link>(alloc: Global, words: &Many<Text>, console: &mut C) -> u8
-    // The console gets an answer, or a front of one where it fails.
-    ensures answer { ForAsked words.now (λ asked. result ≢ 3 → result ≢ 10 →
-        GivesAnswer (IsAnswer asked (C.left console.old)) result (C.sent console.old) (C.sent console.new)) }
-    ensures front { ForAsked words.now (λ asked. result ≡ 3 →
-        GivesFrontOf (IsAnswer asked (C.left console.old)) (C.sent console.old) (C.sent console.new)) }
-
-    // When each status comes.
+/// Does what the words ask for on this console and this wire, and answers the exit status of the program.
+pub fn run<C: Link, W: Wire>(alloc: Global, words: &Many<Text>, console: &mut C, wire: &mut W) -> u8
+    ensures does { ForAsked words.now (λ asked. Does asked result
+        (console_of C.left C.sent C.faults console.old) (console_of C.left C.sent C.faults console.new)
+        (wire_of W.left W.sent W.faults W.surroundings wire.old) (wire_of W.left W.sent W.faults W.surroundings wire.new)) }
     ensures statuses { ForAsked words.now (λ asked. Contains (statuses_of asked) result) }
-    ensures fault { result ≡ 3 → Rose (C.faults console.old) (C.faults console.new) }
-    ensures memory { result ≡ 10 → C.sent console.new ≡ C.sent console.old }
 {
     match command_of(words) {
         Some(CommandLine::Value) => value(alloc, console).exit_code(),
-        None => end_with(console, b"aasd: not a command\n", Status::NotACommand).exit_code(),
+        Some(CommandLine::Pipe) => pipe(alloc, console).exit_code(),
+        Some(CommandLine::Serve { count }) => {
+            serve(alloc, address(words), wire, count).exit_code()
+        }
+        None => no_command(console).exit_code(),
+    }
+}
+
+/// The address, which is the second word.
+fn address(words: &Many<Text>) -> &str
+    requires { 1 < length words.now }
+{
+    words.as_slice()[1].as_str()
+}
+
+fn no_command<C: Link>(console: &mut C) -> Status
+    ensures says { Says (λ answer. answer ≡ not_a_command) (exit_code result)
+        (console_of C.left C.sent C.faults console.old) (console_of C.left C.sent C.faults console.new) }
+    ensures statuses { Contains (statuses_of None) (exit_code result) }
+{
+    end_with(console, b"aasd: not a command\n", Status::NotACommand)
+}
+
+fn pipe<C: Link>(alloc: Global, console: &mut C) -> Status
+    ensures does { Pipes (exit_code result)
+        (console_of C.left C.sent C.faults console.old) (console_of C.left C.sent C.faults console.new) }
+    ensures statuses { Contains (statuses_of (Some CommandLine.Pipe)) (exit_code result) }
+{
+    match Server::new(alloc) {
+        Ok(mut server) => Status::from(server.serve_console(console)),
+        Err(NoMemory) => Status::NoMemory,
+    }
+}
+
+fn serve<W: Wire>(alloc: Global, address: &str, wire: &mut W, count: u32) -> Status
+    ensures does { Serves count (exit_code result)
+        (wire_of W.left W.sent W.faults W.surroundings wire.old) (wire_of W.left W.sent W.faults W.surroundings wire.new) }
+    ensures statuses { Contains (statuses_of (Some (CommandLine.Serve count))) (exit_code result) }
+{
+    match Server::new(alloc) {
+        Ok(mut server) => match wire.listen(address) {
+            Ok(()) => Status::from(server.serve_wire(wire, count)),
+            Err(Failed) => Status::LinkFault,
+        },
+        Err(NoMemory) => Status::NoMemory,
     }
 }
 
 fn value<C: Link>(alloc: Global, console: &mut C) -> Status
-    ensures answer { exit_code result ≢ 3 → exit_code result ≢ 10 →
-        GivesAnswer (IsAnswer (Some CommandLine.Value) (C.left console.old)) (exit_code result) (C.sent console.old) (C.sent console.new) }
-    ensures front { exit_code result ≡ 3 →
-        GivesFrontOf (IsAnswer (Some CommandLine.Value) (C.left console.old)) (C.sent console.old) (C.sent console.new) }
+    ensures says { Says (λ answer. IfSome (C.left console.old) (λ input. IsValueAnswer input answer)) (exit_code result)
+        (console_of C.left C.sent C.faults console.old) (console_of C.left C.sent C.faults console.new) }
     ensures statuses { Contains (statuses_of (Some CommandLine.Value)) (exit_code result) }
-    ensures fault { exit_code result ≡ 3 → Rose (C.faults console.old) (C.faults console.new) }
-    ensures memory { exit_code result ≡ 10 → C.sent console.new ≡ C.sent console.old }
 {
     match value_text(alloc, console) {
         Ok(text) => end_with(console, &text, Status::Done),

@@ -1,4 +1,4 @@
-//! The commands of the program over any console: what each of them answers, and the exit status.
+//! The commands of the program over any console and any wire: what each of them does, and the exit status.
 //!
 //! Real consoles, sockets and files stand in `aasd`.
 #![tactic(auto)]
@@ -6,6 +6,7 @@
 mod command_line;
 mod commands;
 mod console;
+mod server;
 mod status;
 mod stop;
 mod value;

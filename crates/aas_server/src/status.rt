@@ -1,4 +1,7 @@
+// How a run ends.
 ghost use Rattle.std.specs.Prelude.{◌≡◌};
+
+use aas_session::{Ended, WireEnded};
 
 /// How a run ends.
 #[derive(Clone, Copy)]
@@ -7,8 +10,10 @@ pub enum Status {
     Done = 0,
     /// The words are no command.
     NotACommand = 2,
-    /// The console failed.
+    /// The console failed, or the wire couldn't listen or begin a connection.
     LinkFault = 3,
+    /// The keeper failed.
+    KeeperFault = 4,
     /// The input was refused.
     Refused = 7,
     /// Memory was refused.
@@ -23,5 +28,36 @@ impl Status {
         ensures { result ≡ exit_code self }
     {
         self as u8
+    }
+}
+
+impl From<Ended> for Status {
+    ghost use Rattle.aas_server.specs.Pipe.{pipe_status};
+    ghost use Rattle.aas_server.specs.Status.{exit_code};
+
+    ghost from_gives = { λ ended given. exit_code given ≡ pipe_status ended };
+
+    fn from(ended: Ended) -> Status {
+        match ended {
+            Ended::Closed => Status::Done,
+            Ended::LinkFault => Status::LinkFault,
+            Ended::KeeperFault => Status::KeeperFault,
+            Ended::NoMemory => Status::NoMemory,
+        }
+    }
+}
+
+impl From<WireEnded> for Status {
+    ghost use Rattle.aas_server.specs.Serve.{serve_status};
+    ghost use Rattle.aas_server.specs.Status.{exit_code};
+
+    ghost from_gives = { λ ended given. exit_code given ≡ serve_status ended };
+
+    fn from(ended: WireEnded) -> Status {
+        match ended {
+            WireEnded::Done => Status::Done,
+            WireEnded::WireFault => Status::LinkFault,
+            WireEnded::KeeperFault => Status::KeeperFault,
+        }
     }
 }

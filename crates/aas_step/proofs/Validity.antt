@@ -2,7 +2,7 @@
 use Rattle.std.proofs.Common.{◌≡◌, Bool, true, false, cond, List, [], ◌∷◌, ◌++◌, Option, Some, None, refl, sym, ap, ◌∙◌, subst, Ordering, Less, Equal, Greater}
 use Rattle.std.specs.Prelude.{ℕ, ◌&&◌, flat_map, option_map}
 use Rattle.std.specs.FinMap as map
-use Rattle.std.specs.FinMap.{get-insert, get-remove, slice_cmp-IsAntisymmetric, nat_cmp-IsAntisymmetric}
+use Rattle.std.specs.FinMap.{get-empty, get-insert, get-remove, slice_cmp-IsAntisymmetric, nat_cmp-IsAntisymmetric}
 use Rattle.std.specs.List.{AllByRecursion, list_all}
 use Rattle.std.specs.Option.{option_map_or}
 use Rattle.std.specs.Ordering.{nat_cmp, is_eq}
@@ -24,7 +24,7 @@ use Rattle.aas_command.specs.Refusals.{refusal_of_fault}
 use Rattle.aas_command.specs.declared.command.Command.{Command}
 use Rattle.aas_command.specs.declared.command.Command.TheVariants.{CreateShell, CreateSubmodel, CreateConcept, ReplaceShell, ReplaceSubmodel, ReplaceConcept, DeleteShell, DeleteSubmodel, DeleteConcept, SetAsset}
 use Rattle.aas_command.specs.declared.refusal.Refusal.TheVariants.{TooMany}
-use Rattle.aas_store.specs.Documents.{Documents, Identifier, Map, without}
+use Rattle.aas_store.specs.Documents.{Documents, Identifier, Map, empty, without}
 use Rattle.aas_step.specs.Causes.{Cause, causes, document_causes, first_of, has_too_many, when}
 use Rattle.aas_step.specs.Laws.{StaysValid}
 use Rattle.aas_step.specs.Made.{IsMade, changed_shell, id_of, left, with_document, with_documents}
@@ -76,7 +76,13 @@ all_left {X = X} wrap m gone all id y there = by_key (is_eq (slice_cmp nat_cmp i
     by_key true e = absurd (cc)
     by_key false e = all id y e
 
+none_at : {X : Type 0} (wrap : X → Document) → AllAt wrap map.empty
+none_at {X = X} wrap id x there = let none : None ≡ Some x = sym (get-empty (slice_cmp nat_cmp) id) ∙ there in absurd (cc)
+
 -- ---- documents
+
+pub empty_valid : AreValid empty
+empty_valid = record { shells = none_at shell; submodels = none_at submodel; concepts = none_at concept }
 
 put_valid : (d : Documents) (x : Document) → AreValid d → IsValidAt (encode_utf8_all (id_of x)) x → AreValid (with_document d x)
 put_valid d (shell s) all at = record { shells = all_put shell d.shells (encode_utf8_all s.head.id) s all.shells at; submodels = all.submodels; concepts = all.concepts }

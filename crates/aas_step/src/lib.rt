@@ -4,10 +4,17 @@
 #![tactic(auto)]
 
 ghost use Rattle.aas_step.specs.Laws.{OneResult, StaysValid, ValidIsStorable};
+ghost use Rattle.aas_step.specs.Valid.{AreValid};
+ghost use Rattle.aas_store.specs.Documents.{empty};
 
 /// A command comes to one thing alone.
 pub fn commands_come_to_one_result()
     ensures { OneResult }
+{}
+
+/// No documents at all are valid.
+pub fn no_documents_are_valid()
+    ensures { AreValid empty }
 {}
 
 /// A command that is accepted leaves every constraint true.

@@ -1,9 +1,14 @@
-//! `aasd`: the commands of `aas_server` on the console.
+//! `aasd`: the commands of `aas_server` on the console and over TCP.
 //!
 //! Nothing is decided here: the real ends stand here, and what they tell is trusted.
 #![tactic(auto)]
 
+mod arrivals;
+mod calls;
 mod console;
+mod faults;
+mod patience;
+mod tcp_wire;
 
 use aas_model_text::{Many, NoMemory, Text};
 use aas_server::{Status, run};
@@ -12,14 +17,22 @@ use std::env;
 use std::io::ErrorKind;
 use std::process::ExitCode;
 use std::rt::Env;
+use tcp_wire::TcpWire;
 
 fn main(rt: HostRuntime) -> ExitCode {
-    let mut console = ConsoleLink::new(rt.stdin(), rt.stdout());
-    let status = match words(&rt) {
-        Ok(words) => run(rt.alloc(), &words, &mut console),
+    let status = match run_on(&rt) {
+        Ok(status) => status,
         Err(NoMemory) => Status::NoMemory.exit_code(),
     };
     ExitCode::from(status)
+}
+
+/// Runs the words of the command line on the real console and the real wire.
+fn run_on(rt: &HostRuntime) -> Result<u8, NoMemory> {
+    let words = words(rt)?;
+    let mut console = ConsoleLink::new(rt.stdin(), rt.stdout());
+    let mut wire = TcpWire::new(rt.clone()?);
+    Ok(run(rt.alloc(), &words, &mut console, &mut wire))
 }
 
 /// The words of the command line, without the program's name. Where one of them isn't UTF-8 they

@@ -1,8 +1,11 @@
-// The console over a reader and a writer that are interrupted and take little.
+// The console over a reader and a writer that are interrupted and take little; the wire over sockets.
 use crate::console::ConsoleLink;
-use aas_outside::{Failed, Link};
+use crate::tcp_wire::TcpWire;
+use aas_outside::{Failed, Link, Wire};
 use std::io;
 use std::io::{ErrorKind, Read, Write};
+use std::net::{Net, TcpStream};
+use std::test::Fail;
 
 #[derive(Drop)]
 struct Peer {
@@ -49,4 +52,52 @@ fn a_console_that_is_interrupted(rt: HostRuntime) {
     assert_eq!(rt; console.give(b"ab"), Ok(1));
     assert_eq!(rt; console.give(b""), Ok(0));
     assert_eq!(rt; console.give(b"b"), Err(Failed), "nothing is taken");
+}
+
+/// The first of some addresses at which the wire can listen.
+fn listens<N: Net>(wire: &mut TcpWire<N>) -> Option<&'static str> {
+    for address in ["127.0.0.1:23791", "127.0.0.1:23792", "127.0.0.1:23793"] {
+        if wire.listen(address).is_ok() {
+            return Some(address);
+        }
+    }
+    None
+}
+
+/// Whether four bytes go each way.
+fn exchanges<N: Net>(wire: &mut TcpWire<N>, peer: &mut TcpStream) -> io::Result<bool> {
+    let mut buf = [0; 4];
+    peer.write_all(b"ping")?;
+    if wire.take(&mut buf) != Ok(4) || buf != *b"ping" || wire.give(b"pong") != Ok(4) {
+        return Ok(false);
+    }
+    peer.read_exact(&mut buf)?;
+    Ok(buf == *b"pong")
+}
+
+/// Whether the second peer is served while the first is silent.
+fn serves_second<N: Net>(
+    wire: &mut TcpWire<N>,
+    first: &mut TcpStream,
+    second: &mut TcpStream,
+) -> io::Result<bool> {
+    if wire.next() != Ok(true) || !exchanges(wire, first)? {
+        return Ok(false);
+    }
+    if wire.take(&mut [0; 4]) != Ok(0) || wire.next() != Ok(true) {
+        return Ok(false);
+    }
+    Ok(first.read(&mut [0; 4])? == 0 && exchanges(wire, second)?)
+}
+
+#[test]
+fn a_wire_whose_first_peer_is_silent(rt: HostRuntime) -> Result<(), Fail> {
+    let mut wire = TcpWire::new(rt.clone()?);
+    let Some(address) = listens(&mut wire) else {
+        return Err(Fail::from("no address is free"));
+    };
+    let mut first = TcpStream::connect(&rt, address)?;
+    let mut second = TcpStream::connect(&rt, address)?;
+    assert!(rt; serves_second(&mut wire, &mut first, &mut second)?);
+    Ok(())
 }

@@ -1,0 +1,180 @@
+#!/usr/bin/env python3
+"""Time of one request of `aasd pipe` over growing repositories.
+
+In each run the program gets the requests of one connection: so many small submodels are created, then batches of 100 requests are sent at once and
+timed up to their last reply. A batch of GETs asks for submodels that lie apart; a batch of POSTs creates new ones, which are deleted again before the
+next. So the program keeps between so many submodels and 100 more while it is timed. Each reply is compared with what it must be.
+
+Printed are the microseconds for a request with 10, 100, 1,000 and 10,000 submodels, those that passed and those that the program itself ran, each the
+median over all batches of some runs, and how much the latter grew from the first to the last. The script ends with status 1 where that is past 2 times.
+It wants an idle machine.
+"""
+import argparse
+import base64
+import fcntl
+import json
+import os
+import select
+import statistics
+import subprocess
+import sys
+import tempfile
+import time
+
+HERE = os.path.dirname(os.path.abspath(__file__))
+PROGRAM = os.path.join(HERE, '..', 'aasd')
+COUNTS = (10, 100, 1_000, 10_000)
+BATCH = 100
+BATCHES = 20
+GROWTH = 2
+# A batch and its replies fit a pipe of this size, so that neither side waits for the other.
+PIPE_SIZE = 1 << 20
+# How long a reply may take, in seconds.
+PATIENCE = 60
+# Where the program's files stand, if it has any: in memory, so that no disk is measured.
+FOLDER = '/dev/shm' if os.path.isdir('/dev/shm') else None
+
+
+def identifier(number):
+    return f'https://example.com/submodels/{number:06}'
+
+
+def submodel(number):
+    """The canonical text of a small submodel."""
+    elements = [
+        {'idShort': 'ManufacturerName', 'modelType': 'MultiLanguageProperty', 'value': [{'language': 'en', 'text': 'Sample Ltd'}]},
+        {'idShort': 'SerialNumber', 'modelType': 'Property', 'value': f'{number}', 'valueType': 'xs:string'},
+        {'idShort': 'Speed', 'modelType': 'Property', 'value': f'{number % 1000}', 'valueType': 'xs:int'},
+    ]
+    document = {'id': identifier(number), 'idShort': 'Nameplate', 'modelType': 'Submodel', 'submodelElements': elements}
+    return json.dumps(document, separators=(',', ':'), sort_keys=True)
+
+
+def path(number):
+    return '/submodels/' + base64.urlsafe_b64encode(identifier(number).encode()).decode().rstrip('=')
+
+
+def request(line, body=''):
+    length = f'Content-Length: {len(body)}\r\n' if body else ''
+    return f'{line} HTTP/1.1\r\nHost: localhost\r\n{length}\r\n{body}'
+
+
+def reply(status, body=''):
+    fields = f'Content-Type: application/json\r\nContent-Length: {len(body)}\r\n' if body else ''
+    return f'HTTP/1.1 {status}\r\n{fields}\r\n{body}'
+
+
+def post(number):
+    return request('POST /submodels', submodel(number)), reply('201 Created', submodel(number))
+
+
+def get(number):
+    return request('GET ' + path(number)), reply('200 OK', submodel(number))
+
+
+def delete(number):
+    return request('DELETE ' + path(number)), reply('204 No Content')
+
+
+class Pipe:
+    """A run of the program with one connection on its console, in a folder of its own."""
+
+    def __init__(self, program, folder):
+        # What keeps its documents in files wants them made.
+        subprocess.run([program, 'init'], cwd=folder, stdin=subprocess.DEVNULL, stdout=subprocess.DEVNULL, check=False)
+        self.process = subprocess.Popen([program, 'pipe'], cwd=folder, stdin=subprocess.PIPE, stdout=subprocess.PIPE)
+        self.given, self.taken = self.process.stdin.fileno(), self.process.stdout.fileno()
+        for end in (self.given, self.taken):
+            fcntl.fcntl(end, fcntl.F_SETPIPE_SZ, PIPE_SIZE)
+
+    def ran(self):
+        """The seconds that the program has run, once it waits."""
+        while True:
+            with open(f'/proc/{self.process.pid}/stat', encoding='ascii') as file:
+                state = file.read().rpartition(')')[2].split()[0]
+            if state in 'SZ':
+                with open(f'/proc/{self.process.pid}/schedstat', encoding='ascii') as file:
+                    return int(file.read().split()[0]) / 1e9
+
+    def exchange(self, calls):
+        """Sends the requests at once. Answers the seconds up to the last reply, and those that the program ran."""
+        sent = ''.join(call for call, _ in calls).encode()
+        wanted = ''.join(answer for _, answer in calls).encode()
+        pieces, missing, ran = [], len(wanted), self.ran()
+        begun = time.perf_counter()
+        if os.write(self.given, sent) != len(sent):
+            sys.exit('a batch is larger than a pipe')
+        while missing > 0:
+            ready, _, _ = select.select([self.taken], [], [], PATIENCE)
+            piece = os.read(self.taken, PIPE_SIZE) if ready else b''
+            pieces.append(piece)
+            missing -= len(piece)
+            if not piece:
+                break
+        took = time.perf_counter() - begun
+        if b''.join(pieces) != wanted:
+            sys.exit(difference(b''.join(pieces), wanted))
+        return took, self.ran() - ran
+
+    def end(self):
+        self.process.stdin.close()
+        if self.process.wait(PATIENCE) != 0:
+            sys.exit(f'pipe: status {self.process.returncode}')
+
+
+def difference(got, wanted):
+    """Where the replies begin to be others than they must be."""
+    at = next((n for n, (one, other) in enumerate(zip(got, wanted)) if one != other), min(len(got), len(wanted)))
+    begin = max(wanted.rfind(b'HTTP/1.1', 0, at + 1), 0)
+    return f'got    {got[begin:begin + 400]!r}\nwanted {wanted[begin:begin + 400]!r}'
+
+
+def batches(numbers):
+    return [numbers[at:at + BATCH] for at in range(0, len(numbers), BATCH)]
+
+
+def one_run(program, count):
+    """What each batch of GETs and each of POSTs took, with so many submodels."""
+    gets, posts = [], []
+    with tempfile.TemporaryDirectory(dir=FOLDER) as folder:
+        pipe = Pipe(program, folder)
+        for numbers in batches(list(range(count))):
+            pipe.exchange([post(number) for number in numbers])
+        for turn in range(BATCHES):
+            apart = [(turn * BATCH + n) * 7919 % count for n in range(BATCH)]
+            new = range(count, count + BATCH)
+            gets.append(pipe.exchange([get(number) for number in apart]))
+            posts.append(pipe.exchange([post(number) for number in new]))
+            pipe.exchange([delete(number) for number in new])
+        pipe.end()
+    return gets, posts
+
+
+def main():
+    parser = argparse.ArgumentParser(description=__doc__, formatter_class=argparse.RawDescriptionHelpFormatter)
+    parser.add_argument('--program', default=PROGRAM, help='the program (the script aasd)')
+    parser.add_argument('--runs', type=int, default=5, help='runs for each count of submodels (5)')
+    options = parser.parse_args()
+    program = os.path.abspath(options.program)
+    # With no words the script builds the program where that hasn't been done, and the program ends at once.
+    subprocess.run([program], stdin=subprocess.DEVNULL, stdout=subprocess.DEVNULL, check=False)
+    good = True
+    took = {count: [] for count in COUNTS}
+    for _ in range(options.runs):
+        for count in COUNTS:
+            took[count].append(one_run(program, count))
+    for kind, name in enumerate(('GET of a submodel', 'POST of a submodel')):
+        print(name)
+        own = []
+        for count in COUNTS:
+            passed, ran = (statistics.median(times) / BATCH * 1e6 for times in zip(*(pair for run in took[count] for pair in run[kind])))
+            own.append(ran)
+            print(f'  {count:6} submodels {passed:8.1f} us a request, {ran:8.1f} of them run')
+        growth = own[-1] / own[0]
+        good = good and growth <= GROWTH
+        print(f'  grew {growth:.2f} times')
+    sys.exit(0 if good else 1)
+
+
+if __name__ == '__main__':
+    main()

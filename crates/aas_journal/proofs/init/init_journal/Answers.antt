@@ -1,0 +1,19 @@
+use Rattle.std.proofs.Common.{◌≡◌, ◌∙◌, true, rules}
+use Rattle.aas_outside.specs.declared.link.Failed.{Failed}
+use Rattle.aas_journal.specs.Causes.{AreEmpty}
+use Rattle.aas_journal.proofs.Disks.{known}
+use Rattle.aas_journal.proofs.Initial.{made_images, where_told}
+use Rattle.aas_journal.proofs.init.init_journal.Goals as goal
+
+pub returns-clause-images : goal.returns-clause-images
+returns-clause-images g c =
+    let D = g.D.Disk in
+    let disk = c.args.disk.now in
+    let mid = c.are_empty.new.disk in
+    let new = c.write_durably.new.disk in
+    let empty : c.in_ok-are_empty.field-0 ≡ true = search rules in
+    where_told (D.seen disk) _ (λ files told_is.
+    let is_empty : AreEmpty files = (known files (D.seen disk) _ told_is c.in_ok-are_empty.ensures.value).0 empty in
+    made_images (D.moment disk) (D.moment mid) (D.moment new) (D.left_at disk) (D.left_at mid) (D.left_at new) c.are_empty.ensures.reads.past.later c.are_empty.ensures.reads.images
+    c.write_durably.ensures.past.later c.write_durably.ensures.images Failed files (D.seen mid) (D.seen new) is_empty (c.are_empty.ensures.reads.same ∙ told_is)
+    c.in_ok-write_durably.ensures.written c.in_ok-write_durably.ensures.durable)

@@ -1,0 +1,84 @@
+use Rattle.std.proofs.Common.{◌∷◌, [], ◌+◌, refl, length}
+use Rattle.aas_outside.specs.declared.link.Failed.{Failed}
+use Rattle.aas_outside_disk.specs.Files.{file}
+use Rattle.aas_journal.specs.Kept.{limit_law}
+use Rattle.aas_journal.proofs.Disks.{known, told}
+use Rattle.aas_journal.proofs.Placed.{placed_further, placed_write, same_part}
+use Rattle.aas_journal.proofs.Keeping.{at_err, failed_first, failed_second, keeps, kept_in_turn}
+use Rattle.aas_journal.proofs.journal.JournalKeeper.keep.Goals as goal
+
+pub invariant_of-self : goal.invariant_of-self
+invariant_of-self g c =
+    let D = g.D.Disk in
+    let self = c.args.self.now in
+    record {
+      placed = placed_write D.seen D.moment D.left_at self.part self.disk c.write_durably.new.disk c.write_durably.ensures.past.later (self.gate + 1) c.bytes-bytes.result.now c.write_durably.result self.gate
+          self.placed c.write_durably.ensures.written c.write_durably.ensures.images;
+    }
+
+pub invariant_of-self-in-Break-branch-2 : goal.invariant_of-self-in-Break-branch-2
+invariant_of-self-in-Break-branch-2 g c =
+    let D = g.D.Disk in
+    let self = c.args.self.now in
+    let first = placed_write D.seen D.moment D.left_at self.part self.disk c.write_durably.new.disk c.write_durably.ensures.past.later (self.gate + 1) c.bytes-bytes.result.now c.write_durably.result self.gate
+    self.placed c.write_durably.ensures.written c.write_durably.ensures.images in
+    record {
+      placed = placed_write D.seen D.moment D.left_at self.part c.write_durably.new.disk c.write_durably-2.new.disk c.write_durably-2.ensures.past.later self.gate (1 ∷ []) c.write_durably-2.result self.gate
+          first c.write_durably-2.ensures.written c.write_durably-2.ensures.images;
+    }
+
+pub invariant_of-self-2 : goal.invariant_of-self-2
+invariant_of-self-2 g c =
+    let D = g.D.Disk in
+    let self = c.args.self.now in
+    let first = placed_further D.seen D.moment D.left_at self.part self.disk c.write_durably.new.disk c.write_durably.ensures.past.later Failed c.bytes-bytes.result.now self.gate
+    self.placed c.in_ok-write_durably.ensures.written c.write_durably.ensures.images in
+    record {
+      placed = placed_write D.seen D.moment D.left_at self.part c.write_durably.new.disk c.write_durably-2.new.disk c.write_durably-2.ensures.past.later self.gate (1 ∷ []) c.write_durably-2.result
+          (self.gate + length c.bytes-bytes.result.now) first c.write_durably-2.ensures.written c.write_durably-2.ensures.images;
+    }
+
+pub returns-clause-kept : goal.returns-clause-kept
+returns-clause-kept g c = λ payloads kept.
+    let D = g.D.Disk in
+    let self = c.args.self.now in
+    let t = told kept.files (D.seen self.disk) (D.seen c.write_durably.new.disk) _ kept.told c.in_ok-write_durably.ensures.written in
+    let u = told t.0 (D.seen c.write_durably.new.disk) (D.seen c.write_durably-2.new.disk) _ t.1 c.in_ok-write_durably-2.ensures.written in
+    let placed = self.placed kept.files kept.told in
+    keeps kept.files self.part self.gate payloads kept.gate_is kept.image (D.moment self.disk) (D.left_at self.disk) placed c.args.frame.now (limit_law self.gate (length c.args.frame.now) c.requires)
+    c.bytes-bytes.result.now c.bytes-bytes.ensures (D.seen c.write_durably-2.new.disk) u.0 (file self.part t.0) u.1
+    (same_part self.part kept.files.selector t.0 u.0 placed.part_is u.2.0 (same_part self.part kept.files.selector kept.files t.0 placed.part_is t.2.0 refl)) t.2.2 u.2.2
+
+pub returns-in_err-write_durably-clause-in_turn : goal.returns-in_err-write_durably-clause-in_turn
+returns-in_err-write_durably-clause-in_turn g c = λ payloads settled.
+    let D = g.D.Disk in
+    let self = c.args.self.now in
+    let kept = settled.told in
+    at_err _ c.from_residual.result c.from_residual.ensures.0
+    (failed_first kept.files self.part self.gate payloads kept.gate_is kept.image (D.moment self.disk) (D.left_at self.disk) (self.placed kept.files kept.told) c.args.frame.now (limit_law self.gate (length c.args.frame.now) c.requires)
+    c.bytes-bytes.result.now c.bytes-bytes.ensures settled.alone (D.moment c.write_durably.new.disk) (D.left_at c.write_durably.new.disk) c.write_durably.ensures.past c.write_durably.ensures.images)
+
+pub returns-in_err-write_durably-2-clause-in_turn : goal.returns-in_err-write_durably-2-clause-in_turn
+returns-in_err-write_durably-2-clause-in_turn g c = λ payloads settled.
+    let D = g.D.Disk in
+    let self = c.args.self.now in
+    let kept = settled.told in
+    let t = told kept.files (D.seen self.disk) (D.seen c.write_durably.new.disk) _ kept.told c.in_ok-write_durably.ensures.written in
+    at_err _ c.from_residual-in_err-write_durably-2.result c.from_residual-in_err-write_durably-2.ensures.0
+    (failed_second kept.files self.part self.gate payloads kept.gate_is kept.image (D.moment self.disk) (D.left_at self.disk) (self.placed kept.files kept.told) c.args.frame.now (limit_law self.gate (length c.args.frame.now) c.requires)
+    c.bytes-bytes.result.now c.bytes-bytes.ensures settled.alone (D.moment c.write_durably.new.disk) (D.left_at c.write_durably.new.disk) c.write_durably.ensures.past c.write_durably.ensures.images
+    (file self.part t.0) t.2.2 (known t.0 (D.seen c.write_durably.new.disk) _ t.1 c.in_ok-write_durably.ensures.durable)
+    (D.moment c.write_durably-2.new.disk) (D.left_at c.write_durably-2.new.disk) c.write_durably-2.ensures.past c.write_durably-2.ensures.images)
+
+pub returns-clause-in_turn : goal.returns-clause-in_turn
+returns-clause-in_turn g c = λ payloads settled.
+    let D = g.D.Disk in
+    let self = c.args.self.now in
+    let kept = settled.told in
+    let t = told kept.files (D.seen self.disk) (D.seen c.write_durably.new.disk) _ kept.told c.in_ok-write_durably.ensures.written in
+    let u = told t.0 (D.seen c.write_durably.new.disk) (D.seen c.write_durably-2.new.disk) _ t.1 c.in_ok-write_durably-2.ensures.written in
+    kept_in_turn kept.files self.part self.gate payloads kept.gate_is kept.image (D.moment self.disk) (D.left_at self.disk) (self.placed kept.files kept.told) c.args.frame.now (limit_law self.gate (length c.args.frame.now) c.requires)
+    c.bytes-bytes.result.now c.bytes-bytes.ensures settled.alone (D.moment c.write_durably.new.disk) (D.left_at c.write_durably.new.disk) c.write_durably.ensures.past c.write_durably.ensures.images
+    (file self.part t.0) t.2.2 (known t.0 (D.seen c.write_durably.new.disk) _ t.1 c.in_ok-write_durably.ensures.durable)
+    (D.moment c.write_durably-2.new.disk) (D.left_at c.write_durably-2.new.disk) c.write_durably-2.ensures.past c.write_durably-2.ensures.images
+    (file self.part u.0) u.2.2 (known u.0 (D.seen c.write_durably-2.new.disk) _ u.1 c.in_ok-write_durably-2.ensures.durable)

@@ -1,0 +1,9 @@
+pub mod Bank
+pub mod Causes
+pub mod Gates
+pub mod Given
+pub mod Image
+pub mod Kept
+pub mod Laws
+pub mod Reads
+pub mod Shown

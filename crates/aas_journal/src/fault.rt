@@ -1,0 +1,63 @@
+use aas_outside::Failed as EndFailed;
+use std::alloc::AllocError;
+use thiserror::Error;
+
+/// Why no journal was made.
+#[derive(Clone, Copy, Debug, PartialEq, Eq, Error)]
+pub enum InitFault {
+    /// One of the three files isn't empty.
+    #[error("one of the files isn't empty")]
+    AlreadyThere,
+    /// A call of the disk failed. The disk's count of faults says so too.
+    #[error("the disk failed")]
+    Failed,
+}
+
+/// Why a journal isn't opened, or a payload not read.
+#[derive(Clone, Copy, Debug, PartialEq, Eq)]
+pub enum OpenFault {
+    /// The chosen file has fewer than 9 bytes or another header.
+    NotInitialised,
+    /// A gate is open and its record passes the end of the file.
+    Damaged {
+        /// The place of the gate, in bytes from the front of the file.
+        at: u64,
+    },
+    /// A call of the disk failed. The disk's count of faults says so too.
+    Failed,
+    /// Memory was refused.
+    NoMemory,
+}
+
+impl From<EndFailed> for InitFault {
+    ghost use Rattle.std.specs.Prelude.{◌≡◌};
+    ghost use Rattle.aas_journal.specs.declared.fault.InitFault.TheVariants as init_fault;
+
+    ghost from_gives = { λ _ fault. fault ≡ init_fault.Failed };
+
+    fn from(_fault: EndFailed) -> InitFault {
+        InitFault::Failed
+    }
+}
+
+impl From<EndFailed> for OpenFault {
+    ghost use Rattle.std.specs.Prelude.{◌≡◌};
+    ghost use Rattle.aas_journal.specs.declared.fault.OpenFault.TheVariants as open_fault;
+
+    ghost from_gives = { λ _ fault. fault ≡ open_fault.Failed };
+
+    fn from(_fault: EndFailed) -> OpenFault {
+        OpenFault::Failed
+    }
+}
+
+impl From<AllocError> for OpenFault {
+    ghost use Rattle.std.specs.Prelude.{◌≡◌};
+    ghost use Rattle.aas_journal.specs.declared.fault.OpenFault.TheVariants as open_fault;
+
+    ghost from_gives = { λ _ fault. fault ≡ open_fault.NoMemory };
+
+    fn from(_fault: AllocError) -> OpenFault {
+        OpenFault::NoMemory
+    }
+}

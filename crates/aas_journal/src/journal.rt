@@ -1,0 +1,68 @@
+// Records in the chosen file of a disk.
+ghost use Rattle.std.specs.Prelude.{◌≡◌};
+ghost use Rattle.std.specs.Option.{ForSome};
+ghost use Rattle.aas_journal.specs.Kept.{IsPlaced};
+
+use crate::durable::write_durably;
+use aas_outside::{Failed, Frame, Keeper};
+use aas_outside_disk::{Disk, Part};
+
+/// The byte of an open gate.
+pub(crate) const OPEN: u8 = 1;
+
+/// The most bytes that a journal writes to a file.
+const MOST_BYTES: u64 = 268_435_456;
+
+/// The bytes of a gate, of a length and of the gate behind a record.
+const RECORD_BYTES: u64 = 6;
+
+/// Payloads in the chosen file of a disk. Its clock and its count of faults are the disk's.
+#[derive(Drop)]
+pub struct Journal<D: Disk> {
+    pub(crate) disk: D,
+    /// The chosen file.
+    pub(crate) part: Part,
+    /// Where its closed gate stands.
+    pub(crate) gate: u64,
+    ghost placed: { ForSome (D.seen disk) (λ files. IsPlaced files (D.left_at disk (D.moment disk)) part gate) },
+}
+
+impl<D: Disk> Keeper for Journal<D> {
+    ghost use Rattle.aas_outside_disk.specs.Files.{Files};
+    ghost use Rattle.aas_journal.specs.Bank.{IsBankImage};
+    ghost use Rattle.aas_journal.specs.Kept.{Keeps, fits, has_room_behind, limit_law, room_law};
+    ghost use Rattle.aas_journal.specs.Image.{gate_of};
+    ghost use Rattle.std.specs.Prelude.{length};
+
+    ghost Image = { Files };
+
+    ghost stands_for = { IsBankImage };
+
+    ghost kept = { λ journal. Keeps (D.seen journal.disk) journal.gate };
+
+    ghost room_behind = { λ journal. has_room_behind };
+
+    ghost has_room = { λ journal. fits journal.gate };
+
+    ghost moment = { λ journal. D.moment journal.disk };
+
+    ghost left_at = { λ journal. D.left_at journal.disk };
+
+    ghost faults = { λ journal. D.faults journal.disk };
+
+    ghost room_by_payloads = { λ journal. room_law (D.seen journal.disk) journal.gate };
+
+    ghost room_limit = { λ journal payloads. limit_law (gate_of payloads (length payloads)) };
+
+    fn room(&self, n: u64) -> bool {
+        self.gate.saturating_add(n).saturating_add(RECORD_BYTES) <= MOST_BYTES
+    }
+
+    fn keep(&mut self, frame: &Frame) -> Result<(), Failed> {
+        let bytes = frame.bytes();
+        write_durably(&mut self.disk, self.part, self.gate + 1, bytes)?;
+        write_durably(&mut self.disk, self.part, self.gate, &[OPEN])?;
+        self.gate += bytes.len() as u64;
+        Ok(())
+    }
+}

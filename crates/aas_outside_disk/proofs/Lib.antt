@@ -1,0 +1,7 @@
+mod Crashes
+mod DiskCalls
+mod Follows
+mod Images
+mod Ones
+mod Records
+mod Written

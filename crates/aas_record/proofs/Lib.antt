@@ -1,0 +1,4 @@
+mod Canonical
+mod Once
+mod Payloads
+mod Same

@@ -1,0 +1,66 @@
+-- A payload is that of one command alone.
+use Rattle.std.proofs.Common.{◌≡◌, ◌⊎◌, inl, inr, ℕ, List, [], ◌∷◌, length, Result, Ok, Err, refl, sym, ◌∙◌, ap, arith}
+use Rattle.std.specs.Prelude.{flat_map, MatchResult}
+use Rattle.std.proofs.lemmas.Str.{encodes_same}
+use Rattle.aas_lemmas.proofs.Lists.{same_tails}
+use Rattle.aas_json_spelling.specs.Lists.{Each}
+use Rattle.aas_json_spelling.specs.Mapped.{AnyShape}
+use Rattle.aas_json_mapping.specs.Shape.{IsShapedSubmodel}
+use Rattle.aas_json_mapping.specs.Trees.{asset_informations, concepts, shells, submodels}
+use Rattle.aas_json_mapping.proofs.DocumentsLaws.{concepts_laws, shells_laws, submodels_laws}
+use Rattle.aas_json_mapping.proofs.PartsLaws.{asset_informations_laws}
+use Rattle.aas_command.specs.Commands.{IsWellFormed, field, payload_of, tagged_of}
+use Rattle.aas_command.specs.Encoding.{HasFields, IsField}
+use Rattle.aas_command.specs.declared.command.Command.{Command}
+use Rattle.aas_command.specs.declared.command.Command.TheVariants.{CreateShell, CreateSubmodel, CreateConcept, ReplaceShell, ReplaceSubmodel, ReplaceConcept, DeleteShell, DeleteSubmodel, DeleteConcept, SetAsset}
+use Rattle.aas_record.specs.Records.{IsRecord, IsRecordFault}
+use Rattle.aas_record.specs.declared.fault.RecordFault.{RecordFault}
+use Rattle.aas_record.specs.declared.fault.RecordFault.TheVariants.{NotARecord, NoMemory}
+use Rattle.aas_record.proofs.Canonical.{same_by_text}
+use Rattle.aas_record.proofs.Once.{one}
+use Rattle.aas_record.proofs.Payloads.{right}
+
+-- fields that can be read again are the same where they stand behind one another as the same bytes
+same_fields : (fs gs : List (List ℕ)) → Each IsField fs → Each IsField gs → flat_map field fs ≡ flat_map field gs → fs ≡ gs
+same_fields [] [] a b e = refl
+same_fields [] (g ∷ gs) a b e = absurd (omega (arith, ap length e))
+same_fields (f ∷ fs) [] a b e = absurd (omega (arith, ap length e))
+same_fields (f ∷ fs) (g ∷ gs) a b e =
+    let s = one (flat_map field (f ∷ fs)) f g (flat_map field fs) (flat_map field gs) (record { short = a.0.short; bytes_are = refl }) (record { short = b.0.short; bytes_are = e }) in
+    ap (λ x. x ∷ fs) s.0 ∙ ap (λ xs. g ∷ xs) (same_fields fs gs a.1 b.1 s.1)
+
+first : (a b : List ℕ) (others more : List (List ℕ)) → a ∷ others ≡ b ∷ more → a ≡ b
+first a b others more e = cc
+
+-- commands of one tag, with the same fields, are the same
+same_tagged : (c d : Command) → IsWellFormed c → IsWellFormed d → HasFields c → (tagged_of c).tag ≡ (tagged_of d).tag → (tagged_of c).fields ≡ (tagged_of d).fields → c ≡ d
+unfolding IsWellFormed HasFields
+same_tagged (CreateShell s) (CreateShell t) a b is tags e = ap CreateShell (same_by_text shells AnyShape shells_laws s t a b is.0.utf8 (first _ _ _ _ e))
+same_tagged (CreateSubmodel s) (CreateSubmodel t) a b is tags e = ap CreateSubmodel (same_by_text submodels IsShapedSubmodel submodels_laws s t a b is.0.utf8 (first _ _ _ _ e))
+same_tagged (CreateConcept s) (CreateConcept t) a b is tags e = ap CreateConcept (same_by_text concepts AnyShape concepts_laws s t a b is.0.utf8 (first _ _ _ _ e))
+same_tagged (ReplaceShell s) (ReplaceShell t) a b is tags e = ap ReplaceShell (same_by_text shells AnyShape shells_laws s t a b is.0.utf8 (first _ _ _ _ e))
+same_tagged (ReplaceSubmodel s) (ReplaceSubmodel t) a b is tags e = ap ReplaceSubmodel (same_by_text submodels IsShapedSubmodel submodels_laws s t a b is.0.utf8 (first _ _ _ _ e))
+same_tagged (ReplaceConcept s) (ReplaceConcept t) a b is tags e = ap ReplaceConcept (same_by_text concepts AnyShape concepts_laws s t a b is.0.utf8 (first _ _ _ _ e))
+same_tagged (DeleteShell s) (DeleteShell t) a b is tags e = ap DeleteShell (encodes_same s t (first _ _ _ _ e))
+same_tagged (DeleteSubmodel s) (DeleteSubmodel t) a b is tags e = ap DeleteSubmodel (encodes_same s t (first _ _ _ _ e))
+same_tagged (DeleteConcept s) (DeleteConcept t) a b is tags e = ap DeleteConcept (encodes_same s t (first _ _ _ _ e))
+same_tagged (SetAsset i s) (SetAsset j t) a b is tags e =
+    ap (λ x. SetAsset x s) (encodes_same i j (first _ _ _ _ e))
+    ∙ ap (SetAsset j) (same_by_text asset_informations AnyShape asset_informations_laws s t a b is.1.0.utf8 (first _ _ _ _ (same_tails _ _ _ _ e)))
+same_tagged c d a b is tags e = absurd (omega (arith, tags))
+
+pub one_command : (payload : List ℕ) (c d : Command) → IsRecord payload c → IsRecord payload d → c ≡ d
+unfolding payload_of HasFields
+one_command payload c d a b =
+    let e : payload_of c ≡ payload_of d = sym a.same ∙ b.same in
+    same_tagged c d a.well_formed b.well_formed a.fields (cons_first _ _ _ _ e)
+    (same_fields (tagged_of c).fields (tagged_of d).fields a.fields b.fields (same_tails _ _ _ _ e))
+  where
+    cons_first : (m n : ℕ) (ms ns : List ℕ) → m ∷ ms ≡ n ∷ ns → m ≡ n
+    cons_first m n ms ns e = cc
+
+pub reads_back : (payload : List ℕ) (c : Command) (result : Result Command RecordFault) → IsRecord payload c → MatchResult result (IsRecord payload) (IsRecordFault payload)
+    → (result ≡ Ok c) ⊎ (result ≡ Err NoMemory)
+reads_back payload c (Ok d) is read = inl (ap Ok (one_command payload d c read is))
+reads_back payload c (Err (NotARecord at)) is wrong = absurd (right payload c at is wrong)
+reads_back payload c (Err NoMemory) is any = inr refl

@@ -1,0 +1,22 @@
+//! Reads payloads back as commands: those that `aas_command` writes and no others, with the exact place where another one
+//! goes wrong.
+//!
+//! Which forms the fields behind a tag have is the table in `specs/Forms.antt`. Commands and how they are written belong
+//! to `aas_command`; the journal that keeps payloads, and what a command comes to, belong to other crates.
+
+#![tactic(auto)]
+
+mod content;
+mod decoding;
+mod fault;
+mod fields;
+mod laws;
+
+pub use decoding::decode;
+pub use fault::RecordFault;
+pub use laws::{
+    payloads_go_wrong_once, payloads_read_back, records_are_of_one_command, records_are_right,
+};
+
+#[cfg(test)]
+mod tests;

@@ -1,0 +1,203 @@
+-- What a command comes to, by the causes that were tried.
+use Rattle.std.proofs.Common.{◌≡◌, Bool, true, false, List, [], ◌∷◌, Option, Some, None, refl, sym, ap, ◌∙◌, subst}
+use Rattle.std.specs.Prelude.{◌≢◌, ℕ, ◌==◌, IsTrue, if◌then◌else◌, is_some, option_map}
+use Rattle.std.specs.FinMap as map
+use Rattle.std.specs.Option.{option_map_or}
+use Rattle.std.specs.Str.{encode_utf8_all}
+use Rattle.aas_command.specs.Refusals.{refusal_of_fault}
+use Rattle.aas_command.specs.declared.command.Command.{Command}
+use Rattle.aas_command.specs.declared.command.Command.TheVariants.{SetAsset}
+use Rattle.aas_command.specs.declared.refusal.Refusal.{Refusal}
+use Rattle.aas_command.specs.declared.refusal.Refusal.TheVariants.{Conflict, Constraint, Lexical, NotFound, StorageFault, StorageFull, TooMany}
+use Rattle.aas_constraint_laws.specs.Valid.{IsValid, is_whole}
+use Rattle.aas_constraint_rules.specs.Faults.{Document, faults_of, shell}
+use Rattle.aas_json_mapping.specs.Whole.{is_whole_shell, whole_asset_information}
+use Rattle.aas_json_table.specs.TooDeep.{limits}
+use Rattle.aas_model.specs.declared.asset.AssetInformation.{AssetInformation}
+use Rattle.aas_model.specs.declared.documents.Shell.{Shell}
+use Rattle.aas_model.specs.declared.path.Fault.{Fault}
+use Rattle.aas_model_names.specs.declared.collection.Collection.{Collection}
+use Rattle.aas_model_names.specs.declared.collection.Collection.TheVariants.{Shells}
+use Rattle.aas_reference.specs.Rules.{first}
+use Rattle.aas_step.proofs.Validity.{whole_with_asset}
+use Rattle.aas_step.specs.Causes.{Cause, absent_of, causes, first_of, has_too_many, is_absent, is_there, unless, when}
+use Rattle.aas_step.specs.Made.{with_document}
+use Rattle.aas_step.specs.Step.{accepted, refused, result_of, later_causes, ComesBy, ComesTo}
+use Rattle.aas_step.specs.Valid.{AreValid}
+use Rattle.aas_store.specs.Documents.{Documents, has, without}
+use Rattle.aas_repo.specs.Decisions.{Deletes, IsDecision, Puts, with_asset}
+use Rattle.aas_repo.specs.declared.decision.Decision.TheVariants as decision
+
+-- ---- the first of the causes
+
+refused_by : (has_room : Bool) (d : Documents) (c : Command) (refusal : Refusal) (cs : List Cause) → causes d c ≡ cs
+    → first_of cs ≡ Some refusal → ComesTo has_room d c (refused refusal)
+unfolding ComesTo
+refused_by has_room d c refusal cs are is =
+    subst (λ (o : Cause). ComesBy o has_room d c (refused refusal)) (sym (ap first_of are ∙ is)) refl
+
+comes : (has_room : Bool) (d : Documents) (c : Command) (x : Document) (o : Cause) → Puts d c None x
+    → o ≡ first_of (later_causes has_room (x ∷ []))
+    → ComesTo has_room d c (result_of o (with_document d x))
+unfolding ComesTo
+comes has_room d c x o puts is =
+    let later : Cause = first_of (later_causes has_room (x ∷ [])) in
+    subst (λ (e : Cause). ComesBy e has_room d c (result_of o (with_document d x))) (sym (ap first_of puts.causes_are)) (
+      x ∷ [],
+      puts.made,
+      ap (λ (e : Cause). result_of e (with_document d x)) is
+          ∙ ap (λ (old : Documents). result_of later (with_document old x)) (sym puts.left_are),
+    )
+
+-- where no document is made
+comes_without : (has_room : Bool) (d : Documents) (c : Command) (k : Collection) (id : List ℕ) → Deletes d c k id
+    → has k (encode_utf8_all id) d ≡ true
+    → ComesTo has_room d c (result_of (unless has_room StorageFull) (without k (encode_utf8_all id) d))
+unfolding ComesTo
+comes_without has_room d c k id deletes there =
+    let o : Cause = unless has_room StorageFull in
+    let none : first_of (causes d c) ≡ None =
+    ap first_of deletes.causes_are ∙ ap (λ b. first_of (unless b (NotFound (absent_of k)) ∷ [])) there in
+    subst (λ (e : Cause). ComesBy e has_room d c (result_of o (without k (encode_utf8_all id) d))) (sym none) (
+      [],
+      deletes.made,
+      ap (λ (e : Cause). result_of e (without k (encode_utf8_all id) d)) (alone o)
+          ∙ ap (λ (d : Documents). result_of (first_of (o ∷ [])) d) (sym deletes.left_are),
+    )
+  where
+    alone : (o : Cause) → o ≡ first_of (o ∷ [])
+    alone None = refl
+    alone (Some refusal) = refl
+
+-- ---- by what is there
+
+-- a store was asked
+pub asked : (d : Documents) (k j : Collection) (id own : List ℕ) (b there : Bool) → j ≡ k → id ≡ own → there ≡ has j id d → there ≡ b
+    → has k own d ≡ b
+asked d k j id own b there same_k same_id is found =
+    sym (is ∙ ap (λ (j : Collection). has j id d) same_k ∙ ap (λ (id : List ℕ). has k id d) same_id) ∙ found
+
+pub conflicts : (has_room : Bool) (d new : Documents) (c : Command) (k : Collection) (id : List ℕ) (x : Document)
+    → Puts d c (is_there k id d) x → has k (encode_utf8_all id) d ≡ true
+    → new ≡ d → IsDecision has_room d c new (decision.Refused Conflict)
+conflicts has_room d new c k id x puts there same =
+    (same, λ is. absurd (cc), refused_by has_room d c Conflict _ puts.causes_are (ap (λ b. first_of (when b Conflict ∷ [])) there))
+
+pub clear : (d : Documents) (c : Command) (k : Collection) (id : List ℕ) (x : Document) → Puts d c (is_there k id d) x
+    → has k (encode_utf8_all id) d ≡ false → Puts d c None x
+clear d c k id x puts there =
+    record { causes_are = puts.causes_are ∙ ap (λ b. when b Conflict ∷ []) there; made = puts.made; left_are = puts.left_are }
+
+pub misses : (has_room : Bool) (d new : Documents) (c : Command) (k : Collection) (id : List ℕ) → causes d c ≡ is_absent k id d ∷ []
+    → has k (encode_utf8_all id) d ≡ false → new ≡ d
+    → IsDecision has_room d c new (decision.Refused (NotFound (absent_of k)))
+misses has_room d new c k id are there same =
+    let what = NotFound (absent_of k) in
+    (same, λ is. absurd (cc), refused_by has_room d c what _ are (ap (λ b. first_of (unless b what ∷ [])) there))
+
+pub found : (d : Documents) (c : Command) (k : Collection) (id : List ℕ) (x : Document) → Puts d c (is_absent k id d) x
+    → has k (encode_utf8_all id) d ≡ true → Puts d c None x
+found d c k id x puts there =
+    record {
+      causes_are = puts.causes_are ∙ ap (λ b. unless b (NotFound (absent_of k)) ∷ []) there;
+      made = puts.made;
+      left_are = puts.left_are;
+    }
+
+-- ---- by the document that is made
+
+three : List Fault → Bool → Bool → Cause
+three faults many has_room = first_of (option_map refusal_of_fault (first faults) ∷ when many TooMany ∷ unless has_room StorageFull ∷ [])
+
+nothing : (faults : List Fault) (many has_room : Bool) → None ≡ three faults many has_room
+    → (faults ≡ []) × (many ≡ false) × (has_room ≡ true)
+unfolding three
+nothing [] true has_room e = absurd (cc)
+nothing [] false true e = (refl, refl, refl)
+nothing [] false false e = absurd (cc)
+nothing (f ∷ fs) many has_room e = absurd (cc)
+
+of_fault : (b : Bool) (f : Fault) (refusal : Refusal) → Some refusal ≡ Some (if b then Lexical f.path else Constraint f)
+    → refusal ≢ StorageFault
+of_fault true f refusal e is = absurd (cc)
+of_fault false f refusal e is = absurd (cc)
+
+no_storage_fault : (faults : List Fault) (many has_room : Bool) (refusal : Refusal) → Some refusal ≡ three faults many has_room
+    → refusal ≢ StorageFault
+unfolding three
+no_storage_fault [] true has_room refusal e is = absurd (cc)
+no_storage_fault [] false true refusal e is = absurd (cc)
+no_storage_fault [] false false refusal e is = absurd (cc)
+no_storage_fault (f ∷ fs) many has_room refusal e is = of_fault (f.number == 0) f refusal e is
+
+pub makes : (has_room : Bool) (d new : Documents) (c : Command) (x : Document) → Puts d c None x
+    → None ≡ first_of (later_causes has_room (x ∷ [])) → new ≡ with_document d x
+    → IsDecision has_room d c new decision.Made
+unfolding three
+makes has_room d new c x puts none same = (
+  (nothing (faults_of x) (has_too_many x) has_room none).2,
+  subst (λ (n : Documents). ComesTo has_room d c (accepted n)) (sym same) (comes has_room d c x None puts none),
+)
+
+pub is_valid : (has_room : Bool) (x : Document) → IsTrue (is_whole x) → None ≡ first_of (later_causes has_room (x ∷ []))
+    → IsValid x × (has_too_many x ≡ false)
+unfolding three
+is_valid has_room x whole none =
+    let clear = nothing (faults_of x) (has_too_many x) has_room none in
+    (record { whole = whole; faultless = clear.0 }, clear.1)
+
+pub refuses : (has_room : Bool) (d new : Documents) (c : Command) (x : Document) (refusal : Refusal) → Puts d c None x
+    → Some refusal ≡ first_of (later_causes has_room (x ∷ [])) → new ≡ d
+    → IsDecision has_room d c new (decision.Refused refusal)
+unfolding three
+refuses has_room d new c x refusal puts is same =
+    (same, no_storage_fault (faults_of x) (has_too_many x) has_room refusal is, comes has_room d c x (Some refusal) puts is)
+
+-- ---- a document is taken away
+
+pub has_no_room : (d new : Documents) (c : Command) (k : Collection) (id : List ℕ) → Deletes d c k id → has k (encode_utf8_all id) d ≡ true
+    → new ≡ d
+    → IsDecision false d c new (decision.Refused StorageFull)
+has_no_room d new c k id deletes there same = (same, λ is. absurd (cc), comes_without false d c k id deletes there)
+
+pub deleted : (d new : Documents) (c : Command) (k : Collection) (id : List ℕ) → Deletes d c k id → has k (encode_utf8_all id) d ≡ true
+    → new ≡ without k (encode_utf8_all id) d
+    → IsDecision true d c new decision.Made
+deleted d new c k id deletes there same =
+    (refl, subst (λ (n : Documents). ComesTo true d c (accepted n)) (sym same) (comes_without true d c k id deletes there))
+
+-- ---- other asset information
+
+pub sets : (d : Documents) (id : List ℕ) (a : AssetInformation) (found : Option Shell) (s : Shell)
+    → map.get d.shells (encode_utf8_all id) ≡ found → Some s ≡ option_map (with_asset a) found
+    → Puts d (SetAsset id a) None (shell s)
+sets d id a None s is made = absurd (cc)
+sets d id a (Some old) s is made =
+    let same : with_asset a old ≡ s = cc in record {
+      causes_are = ap (λ (o : Option Shell). unless (is_some o) (NotFound (absent_of Shells)) ∷ []) is;
+      made = ap (λ (s : Shell). shell s ∷ []) (sym same)
+          ∙ sym (ap (λ (o : Option Shell). option_map_or (λ (s : Shell). shell (with_asset a s) ∷ []) o []) is);
+      left_are = refl;
+    }
+
+pub sets_whole : (d : Documents) (id : List ℕ) (a : AssetInformation) (found : Option Shell) (s : Shell) → AreValid d
+    → whole_asset_information limits a ≡ true
+    → map.get d.shells (encode_utf8_all id) ≡ found → Some s ≡ option_map (with_asset a) found → is_whole_shell limits s ≡ true
+sets_whole d id a None s valid whole is made = absurd (cc)
+sets_whole d id a (Some old) s valid whole is made =
+    let same : with_asset a old ≡ s = cc in
+    subst (λ (s : Shell). is_whole_shell limits s ≡ true) same
+    (whole_with_asset old a (valid.shells (encode_utf8_all id) old is).valid.whole whole)
+
+none_found : (d : Documents) (id : List ℕ) (a : AssetInformation) (found : Option Shell) → map.get d.shells (encode_utf8_all id) ≡ found
+    → None ≡ option_map (with_asset a) found
+    → has Shells (encode_utf8_all id) d ≡ false
+none_found d id a None is made = ap is_some is
+none_found d id a (Some old) is made = absurd (cc)
+
+pub sets_nothing : (has_room : Bool) (d new : Documents) (id : List ℕ) (a : AssetInformation) (found : Option Shell)
+    → map.get d.shells (encode_utf8_all id) ≡ found
+    → None ≡ option_map (with_asset a) found → new ≡ d
+    → IsDecision has_room d (SetAsset id a) new (decision.Refused (NotFound (absent_of Shells)))
+sets_nothing has_room d new id a found is made same =
+    misses has_room d new (SetAsset id a) Shells id refl (none_found d id a found is made) same

@@ -1,0 +1,4 @@
+mod Acted
+mod Counted
+mod Decided
+mod Planned

@@ -1,0 +1,23 @@
+use Rattle.std.proofs.Common.{refl, subst, sym, ap, ◌∙◌}
+use Rattle.aas_command.specs.declared.refusal.Absent.{Absent}
+use Rattle.aas_command.specs.declared.refusal.Refusal.TheVariants.{NotFound}
+use Rattle.aas_step.specs.Causes.{absent_of}
+use Rattle.aas_repo.proofs.Decided.{asked, found, misses}
+use Rattle.aas_repo.proofs.deciding.replace.Goals as goal
+use Rattle.aas_repo.specs.Decisions.{IsDecision}
+use Rattle.aas_repo.specs.declared.decision.Decision.TheVariants as decision
+
+pub returns-then-not-has : goal.returns-then-not-has
+returns-then-not-has g c =
+    let d = g.S.Store.documents c.args.store.now in
+    let there = asked d _ _ _ _ _ _ c.collection.ensures c.id.ensures c.has.ensures c.if-not-has.true in
+    let x = c.args.document in
+    let what = c.absent_of.ensures ∙ ap absent_of c.collection-then-not-has.ensures in
+    subst (λ (a : Absent). IsDecision c.args.has_room d (g.D.Stored.replacing x) d (decision.Refused (NotFound a))) (sym what)
+    (misses _ d d _ _ _ (g.met.D.Stored.replaces d x).causes_are there refl)
+
+pub returns : goal.returns
+returns g c =
+    let d = g.S.Store.documents c.args.store.now in
+    let there = asked d _ _ _ _ _ _ c.collection.ensures c.id.ensures c.has.ensures c.if-not-has.false in
+    c.put.ensures _ (found d _ _ _ _ (g.met.D.Stored.replaces d c.args.document) there)

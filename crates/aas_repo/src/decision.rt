@@ -1,0 +1,22 @@
+use aas_command::Refusal;
+use aas_outside::Frame;
+
+/// What was decided on a command, where it is known whether there is room to keep it.
+#[derive(Drop)]
+pub(crate) enum Decision {
+    /// The store has what the command makes.
+    Made,
+    /// The store is as it was, and so at `NoMemory`.
+    Refused(Refusal),
+    NoMemory,
+}
+
+/// What is left to do with a command.
+#[derive(Drop)]
+pub(crate) enum Plan {
+    /// The store has what the command makes, and there is room to keep its frame.
+    Made(Frame),
+    /// The store is as it was, and so at `NoMemory`.
+    Refused(Refusal),
+    NoMemory,
+}

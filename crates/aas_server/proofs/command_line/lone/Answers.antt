@@ -1,0 +1,12 @@
+use Rattle.std.proofs.Common.{◌≡◌, codes, refl, sym, ap, ◌∙◌}
+use Rattle.std.specs.Str.{chars}
+use Rattle.aas_server.proofs.Words.{lone_word}
+use Rattle.aas_server.proofs.command_line.lone.Goals as goal
+
+pub returns-in-value : goal.returns-in-value
+unfolding chars
+returns-in-value c = lone_word c.args.word.now (codes "value") (sym c.as_str.ensures.characters ∙ ap chars c.in-value.is) refl
+
+pub returns-in-pipe : goal.returns-in-pipe
+unfolding chars
+returns-in-pipe c = lone_word c.args.word.now (codes "pipe") (sym c.as_str.ensures.characters ∙ ap chars c.in-pipe.is) refl

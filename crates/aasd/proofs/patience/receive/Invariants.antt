@@ -1,0 +1,6 @@
+use Rattle.std.specs.Io.KnownBytes.{Keeps}
+use Rattle.aasd.proofs.patience.receive.Given as goal
+
+-- reads that waited in vain moved nothing
+abbrev pub invariant-loop-silent : goal.invariant-loop-silent
+invariant-loop-silent g l = Keeps (g.S.Read.remaining l.fn.stream) (g.S.Read.remaining l.stream)
