@@ -36,17 +36,19 @@ pub(crate) fn success(alloc: Global, command: &Command) -> Result<Reply, NoMemor
     ensures phrase { IfOk result (λ reply. IsSome (phrase reply.status)) }
 {
     match command {
-        Command::CreateShell { document } => {
-            open_reply(alloc, 201, shell_text(alloc, document)?.into())
-        }
-        Command::CreateSubmodel { document } => {
-            open_reply(alloc, 201, submodel_text(alloc, document)?.into())
-        }
-        Command::CreateConcept { document } => {
-            open_reply(alloc, 201, concept_text(alloc, document)?.into())
-        }
+        Command::CreateShell { document } => created(alloc, shell_text(alloc, document)?),
+        Command::CreateSubmodel { document } => created(alloc, submodel_text(alloc, document)?),
+        Command::CreateConcept { document } => created(alloc, concept_text(alloc, document)?),
         _ => open_reply(alloc, 204, Many::new(alloc)),
     }
+}
+
+/// The reply that has the text of what was created.
+fn created(alloc: Global, text: Vec<u8>) -> Result<Reply, NoMemory>
+    ensures reply { IfOk result (λ reply. reply ≡ reply_with 201 text.items) }
+    ensures status { IfOk result (λ reply. reply.status ≡ 201) }
+{
+    open_reply(alloc, 201, text.into())
 }
 
 /// What is answered by what became of a command, with the reply that was made for its success.
