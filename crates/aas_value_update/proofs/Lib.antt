@@ -1,4 +1,5 @@
 pub mod Alone
+pub mod Canonical
 pub mod Elements
 pub mod Itself
 pub mod Laid

@@ -7,6 +7,9 @@ use Rattle.aas_model.specs.Element.{kind_of}
 use Rattle.aas_model.specs.declared.documents.Submodel.{Submodel}
 use Rattle.aas_model.specs.declared.element.Element.{Element}
 use Rattle.aas_model.specs.declared.path.PathStep.{PathStep}
+use Rattle.aas_json_table.specs.Canonical.{canonical}
+use Rattle.aas_json_table.specs.Table.{Sort, one}
+use Rattle.aas_json_spelling.specs.Values.{IsOrdered}
 use Rattle.aas_json_mapping.specs.Whole.{is_placed}
 use Rattle.aas_constraint_rules.specs.Faults.{submodel}
 use Rattle.aas_path_trees.specs.Children.{kids_of, is_list}
@@ -14,6 +17,7 @@ use Rattle.aas_path_trees.specs.Places.{element_in, Differ}
 use Rattle.aas_constraint_laws.specs.Valid.{IsValid}
 use Rattle.aas_constraint_laws.specs.Values.{DifferInValues}
 use Rattle.aas_value.specs.ValueForm.{child_of, value_form}
+use Rattle.aas_value_update.specs.Json.{is_part}
 use Rattle.aas_value_update.specs.Kinds.{part_of}
 use Rattle.aas_value_update.specs.LeftAlone.{unshown}
 use Rattle.aas_value_update.specs.Update.{IsElementUpdate, IsValueUpdate}
@@ -54,3 +58,7 @@ OwnFormStays = (e u : Element) (v : Data) → IsInOrder e → value_form extent.
 abbrev pub NoMembersChangeNothing : Type 0
 NoMembersChangeNothing = (e u : Element) (ms : Members) → IsInOrder e → ¬ (kind_of e ≡ kind.ReferenceElement)
     → value_form extent.WithBlobValue e ≡ Some (object ms) → IsElementUpdate e (object no_members) u → u ≡ e
+
+-- what may be sent of a sort is canonical JSON: it says itself by the attribute table
+abbrev pub SentIsCanonical : Type 0
+SentIsCanonical = (s : Sort) (d : Data) → is_part s d ≡ true → IsOrdered d → canonical (one s) d ≡ Some d

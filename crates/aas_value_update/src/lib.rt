@@ -4,7 +4,7 @@
 
 #![tactic(auto)]
 
-ghost use Rattle.aas_value_update.specs.Laws.{PartsMakeForm, OneForm, OneElementUpdate, OneValueUpdate, OwnFormStays, NoMembersChangeNothing};
+ghost use Rattle.aas_value_update.specs.Laws.{PartsMakeForm, OneForm, OneElementUpdate, OneValueUpdate, OwnFormStays, NoMembersChangeNothing, SentIsCanonical};
 
 /// What the parts of each kind make is the value form.
 pub fn parts_make_value_form()
@@ -30,4 +30,10 @@ pub fn own_form_stays()
 /// An update by an object without members changes nothing.
 pub fn no_members_change_nothing()
     ensures { NoMembersChangeNothing }
+{}
+
+/// References and specific asset ids that may be sent are canonical JSON, so that what is read of them is written as it was
+/// sent.
+pub fn sent_parts_are_canonical()
+    ensures { SentIsCanonical }
 {}
