@@ -1,0 +1,13 @@
+pub mod Alone
+pub mod Canonical
+pub mod Elements
+pub mod Itself
+pub mod Laid
+pub mod Members
+pub mod Named
+pub mod OneForm
+pub mod OneUpdate
+pub mod Order
+pub mod Own
+pub mod Rest
+pub mod Slots

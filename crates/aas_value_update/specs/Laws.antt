@@ -1,0 +1,64 @@
+-- Laws of updates of values.
+use Rattle.std.specs.Prelude.{◌≡◌, ℕ, true, false, List, Some}
+use Rattle.serde_json.specs.Data.{Data, object, Members, no_members}
+use Rattle.aas_model_names.specs.declared.modifiers.Extent.TheVariants as extent
+use Rattle.aas_model_names.specs.declared.kind.Kind.TheVariants as kind
+use Rattle.aas_model.specs.Element.{kind_of}
+use Rattle.aas_model.specs.declared.documents.Submodel.{Submodel}
+use Rattle.aas_model.specs.declared.element.Element.{Element}
+use Rattle.aas_model.specs.declared.path.PathStep.{PathStep}
+use Rattle.aas_json_table.specs.Canonical.{canonical}
+use Rattle.aas_json_table.specs.Table.{Sort, one}
+use Rattle.aas_json_spelling.specs.Values.{IsOrdered}
+use Rattle.aas_json_mapping.specs.Whole.{is_placed}
+use Rattle.aas_constraint_rules.specs.Faults.{submodel}
+use Rattle.aas_path_trees.specs.Children.{kids_of, is_list}
+use Rattle.aas_path_trees.specs.Places.{element_in, Differ}
+use Rattle.aas_constraint_laws.specs.Valid.{IsValid}
+use Rattle.aas_constraint_laws.specs.Values.{DifferInValues}
+use Rattle.aas_value.specs.ValueForm.{child_of, value_form}
+use Rattle.aas_value_update.specs.Json.{is_part}
+use Rattle.aas_value_update.specs.Kinds.{part_of}
+use Rattle.aas_value_update.specs.LeftAlone.{unshown}
+use Rattle.aas_value_update.specs.Update.{IsElementUpdate, IsValueUpdate}
+
+-- the parts of an element make its value form
+abbrev pub PartsMakeForm : Type 0
+PartsMakeForm = (e : Element) → (part_of e).child ≡ child_of extent.WithBlobValue e
+
+-- in an element and below it siblings differ, everywhere but in lists
+abbrev pub NamesDiffer : Element → Type 0
+NamesDiffer e = (q : List ℕ) (k : Element) → element_in q e ≡ Some k → is_list k ≡ false → Differ (kids_of k)
+
+-- as an element of a valid submodel is: siblings differ, and children stand only where their parent's kind has a place for them
+pub record IsInOrder (e : Element) : Type 0 where
+  pub names : NamesDiffer e
+  pub placed : is_placed e ≡ true
+
+-- elements with the same value form are the same, if they differ in values alone and have the same Operations and Capabilities
+abbrev pub OneForm : Type 0
+OneForm = (e u : Element) → IsInOrder e → DifferInValues e u → unshown u ≡ unshown e
+    → value_form extent.WithBlobValue u ≡ value_form extent.WithBlobValue e → u ≡ e
+
+-- an element has at most one update by a value
+abbrev pub OneElementUpdate : Type 0
+OneElementUpdate = (e u w : Element) (v : Data) → IsInOrder e → IsElementUpdate e v u → IsElementUpdate e v w → u ≡ w
+
+-- and so has a valid submodel
+abbrev pub OneValueUpdate : Type 0
+OneValueUpdate = (d u w : Submodel) (p : List PathStep) (v : Data) → IsValid (submodel d)
+    → IsValueUpdate d p v u → IsValueUpdate d p v w → u ≡ w
+
+-- an element that is updated by its own value form stays as it is
+abbrev pub OwnFormStays : Type 0
+OwnFormStays = (e u : Element) (v : Data) → IsInOrder e → value_form extent.WithBlobValue e ≡ Some v
+    → IsElementUpdate e v u → u ≡ e
+
+-- an object without members changes nothing, but where it would be a whole reference
+abbrev pub NoMembersChangeNothing : Type 0
+NoMembersChangeNothing = (e u : Element) (ms : Members) → IsInOrder e → ¬ (kind_of e ≡ kind.ReferenceElement)
+    → value_form extent.WithBlobValue e ≡ Some (object ms) → IsElementUpdate e (object no_members) u → u ≡ e
+
+-- what may be sent of a sort is canonical JSON: it says itself by the attribute table
+abbrev pub SentIsCanonical : Type 0
+SentIsCanonical = (s : Sort) (d : Data) → is_part s d ≡ true → IsOrdered d → canonical (one s) d ≡ Some d

@@ -1,0 +1,39 @@
+//! Updates of values (IDTA-01002-3-0, ValueOnly): which values may be sent, how what is sent is laid over the value form of
+//! an element, and what an update makes of an element and of a submodel. It has nothing to run: a law stands on a function
+//! that does nothing.
+
+#![tactic(auto)]
+
+ghost use Rattle.aas_value_update.specs.Laws.{PartsMakeForm, OneForm, OneElementUpdate, OneValueUpdate, OwnFormStays, NoMembersChangeNothing, SentIsCanonical};
+
+/// What the parts of each kind make is the value form.
+pub fn parts_make_value_form()
+    ensures { PartsMakeForm }
+{}
+
+/// The law of one form: an update can make one element alone of a value form.
+pub fn one_form()
+    ensures { OneForm }
+{}
+
+/// There is at most one update by a value, of an element and of a valid submodel.
+pub fn one_update()
+    ensures element { OneElementUpdate }
+    ensures submodel { OneValueUpdate }
+{}
+
+/// An element that is updated by its own value form stays as it is.
+pub fn own_form_stays()
+    ensures { OwnFormStays }
+{}
+
+/// An update by an object without members changes nothing.
+pub fn no_members_change_nothing()
+    ensures { NoMembersChangeNothing }
+{}
+
+/// References and specific asset ids that may be sent are canonical JSON, so that what is read of them is written as it was
+/// sent.
+pub fn sent_parts_are_canonical()
+    ensures { SentIsCanonical }
+{}
