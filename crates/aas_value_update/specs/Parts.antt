@@ -1,5 +1,6 @@
--- A value form as it is put together from parts, each with a name and a value of its own; what may be sent for it, and how one value is laid over another.
--- An update of values (IDTA-01002-3-0) sends parts of a form: what is left out stays. This profile's own rule.
+-- A value form as it is put together from parts, each with a name and a value of its own; what may be sent for it, and how
+-- one value is laid over another. An update of values (IDTA-01002-3-0) sends parts of a form: what is left out stays. This
+-- profile's own rule.
 use Rattle.std.specs.Prelude.{ℕ, Bool, true, false, ◌&&◌, if◌then◌else◌, List, [], ◌∷◌, map, bytes_eq, Option, Some, None, is_some}
 use Rattle.std.specs.Str.{encode_utf8_all}
 use Rattle.serde_json.specs.Data.{Data, array, object, put, Items, no_items, item, Members, no_members, member}
@@ -92,7 +93,10 @@ put_entry c (Some d) ds = item (named (record c { form = Some d } ∷ [])) ds
 -- the entries of both, those of one part laid, in the order of the parts
 abbrev pub laid_entries : List Part → Items → Items → Items
 laid_entries [] ws vs = no_items
-laid_entries (x ∷ xs) ws vs = let w = entry x.child ws in let v = entry x.child vs in put_entry x.child (over x.lay w.0 v.0) (laid_entries xs w.1 v.1)
+laid_entries (x ∷ xs) ws vs =
+    let w = entry x.child ws in
+    let v = entry x.child vs in
+    put_entry x.child (over x.lay w.0 v.0) (laid_entries xs w.1 v.1)
 
 -- v laid over w
 abbrev pub lay_form : Form → Data → Data → Data

@@ -1,5 +1,5 @@
--- Updates of values (IDTA-01002-3-0, PatchSubmodelElementByPath and PatchSubmodel with ValueOnly). What is sent is laid over the value form; what it leaves out
--- stays. This profile's own rule.
+-- Updates of values (IDTA-01002-3-0, PatchSubmodelElementByPath and PatchSubmodel with ValueOnly). What is sent is laid
+-- over the value form; what it leaves out stays. This profile's own rule.
 use Rattle.std.specs.Prelude.{◌≡◌, List, [], ◌∷◌, Some, None, option_map}
 use Rattle.serde_json.specs.Data.{Data}
 use Rattle.aas_model_names.specs.declared.modifiers.Extent.TheVariants as extent

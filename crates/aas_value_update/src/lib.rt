@@ -4,7 +4,8 @@
 
 #![tactic(auto)]
 
-ghost use Rattle.aas_value_update.specs.Laws.{PartsMakeForm, OneForm, OneElementUpdate, OneValueUpdate, OwnFormStays, NoMembersChangeNothing, SentIsCanonical};
+ghost use Rattle.aas_value_update.specs.Laws.{PartsMakeForm, OneForm, OneElementUpdate, OneValueUpdate};
+ghost use Rattle.aas_value_update.specs.Laws.{OwnFormStays, NoMembersChangeNothing, SentIsCanonical};
 
 /// What the parts of each kind make is the value form.
 pub fn parts_make_value_form()
