@@ -149,11 +149,11 @@ module _ (one_command : IsOfOneCommand) (one_result : OneResult) where
   one_stop = record {
     replay_or_stop = never_both;
     one_place = λ payloads m n d e first second. elim (cases_order m n) [
-      inl same ↦ same
+      | inl same ↦ same
       | inr other ↦ elim other [
-          inl low ↦ absurd (never_later payloads m n d e low first second)
-          | inr high ↦ absurd (never_later payloads n m e d high second first)
-        ]
+        | inl low ↦ absurd (never_later payloads m n d e low first second)
+        | inr high ↦ absurd (never_later payloads n m e d high second first)
+      ]
     ];
   }
 
