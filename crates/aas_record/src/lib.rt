@@ -17,6 +17,3 @@ pub use fault::RecordFault;
 pub use laws::{
     payloads_go_wrong_once, payloads_read_back, records_are_of_one_command, records_are_right,
 };
-
-#[cfg(test)]
-mod tests;
