@@ -5,9 +5,12 @@ In each run the program gets the requests of one connection: so many small submo
 timed up to their last reply. A batch of GETs asks for submodels that lie apart; a batch of POSTs creates new ones, which are deleted again before the
 next. So the program keeps between so many submodels and 100 more while it is timed. Each reply is compared with what it must be.
 
-Printed are the microseconds for a request with 10, 100, 1,000 and 10,000 submodels, those that passed and those that the program itself ran, each the
-median over all batches of some runs, and how much the latter grew from the first to the last. The script ends with status 1 where that is past 2 times.
-It wants an idle machine.
+Then so many elements are put into one submodel, right below it or in the innermost of ten collections, and the last of them is read and updated through
+its value form, and another one is added behind it and deleted again.
+
+Printed are the microseconds for a request with 10, 100, 1,000 and 10,000 submodels, and with 10, 1,000 and 65,536 elements, those that passed and those
+that the program itself ran, each the median over all batches of some runs, and how much the latter grew from the first to the last. The script ends with
+status 1 where that is past 2 times with submodels. With elements it is printed alone. It wants an idle machine.
 """
 import argparse
 import base64
@@ -27,11 +30,18 @@ COUNTS = (10, 100, 1_000, 10_000)
 BATCH = 100
 BATCHES = 20
 GROWTH = 2
+# The elements of the one submodel, and how many of each request are sent at once.
+ELEMENTS = {10: 100, 1_000: 20, 65_536: 2}
+# How many collections lie around them.
+DEPTHS = (0, 10)
+# The most elements of a submodel.
+MOST = 65_536
+OWNER = 'https://example.com/submodels/elements'
 # A batch and its replies fit a pipe of this size, so that neither side waits for the other.
 PIPE_SIZE = 1 << 20
 # How long a reply may take, in seconds.
 PATIENCE = 60
-# Where the program's files stand, if it has any: in memory, so that no disk is measured.
+# Where the program's files stand: in memory, so that no disk is measured.
 FOLDER = '/dev/shm' if os.path.isdir('/dev/shm') else None
 
 
@@ -50,8 +60,12 @@ def submodel(number):
     return json.dumps(document, separators=(',', ':'), sort_keys=True)
 
 
+def path_of(identity):
+    return '/submodels/' + base64.urlsafe_b64encode(identity.encode()).decode().rstrip('=')
+
+
 def path(number):
-    return '/submodels/' + base64.urlsafe_b64encode(identifier(number).encode()).decode().rstrip('=')
+    return path_of(identifier(number))
 
 
 def request(line, body=''):
@@ -76,12 +90,49 @@ def delete(number):
     return request('DELETE ' + path(number)), reply('204 No Content')
 
 
+class Elements:
+    """Requests on so many elements of one submodel. With the collections around them there are fewer than may be, so that another one has room."""
+
+    def __init__(self, count, depth):
+        self.depth = depth
+        self.last = min(count, MOST - depth - 1) - 1
+        self.at = path_of(OWNER) + '/submodel-elements'
+        self.inside = '/' + '.'.join(['C'] * depth) if depth else ''
+
+    def target(self, number):
+        return f'{self.at}{self.inside}.P{number:x}' if self.depth else f'{self.at}/P{number:x}'
+
+    @staticmethod
+    def element(number):
+        """The canonical text of a property without a value, the shortest that there is: so many fit one body."""
+        return f'{{"idShort":"P{number:x}","modelType":"Property","valueType":"xs:int"}}'
+
+    def create(self):
+        text = ','.join(self.element(number) for number in range(self.last + 1))
+        for _ in range(self.depth):
+            text = f'{{"idShort":"C","modelType":"SubmodelElementCollection","value":[{text}]}}'
+        text = f'{{"id":"{OWNER}","modelType":"Submodel","submodelElements":[{text}]}}'
+        return request('POST /submodels', text), reply('201 Created', text)
+
+    def get(self, value):
+        return request(f'GET {self.target(self.last)}/$value'), reply('200 OK', str(value))
+
+    def update(self, value):
+        return request(f'PATCH {self.target(self.last)}/$value', str(value)), reply('204 No Content')
+
+    def add(self):
+        text = self.element(self.last + 1)
+        return request(f'POST {self.at}{self.inside}', text), reply('201 Created', text)
+
+    def remove(self):
+        return request(f'DELETE {self.target(self.last + 1)}'), reply('204 No Content')
+
+
 class Pipe:
     """A run of the program with one connection on its console, in a folder of its own."""
 
     def __init__(self, program, folder):
-        # What keeps its documents in files wants them made.
-        subprocess.run([program, 'init'], cwd=folder, stdin=subprocess.DEVNULL, stdout=subprocess.DEVNULL, check=False)
+        subprocess.run([program, 'init'], cwd=folder, stdin=subprocess.DEVNULL, stdout=subprocess.DEVNULL, check=True)
         self.process = subprocess.Popen([program, 'pipe'], cwd=folder, stdin=subprocess.PIPE, stdout=subprocess.PIPE)
         self.given, self.taken = self.process.stdin.fileno(), self.process.stdout.fileno()
         for end in (self.given, self.taken):
@@ -102,8 +153,9 @@ class Pipe:
         wanted = ''.join(answer for _, answer in calls).encode()
         pieces, missing, ran = [], len(wanted), self.ran()
         begun = time.perf_counter()
-        if os.write(self.given, sent) != len(sent):
-            sys.exit('a batch is larger than a pipe')
+        # What is larger than a pipe is one request, whose reply begins behind its end.
+        while sent:
+            sent = sent[os.write(self.given, sent):]
         while missing > 0:
             ready, _, _ = select.select([self.taken], [], [], PATIENCE)
             piece = os.read(self.taken, PIPE_SIZE) if ready else b''
@@ -150,6 +202,37 @@ def one_run(program, count):
     return gets, posts
 
 
+def element_run(program, count, depth):
+    """What each batch of requests of a kind took, with so many elements so deep."""
+    size = ELEMENTS[count]
+    asked = Elements(count, depth)
+    times = {name: [] for name in ('GET of $value', 'PATCH of $value', 'POST of an element', 'DELETE of an element')}
+    with tempfile.TemporaryDirectory(dir=FOLDER) as folder:
+        pipe = Pipe(program, folder)
+        pipe.exchange([asked.create()])
+        for turn in range(max(BATCHES * size // BATCH, 3)):
+            value = 1000 * (turn + 1)
+            times['PATCH of $value'].append(pipe.exchange([asked.update(value + n) for n in range(size)]))
+            times['GET of $value'].append(pipe.exchange([asked.get(value + size - 1)] * size))
+            for _ in range(max(size // 20, 1)):
+                times['POST of an element'].append(pipe.exchange([asked.add()]))
+                times['DELETE of an element'].append(pipe.exchange([asked.remove()]))
+        pipe.end()
+    return {name: [(passed / (size if '$' in name else 1), ran / (size if '$' in name else 1)) for passed, ran in of] for name, of in times.items()}
+
+
+def print_elements(program, runs, depth):
+    took = {count: [element_run(program, count, depth) for _ in range(runs)] for count in ELEMENTS}
+    for name in took[10][0]:
+        print(f'{name}, {depth} collections deep')
+        own = []
+        for count, of in took.items():
+            passed, ran = (statistics.median(times) * 1e6 for times in zip(*(pair for run in of for pair in run[name])))
+            own.append(ran)
+            print(f'  {count:6} elements {passed:10.1f} us a request, {ran:10.1f} of them run')
+        print(f'  grew {own[-1] / own[0]:.1f} times')
+
+
 def main():
     parser = argparse.ArgumentParser(description=__doc__, formatter_class=argparse.RawDescriptionHelpFormatter)
     parser.add_argument('--program', default=PROGRAM, help='the program (the script aasd)')
@@ -173,6 +256,8 @@ def main():
         growth = own[-1] / own[0]
         good = good and growth <= GROWTH
         print(f'  grew {growth:.2f} times')
+    for depth in DEPTHS:
+        print_elements(program, options.runs, depth)
     sys.exit(0 if good else 1)
 
 

@@ -1,1 +1,4 @@
+pub mod BrokenNumbers
+mod LastSteps
 mod Paths
+mod Queries

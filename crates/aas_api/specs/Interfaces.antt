@@ -9,6 +9,10 @@ use Rattle.aas_command.specs.declared.command.Command.{Command}
 use Rattle.aas_command.specs.declared.command.Command.TheVariants.{CreateShell, CreateSubmodel, CreateConcept, ReplaceShell, ReplaceSubmodel, ReplaceConcept, DeleteShell, DeleteSubmodel, DeleteConcept}
 use Rattle.aas_command.specs.declared.question.Question.{Question}
 use Rattle.aas_command.specs.declared.question.Question.TheVariants as question
+use Rattle.aas_api.specs.Routes.{parameters_of}
+use Rattle.aas_api.specs.declared.query.Modifiers.{Modifiers}
+use Rattle.aas_api.specs.declared.query.Parameter.{Parameter}
+use Rattle.aas_api.specs.declared.routes.Resource.TheVariants as resource
 
 pub record Interface (D : Type 0) : Type 1 where
   pub documents : Trees D
@@ -16,13 +20,39 @@ pub record Interface (D : Type 0) : Type 1 where
   pub create : D → Command
   pub replace : D → Command
   pub delete : List ℕ → Command
-  pub get : List ℕ → Question
+  -- the parameters that a GET of a document lists
+  pub parameters : List Parameter
+  pub get : List ℕ → Modifiers → Question
 
 abbrev pub shell_interface : Interface Shell
-shell_interface = record { documents = shells; id_of = λ d. d.head.id; create = CreateShell; replace = ReplaceShell; delete = DeleteShell; get = question.Shell }
+shell_interface = record {
+  documents = shells;
+  id_of = λ d. d.head.id;
+  create = CreateShell;
+  replace = ReplaceShell;
+  delete = DeleteShell;
+  parameters = parameters_of resource.Shell;
+  get = λ id m. question.Shell id;
+}
 
 abbrev pub submodel_interface : Interface Submodel
-submodel_interface = record { documents = submodels; id_of = λ d. d.head.id; create = CreateSubmodel; replace = ReplaceSubmodel; delete = DeleteSubmodel; get = question.Submodel }
+submodel_interface = record {
+  documents = submodels;
+  id_of = λ d. d.head.id;
+  create = CreateSubmodel;
+  replace = ReplaceSubmodel;
+  delete = DeleteSubmodel;
+  parameters = parameters_of resource.Submodel;
+  get = λ id m. question.Submodel id m.level m.extent;
+}
 
 abbrev pub concept_interface : Interface Concept
-concept_interface = record { documents = concepts; id_of = λ d. d.head.id; create = CreateConcept; replace = ReplaceConcept; delete = DeleteConcept; get = question.Concept }
+concept_interface = record {
+  documents = concepts;
+  id_of = λ d. d.head.id;
+  create = CreateConcept;
+  replace = ReplaceConcept;
+  delete = DeleteConcept;
+  parameters = parameters_of resource.Concept;
+  get = λ id m. question.Concept id;
+}

@@ -1,23 +1,21 @@
 // What requests ask for.
-ghost use Rattle.std.specs.Prelude.{◌≡◌, ◌⊎◌, ℕ, List, Err, Ok, IfErr, IfOk};
+ghost use Rattle.std.specs.Prelude.{◌≡◌, ◌≢◌, ◌∷◌, ◌⊎◌, [], codes, Some, None, IfErr, OnOk};
 ghost use Rattle.std.specs.Str.{chars};
-ghost use Rattle.aas_json_mapping.specs.Trees.{asset_informations};
-ghost use Rattle.aas_command.specs.declared.command.Command.TheVariants.{SetAsset};
-ghost use Rattle.aas_command.specs.declared.question.Question.TheVariants.{Asset};
-ghost use Rattle.aas_command.specs.declared.refusal.Refusal.TheVariants.{BadIdentifier, NoMemory, NotAllowed};
+ghost use Rattle.aas_command.specs.declared.refusal.Refusal.TheVariants.{NoMemory, NotAllowed};
 ghost use Rattle.aas_http.specs.Steps.{message_of};
-ghost use Rattle.aas_page.specs.Segment.{StandsFor};
-ghost use Rattle.aas_api.specs.Asked.{AsksAsset, AsksCollection, AsksDocument, ByBody, ById, ByMethod, IsAsked, OrNoMemory, if_same};
-ghost use Rattle.aas_api.specs.Routes.{asset_methods, collection_methods, document_methods};
-ghost use Rattle.aas_api.specs.declared.ask.Ask.TheVariants.{Act, Answer};
+ghost use Rattle.aas_api.specs.Asked.{AsksResource, ByMethod, IsAsked, OrNoMemory};
+ghost use Rattle.aas_api.specs.Routes.{get, method_among, methods_of, texts_from};
 
-use crate::documents::Document;
-use crate::routes::{Resource, resource_at};
+use crate::documents::{ask_asset, ask_collection, ask_document, ask_shell_reference};
+use crate::elements::{
+    ask_element, ask_element_metadata, ask_element_paths, ask_element_reference, ask_elements,
+};
+use crate::routes::{Found, Resource, path_and_query, resource_at};
+use crate::submodels::{ask_submodel_metadata, ask_submodel_paths, ask_submodel_reference};
+use crate::values::{ask_element_value, ask_submodel_value};
 use aas_command::{Command, Question, Refusal};
 use aas_http::Request;
-use aas_json_read::read_asset_information;
 use aas_model::{Concept, Shell, Submodel, Text};
-use aas_page::{SegmentFault, id_from_segment};
 use std::alloc::Global;
 
 /// What a request asks for.
@@ -33,146 +31,68 @@ pub enum Ask {
 ///
 /// # Errors
 ///
-/// In this order: `NoRoute`, `NotAllowed`, `BadIdentifier`, `NotJson`, `NotMapping`, `TooDeep`, `IdMismatch`.
+/// In this order: `NoRoute`, `NotAllowed`, `BadIdentifier`, `BadPath`, `BadQuery`, `NotJson`, `NotMapping`, `TooDeep`,
+/// `IdMismatch`.
 #[tactic(auto, unfolding(crate::specs::Asked::IsAsked))]
 pub fn read_ask(alloc: Global, request: &Request<'_>) -> Result<Ask, Refusal>
     ensures { OrNoMemory (IsAsked (message_of request.now)) result }
 {
-    let Some((resource, segment)) = resource_at(request.target) else {
-        return Err(Refusal::NoRoute);
-    };
-    let (method, body) = (request.method, request.body);
-    match resource {
-        Resource::Shells => ask_collection::<Shell>(alloc, method, body),
-        Resource::Shell => ask_document::<Shell>(alloc, method, segment, body),
-        Resource::AssetInformation => ask_asset(alloc, method, segment, body),
-        Resource::Submodels => ask_collection::<Submodel>(alloc, method, body),
-        Resource::Submodel => ask_document::<Submodel>(alloc, method, segment, body),
-        Resource::Concepts => ask_collection::<Concept>(alloc, method, body),
-        Resource::Concept => ask_document::<Concept>(alloc, method, segment, body),
+    let (path, query) = path_and_query(request.target);
+    match resource_at(path) {
+        Some(found) => ask_resource(alloc, found, request.method, query, request.body),
+        None => Err(Refusal::NoRoute),
     }
 }
 
-/// What is asked of all documents of an interface.
-fn ask_collection<D: Document>(alloc: Global, method: &str, body: &[u8]) -> Result<Ask, Refusal>
-    ensures { OrNoMemory (ByMethod method.now collection_methods (AsksCollection D.interface body.now)) result }
-{
-    if method == "POST" {
-        create::<D>(alloc, body)
-    } else {
-        Err(not_allowed(alloc, "POST"))
-    }
-}
-
-/// What is asked of one document of an interface, whose identifier is in the segment.
-fn ask_document<D: Document>(
+/// What is asked of a resource, by the method, the query and the body.
+fn ask_resource(
     alloc: Global,
+    found: Found<'_>,
     method: &str,
-    segment: &[u8],
+    query: &[u8],
     body: &[u8],
 ) -> Result<Ask, Refusal>
-    ensures { OrNoMemory (ByMethod method.now document_methods (AsksDocument D.interface segment.now body.now)) result }
+    ensures { OrNoMemory (ByMethod method.now (methods_of found.entry.resource)
+        (AsksResource found.entry.resource (texts_from found.entry.id.now found.entry.path.now) query.now body.now)) result }
 {
-    if method == "GET" {
-        get::<D>(alloc, segment)
-    } else if method == "PUT" {
-        replace::<D>(alloc, segment, body)
-    } else if method == "DELETE" {
-        delete::<D>(alloc, segment)
-    } else {
-        Err(not_allowed(alloc, "GET, PUT, DELETE"))
+    let Found { resource, id, path } = found;
+    match resource {
+        Resource::Shells => ask_collection::<Shell>(alloc, method, body),
+        Resource::Shell => ask_document::<Shell>(alloc, method, id, query, body),
+        Resource::ShellReference => ask_shell_reference(alloc, method, id),
+        Resource::AssetInformation => ask_asset(alloc, method, id, body),
+        Resource::Submodels => ask_collection::<Submodel>(alloc, method, body),
+        Resource::Submodel => ask_document::<Submodel>(alloc, method, id, query, body),
+        Resource::SubmodelMetadata => ask_submodel_metadata(alloc, method, id),
+        Resource::SubmodelValue => ask_submodel_value(alloc, method, id, query, body),
+        Resource::SubmodelReference => ask_submodel_reference(alloc, method, id),
+        Resource::SubmodelPaths => ask_submodel_paths(alloc, method, id, query),
+        Resource::Elements => ask_elements(alloc, method, id, body),
+        Resource::Element => ask_element(alloc, method, id, path, query, body),
+        Resource::ElementMetadata => ask_element_metadata(alloc, method, id, path),
+        Resource::ElementValue => ask_element_value(alloc, method, id, path, query, body),
+        Resource::ElementReference => ask_element_reference(alloc, method, id, path),
+        Resource::ElementPaths => ask_element_paths(alloc, method, id, path, query),
+        Resource::Concepts => ask_collection::<Concept>(alloc, method, body),
+        Resource::Concept => ask_document::<Concept>(alloc, method, id, query, body),
     }
 }
 
-/// What is asked of the asset information of the shell whose identifier is in the segment.
-fn ask_asset(alloc: Global, method: &str, segment: &[u8], body: &[u8]) -> Result<Ask, Refusal>
-    ensures { OrNoMemory (ByMethod method.now asset_methods (AsksAsset segment.now body.now)) result }
-{
-    if method == "GET" {
-        get_asset(alloc, segment)
-    } else if method == "PUT" {
-        set_asset(alloc, segment, body)
-    } else {
-        Err(not_allowed(alloc, "GET, PUT"))
-    }
-}
-
-fn create<D: Document>(alloc: Global, body: &[u8]) -> Result<Ask, Refusal>
-    ensures { OrNoMemory (ByBody D.interface.documents body.now (λ document. Ok (Act (D.interface.create document)))) result }
-{
-    let document = D::read(alloc, body)?;
-    Ok(Ask::Act {
-        command: document.create(),
-    })
-}
-
-fn get<D: Document>(alloc: Global, segment: &[u8]) -> Result<Ask, Refusal>
-    ensures { OrNoMemory (ById segment.now (λ id asked. asked ≡ Ok (Answer (D.interface.get id)))) result }
-{
-    let id = identifier(alloc, segment)?;
-    Ok(Ask::Answer {
-        question: D::get(id),
-    })
-}
-
-fn replace<D: Document>(alloc: Global, segment: &[u8], body: &[u8]) -> Result<Ask, Refusal>
-    ensures { OrNoMemory (ById segment.now (λ id. ByBody D.interface.documents body.now (λ document. if_same id (D.interface.id_of document) (D.interface.replace document)))) result }
-{
-    let id = identifier(alloc, segment)?;
-    let document = D::read(alloc, body)?;
-    if !id.same(document.id()) {
-        return Err(Refusal::IdMismatch);
-    }
-    Ok(Ask::Act {
-        command: document.replace(),
-    })
-}
-
-fn delete<D: Document>(alloc: Global, segment: &[u8]) -> Result<Ask, Refusal>
-    ensures { OrNoMemory (ById segment.now (λ id asked. asked ≡ Ok (Act (D.interface.delete id)))) result }
-{
-    let id = identifier(alloc, segment)?;
-    Ok(Ask::Act {
-        command: D::delete(id),
-    })
-}
-
-fn get_asset(alloc: Global, segment: &[u8]) -> Result<Ask, Refusal>
-    ensures { OrNoMemory (ById segment.now (λ id asked. asked ≡ Ok (Answer (Asset id)))) result }
-{
-    let id = identifier(alloc, segment)?;
-    Ok(Ask::Answer {
-        question: Question::Asset { id },
-    })
-}
-
-fn set_asset(alloc: Global, segment: &[u8], body: &[u8]) -> Result<Ask, Refusal>
-    ensures { OrNoMemory (ById segment.now (λ id. ByBody asset_informations body.now (λ asset. Ok (Act (SetAsset id asset))))) result }
-{
-    let shell = identifier(alloc, segment)?;
-    match read_asset_information(alloc, body) {
-        Ok(asset) => Ok(Ask::Act {
-            command: Command::SetAsset { shell, asset },
-        }),
-        Err(fault) => Err(fault.into()),
-    }
-}
-
-/// The identifier for which a segment stands.
-fn identifier(alloc: Global, segment: &[u8]) -> Result<Text, Refusal>
-    ensures ok { IfOk result (λ id. StandsFor segment.now id) }
+/// Passes where the method is GET, the only one that a resource has.
+pub(crate) fn only_get(alloc: Global, method: &str) -> Result<(), Refusal>
+    ensures ok { OnOk result (method_among method.now (get ∷ []) ≡ Some get) }
     ensures err { IfErr result (λ refusal. (refusal ≡ NoMemory)
-        ⊎ ((refusal ≡ BadIdentifier) × ((id : List ℕ) → ¬ StandsFor segment.now id))) }
+        ⊎ ((method_among method.now (get ∷ []) ≡ None) × (refusal ≡ NotAllowed (chars (codes "GET"))))) }
 {
-    match id_from_segment(alloc, segment) {
-        Ok(id) => Ok(id),
-        Err(SegmentFault::BadIdentifier) => Err(Refusal::BadIdentifier),
-        Err(SegmentFault::NoMemory) => Err(Refusal::NoMemory),
+    if method == "GET" {
+        Ok(())
+    } else {
+        Err(not_allowed(alloc, "GET"))
     }
 }
 
 /// That the resource has other methods, which the text lists.
-fn not_allowed(alloc: Global, methods: &str) -> Refusal
+pub(crate) fn not_allowed(alloc: Global, methods: &str) -> Refusal
     ensures { (result ≡ NoMemory) ⊎ (result ≡ NotAllowed (chars methods.now)) }
 {
     match Text::from_str(alloc, methods) {

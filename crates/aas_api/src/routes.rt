@@ -1,9 +1,11 @@
-// The resources of the interface, and which of them a target names.
-ghost use Rattle.std.specs.Prelude.{◌≡◌, ◌∷◌, ℕ, List, [], Some, bytes_eq, false, option_map, IfNone, IfSome};
+// The resources of the interface, and which of them a path names.
+ghost use Rattle.std.specs.Prelude.{◌≡◌, ◌∷◌, ℕ, List, [], Some, None, bytes_eq, false, option_map, IfNone, IfSome};
 ghost use Rattle.std.specs.Option.{option_map_or};
 ghost use Rattle.form_urlencoded.specs.Form.{split};
 ghost use Rattle.aas_model_names.specs.declared.collection.Collection.{Collection};
-ghost use Rattle.aas_api.specs.Routes.{resource_of, resource_with, segment_of};
+ghost use Rattle.aas_api.specs.Contents.{content_segment};
+ghost use Rattle.aas_api.specs.Routes.{elements_segment, path_in, query_in, resource_at, resource_with, segment_of, texts_from};
+ghost use Rattle.aas_api.specs.declared.routes.Content.{Content};
 
 use aas_model_names::Collection;
 
@@ -14,25 +16,75 @@ pub enum Resource {
     Shells,
     /// The shell of an identifier.
     Shell,
-    /// What the shell of an identifier says of its asset.
+    /// The reference to the shell.
+    ShellReference,
+    /// What the shell says of its asset.
     AssetInformation,
     /// All submodels.
     Submodels,
     /// The submodel of an identifier.
     Submodel,
+    /// The submodel's metadata form.
+    SubmodelMetadata,
+    /// The submodel's value form.
+    SubmodelValue,
+    /// The reference to the submodel.
+    SubmodelReference,
+    /// The paths of the submodel's elements.
+    SubmodelPaths,
+    /// The elements of the submodel.
+    Elements,
+    /// The element to which a path leads in the submodel.
+    Element,
+    /// The element's metadata form.
+    ElementMetadata,
+    /// The element's value form.
+    ElementValue,
+    /// The reference to the element.
+    ElementReference,
+    /// The paths of the element and of all below it.
+    ElementPaths,
     /// All concept descriptions.
     Concepts,
     /// The concept description of an identifier.
     Concept,
 }
 
-/// The resource whose path is the target's, with the segment of the path that is a parameter, or nothing where it has
-/// none.
-#[tactic(auto, unfolding(crate::specs::Routes::resource_of))]
-pub(crate) fn resource_at(target: &[u8]) -> Option<(Resource, &[u8])>
-    ensures { option_map (λ found. (found.0, found.1.now)) result ≡ resource_of target.now }
+/// In which form a submodel or an element is shown (IDTA-01002-3-0, serialization modifier Content).
+#[derive(Clone, Copy)]
+pub(crate) enum Content {
+    Metadata,
+    Value,
+    Reference,
+    Path,
+}
+
+/// A resource, with the segments of its path that are parameters, empty where it has none.
+#[derive(Clone, Copy)]
+pub(crate) struct Found<'a> {
+    pub(crate) resource: Resource,
+    /// That of an identifier.
+    pub(crate) id: &'a [u8],
+    /// That of the path of an element.
+    pub(crate) path: &'a [u8],
+}
+
+/// The path of a target, and its query, which is behind the first `?`.
+pub(crate) fn path_and_query(target: &[u8]) -> (&[u8], &[u8])
+    ensures path { result.0.now ≡ path_in target.now }
+    ensures query { result.1.now ≡ query_in target.now }
 {
-    let (path, _) = cut(target, b'?');
+    match target.iter().position(|byte| *byte == b'?') {
+        Some(place) => (&target[..place], &target[place + 1..]),
+        None => (target, &[]),
+    }
+}
+
+/// The resource that has the path, or nothing where none has it.
+#[tactic(auto, unfolding(crate::specs::Routes::resource_at))]
+pub(crate) fn resource_at(path: &[u8]) -> Option<Found<'_>>
+    ensures { option_map (λ found. (found.resource, texts_from found.id.now found.path.now)) result ≡ resource_at path.now }
+{
     let (front, rest) = cut(path, b'/');
     if !front.is_empty() {
         return None;
@@ -44,8 +96,8 @@ pub(crate) fn resource_at(target: &[u8]) -> Option<(Resource, &[u8])>
 }
 
 /// The same, by what stands behind the first slash.
-fn resource_below(path: &[u8]) -> Option<(Resource, &[u8])>
-    ensures { option_map (λ found. (found.0, found.1.now)) result ≡ resource_with (split 47 path.now) }
+fn resource_below(path: &[u8]) -> Option<Found<'_>>
+    ensures { option_map (λ found. (found.resource, texts_from found.id.now found.path.now)) result ≡ resource_with (split 47 path.now) }
 {
     let (name, rest) = cut(path, b'/');
     let Some(collection) = collection_named(name) else {
@@ -53,21 +105,37 @@ fn resource_below(path: &[u8]) -> Option<(Resource, &[u8])>
     };
     match rest {
         Some(rest) => resource_within(collection, rest),
-        None => Some((collection_resource(collection), &[])),
+        None => Some(Found {
+            resource: collection_resource(collection),
+            id: &[],
+            path: &[],
+        }),
     }
 }
 
 /// The same within a collection, by what stands behind its segment and a slash.
-fn resource_within(collection: Collection, path: &[u8]) -> Option<(Resource, &[u8])>
-    ensures { option_map (λ found. (found.0, found.1.now)) result ≡ resource_with (segment_of collection ∷ split 47 path.now) }
+fn resource_within(collection: Collection, path: &[u8]) -> Option<Found<'_>>
+    ensures { option_map (λ found. (found.resource, texts_from found.id.now found.path.now)) result
+        ≡ resource_with (segment_of collection ∷ split 47 path.now) }
 {
     let (id, rest) = cut(path, b'/');
     if id.is_empty() {
         return None;
     }
     match rest {
-        Some(rest) => Some((part_resource(collection, rest)?, id)),
-        None => Some((document_resource(collection), id)),
+        Some(rest) => {
+            let part = part_of(collection, rest)?;
+            Some(Found {
+                resource: part.0,
+                id,
+                path: part.1,
+            })
+        },
+        None => Some(Found {
+            resource: document_resource(collection),
+            id,
+            path: &[],
+        }),
     }
 }
 
@@ -89,7 +157,7 @@ fn collection_named(name: &[u8]) -> Option<Collection>
 /// All documents of a collection.
 #[tactic(auto, unfolding(crate::specs::Routes::resource_with))]
 fn collection_resource(collection: Collection) -> Resource
-    ensures { resource_with (segment_of collection ∷ []) ≡ Some (result, []) }
+    ensures { resource_with (segment_of collection ∷ []) ≡ Some (result, texts_from [] []) }
 {
     match collection {
         Collection::Shells => Resource::Shells,
@@ -101,8 +169,7 @@ fn collection_resource(collection: Collection) -> Resource
 /// One document of a collection.
 #[tactic(auto, unfolding(crate::specs::Routes::resource_with))]
 fn document_resource(collection: Collection) -> Resource
-    ensures { (byte : ℕ) (bytes : List ℕ) →
-        resource_with (segment_of collection ∷ (byte ∷ bytes) ∷ []) ≡ Some (result, byte ∷ bytes) }
+    ensures { (b : ℕ) (bs : List ℕ) → resource_with (segment_of collection ∷ (b ∷ bs) ∷ []) ≡ Some (result, texts_from (b ∷ bs) []) }
 {
     match collection {
         Collection::Shells => Resource::Shell,
@@ -111,18 +178,116 @@ fn document_resource(collection: Collection) -> Resource
     }
 }
 
-/// A part of one document of a collection, by what stands behind the document's segment and a slash.
-fn part_resource(collection: Collection, path: &[u8]) -> Option<Resource>
-    ensures { (byte : ℕ) (bytes : List ℕ) →
-        resource_with (segment_of collection ∷ (byte ∷ bytes) ∷ split 47 path.now)
-        ≡ option_map (λ resource. (resource, byte ∷ bytes)) result }
+/// A part of one document of a collection, with its further parameter, by what stands behind the document's segment and a
+/// slash.
+fn part_of(collection: Collection, path: &[u8]) -> Option<(Resource, &[u8])>
+    ensures { (b : ℕ) (bs : List ℕ) → resource_with (segment_of collection ∷ (b ∷ bs) ∷ split 47 path.now)
+        ≡ option_map (λ part. (part.0, texts_from (b ∷ bs) part.1.now)) result }
 {
-    if path != b"asset-information".as_slice() {
+    match collection {
+        Collection::Shells => match shell_part(path) {
+            Some(resource) => Some((resource, &[])),
+            None => None,
+        },
+        Collection::Submodels => submodel_part(path),
+        Collection::Concepts => None,
+    }
+}
+
+/// A part of a shell.
+fn shell_part(path: &[u8]) -> Option<Resource>
+    ensures { (b : ℕ) (bs : List ℕ) → resource_with (segment_of Collection.Shells ∷ (b ∷ bs) ∷ split 47 path.now)
+        ≡ option_map (λ resource. (resource, texts_from (b ∷ bs) [])) result }
+{
+    if path == b"asset-information".as_slice() {
+        Some(Resource::AssetInformation)
+    } else if path == b"$reference".as_slice() {
+        Some(Resource::ShellReference)
+    } else {
+        None
+    }
+}
+
+/// A part of a submodel, with its further parameter.
+fn submodel_part(path: &[u8]) -> Option<(Resource, &[u8])>
+    ensures { (b : ℕ) (bs : List ℕ) → resource_with (segment_of Collection.Submodels ∷ (b ∷ bs) ∷ split 47 path.now)
+        ≡ option_map (λ part. (part.0, texts_from (b ∷ bs) part.1.now)) result }
+{
+    let (name, rest) = cut(path, b'/');
+    if name == b"submodel-elements".as_slice() {
+        match rest {
+            Some(rest) => element_part(rest),
+            None => Some((Resource::Elements, &[])),
+        }
+    } else {
+        match content_named(path) {
+            Some(content) => Some((submodel_resource(content), &[])),
+            None => None,
+        }
+    }
+}
+
+/// An element of a submodel or a part of it, by what stands behind the segment of all elements and a slash.
+fn element_part(path: &[u8]) -> Option<(Resource, &[u8])>
+    ensures { (b : ℕ) (bs : List ℕ) → resource_with (segment_of Collection.Submodels ∷ (b ∷ bs) ∷ elements_segment ∷ split 47 path.now)
+        ≡ option_map (λ part. (part.0, texts_from (b ∷ bs) part.1.now)) result }
+{
+    let (path, rest) = cut(path, b'/');
+    if path.is_empty() {
         return None;
     }
-    match collection {
-        Collection::Shells => Some(Resource::AssetInformation),
-        _ => None,
+    match rest {
+        Some(rest) => match content_named(rest) {
+            Some(content) => Some((element_resource(content), path)),
+            None => None,
+        },
+        None => Some((Resource::Element, path)),
+    }
+}
+
+fn content_named(name: &[u8]) -> Option<Content>
+    ensures named { IfSome result (λ content. name.now ≡ content_segment content) }
+    ensures none { IfNone result ((content : Content) → bytes_eq name.now (content_segment content) ≡ false) }
+{
+    if name == b"$metadata".as_slice() {
+        Some(Content::Metadata)
+    } else if name == b"$value".as_slice() {
+        Some(Content::Value)
+    } else if name == b"$reference".as_slice() {
+        Some(Content::Reference)
+    } else if name == b"$path".as_slice() {
+        Some(Content::Path)
+    } else {
+        None
+    }
+}
+
+/// A submodel in this form.
+#[tactic(auto, unfolding(crate::specs::Routes::resource_with))]
+fn submodel_resource(content: Content) -> Resource
+    ensures { (b : ℕ) (bs : List ℕ) → resource_with (segment_of Collection.Submodels ∷ (b ∷ bs) ∷ content_segment content ∷ [])
+        ≡ Some (result, texts_from (b ∷ bs) []) }
+{
+    match content {
+        Content::Metadata => Resource::SubmodelMetadata,
+        Content::Value => Resource::SubmodelValue,
+        Content::Reference => Resource::SubmodelReference,
+        Content::Path => Resource::SubmodelPaths,
+    }
+}
+
+/// An element in this form.
+#[tactic(auto, unfolding(crate::specs::Routes::resource_with))]
+fn element_resource(content: Content) -> Resource
+    ensures { (b c : ℕ) (bs cs : List ℕ) →
+        resource_with (segment_of Collection.Submodels ∷ (b ∷ bs) ∷ elements_segment ∷ (c ∷ cs) ∷ content_segment content ∷ [])
+        ≡ Some (result, texts_from (b ∷ bs) (c ∷ cs)) }
+{
+    match content {
+        Content::Metadata => Resource::ElementMetadata,
+        Content::Value => Resource::ElementValue,
+        Content::Reference => Resource::ElementReference,
+        Content::Path => Resource::ElementPaths,
     }
 }
 

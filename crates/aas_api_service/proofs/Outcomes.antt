@@ -69,17 +69,17 @@ module _ {I : Type 0} (room : Room) (stands_for : I → List (List ℕ) → Type
   answers_command r from now c (Ok done) acts answer is =
       let P : Result Reply Stop → Type 0 = λ a. Answers (AskComesTo room) stands_for r (Act c) from now a in
       let new = acts.1.new in
-      subst P (sym is) (outcome_of r c (accepted new), (accepted new, acts.1.steps, refl), refl, acts.1.holds)
+      subst P (sym is) (outcome_of r c (accepted new), (accepted new, acts.1.steps, acts.1.fields, refl), refl, acts.1.holds)
   answers_command r from now c (Err why) acts answer (inl (fault, is)) =
       let P : Result Reply Stop → Type 0 = λ a. Answers (AskComesTo room) stands_for r (Act c) from now a in
       let torn = acts.0 fault in
-      subst P (sym is) (outcome_of r c (accepted torn.new), (accepted torn.new, torn.steps, refl), torn.faulted)
+      subst P (sym is) (outcome_of r c (accepted torn.new), (accepted torn.new, torn.steps, torn.fields, refl), torn.faulted)
   answers_command r from now c (Err why) acts answer (inr (no_fault, inl is)) =
       let P : Result Reply Stop → Type 0 = λ a. Answers (AskComesTo room) stands_for r (Act c) from now a in
       subst P (sym is) (acts.1 no_fault)
   answers_command r from now c (Err why) acts answer (inr (no_fault, inr (some, is))) =
       let P : Result Reply Stop → Type 0 = λ a. Answers (AskComesTo room) stands_for r (Act c) from now a in
-      subst P (sym is) (outcome_of r c (refused why), (refused why, acts.2 no_fault some, refl), refl, holds_unchanged r (refusal_reply why) from now (acts.1 no_fault))
+      subst P (sym is) (outcome_of r c (refused why), (refused why, acts.2 no_fault some, tt, refl), refl, holds_unchanged r (refusal_reply why) from now (acts.1 no_fault))
 
   -- ---- requests
 

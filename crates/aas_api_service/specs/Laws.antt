@@ -12,9 +12,9 @@ use Rattle.aas_api.specs.Asked.{IsAsked}
 use Rattle.aas_api.specs.declared.ask.Ask.TheVariants.{Act}
 use Rattle.aas_api_service.specs.Turns.{Turns}
 
--- a request comes to one thing alone
+-- where documents are valid, a request comes to one thing alone
 abbrev pub OneOutcome : Type 0
-OneOutcome = (room : Room) (r : Repository Documents) (m : Message) (x y : Outcome Documents Reply) → Turns room r m x → Turns room r m y → x ≡ y
+OneOutcome = (room : Room) (r : Repository Documents) (m : Message) (x y : Outcome Documents Reply) → AreValid r.documents → Turns room r m x → Turns room r m y → x ≡ y
 
 -- the command that a request asks for is well formed
 abbrev pub AsksWellFormed : Type 0

@@ -1,11 +1,12 @@
 -- What a request comes to in a repository (IDTA-01002-3-0, HTTP/REST API): it is refused, or a question is answered, or a command is done. Which status and which body
 -- a reply has is this profile's own rule.
-use Rattle.std.specs.Prelude.{◌≡◌, ℕ, List, [], ◌∷◌, false, Result, Ok, Err}
+use Rattle.std.specs.Prelude.{◌≡◌, ℕ, List, [], ◌∷◌, false, Result, Ok, Err, ⊤}
 use Rattle.aas_json_spelling.specs.Spells.{canonical_text}
-use Rattle.aas_json_mapping.specs.Trees.{concepts, shells, submodels}
+use Rattle.aas_json_mapping.specs.Trees.{concepts, elements, shells, submodels}
 use Rattle.aas_command.specs.Commands.{payload_of}
+use Rattle.aas_command.specs.Encoding.{HasFields}
 use Rattle.aas_command.specs.declared.command.Command.{Command}
-use Rattle.aas_command.specs.declared.command.Command.TheVariants.{CreateShell, CreateSubmodel, CreateConcept}
+use Rattle.aas_command.specs.declared.command.Command.TheVariants.{CreateShell, CreateSubmodel, CreateConcept, InsertElement}
 use Rattle.aas_command.specs.declared.refusal.Refusal.{Refusal}
 use Rattle.aas_http.specs.FirstRequest.{Message}
 use Rattle.aas_http.specs.declared.replies.Reply.{Reply}
@@ -33,6 +34,7 @@ abbrev pub success_reply : Command → Reply
 success_reply (CreateShell d) = reply_with 201 (canonical_text shells d)
 success_reply (CreateSubmodel d) = reply_with 201 (canonical_text submodels d)
 success_reply (CreateConcept d) = reply_with 201 (canonical_text concepts d)
+success_reply (InsertElement id p e) = reply_with 201 (canonical_text elements e)
 success_reply c = reply_with 204 []
 
 -- ---- outcomes
@@ -46,10 +48,15 @@ abbrev pub outcome_of : Repository Documents → Command → StepResult → Outc
 outcome_of r c (refused refusal) = unchanged r (refusal_reply refusal)
 outcome_of r c (accepted new) = record { reply = success_reply c; documents = new; kept = payload_of c ∷ [] }
 
+-- a command that is accepted can be read from the payload that is kept
+abbrev pub CanBeRead : Command → StepResult → Type 0
+CanBeRead c (refused refusal) = ⊤
+CanBeRead c (accepted new) = HasFields c
+
 -- what is asked comes to
 unfoldable pub AskComesTo : Room → Repository Documents → Ask → Outcome Documents Reply → Type 0
 AskComesTo room r (Answer q) outcome = outcome ≡ unchanged r (answer_reply (answer_of r.documents q))
-AskComesTo room r (Act c) outcome = (result : StepResult) × Steps room r c result × (outcome ≡ outcome_of r c result)
+AskComesTo room r (Act c) outcome = (result : StepResult) × Steps room r c result × CanBeRead c result × (outcome ≡ outcome_of r c result)
 
 abbrev pub AskedComesTo : Room → Repository Documents → Asked → Outcome Documents Reply → Type 0
 AskedComesTo room r (Ok ask) outcome = AskComesTo room r ask outcome

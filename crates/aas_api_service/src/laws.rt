@@ -4,7 +4,7 @@ ghost use Rattle.aas_api_service.specs.Laws.{AsksWellFormed, OneOutcome, Session
 use aas_page::segments_stand_for_one;
 use aas_step::{commands_come_to_one_result, documents_stay_valid};
 
-/// A request comes to one thing alone.
+/// Where documents are valid, a request comes to one thing alone.
 pub fn requests_come_to_one_outcome()
     ensures { OneOutcome }
 {

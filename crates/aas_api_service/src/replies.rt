@@ -6,8 +6,9 @@ ghost use Rattle.aas_api_service.specs.Finished.{Finishes, IsRefused, IsReply};
 ghost use Rattle.aas_api_service.specs.Turns.{answer_reply, reply_with, success_reply};
 
 use aas_api::refused;
-use aas_command::{Command, Refusal, concept_text, shell_text, submodel_text};
+use aas_command::{Command, Refusal, concept_text, element_text, shell_text, submodel_text};
 use aas_http::Reply;
+use aas_json_write::whole_trees_are_in_order;
 use aas_model::{Many, NoMemory, Text};
 use aas_repo::Done;
 use aas_session::Stop;
@@ -39,6 +40,10 @@ pub(crate) fn success(alloc: Global, command: &Command) -> Result<Reply, NoMemor
         Command::CreateShell { document } => created(alloc, shell_text(alloc, document)?),
         Command::CreateSubmodel { document } => created(alloc, submodel_text(alloc, document)?),
         Command::CreateConcept { document } => created(alloc, concept_text(alloc, document)?),
+        Command::InsertElement { element, .. } => {
+            whole_trees_are_in_order();
+            created(alloc, element_text(alloc, element)?)
+        }
         _ => open_reply(alloc, 204, Many::new(alloc)),
     }
 }

@@ -123,7 +123,10 @@ fn act<S: Store, K: Keeper>(
 {
     match success(alloc, &command) {
         Ok(reply) => finish(alloc, repo.act(command), reply),
-        Err(NoMemory) => Err(Stop::NoMemory),
+        Err(NoMemory) => {
+            drop(command);
+            Err(Stop::NoMemory)
+        }
     }
 }
 

@@ -1,1 +1,4 @@
 mod Payloads
+pub mod PathTexts
+pub mod Sendable
+mod WholeNumbers

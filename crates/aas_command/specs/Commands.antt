@@ -1,15 +1,35 @@
 -- Which commands are well formed, and the payloads in which they are kept: a tag byte, and then fields, each with its length as four bytes, greatest first, before
--- it. Documents are canonical texts, identifiers are UTF-8. This profile's own rule.
-use Rattle.std.specs.Prelude.{ℕ, List, [], ◌∷◌, ◌++◌, length, flat_map, ⊤}
+-- it. Documents and elements are canonical texts, values compact ones, identifiers and paths are UTF-8. This profile's own rule.
+use Rattle.std.specs.Prelude.{ℕ, ◌+◌, ◌≤◌, List, [], ◌∷◌, ◌++◌, length, flat_map, ⊤}
 use Rattle.std.specs.Int.{to_be_bytes, w32}
 use Rattle.std.specs.Str.{encode_utf8_all}
+use Rattle.serde_json.specs.Data.{Data, depth}
+use Rattle.serde_json.specs.Read.{max_depth}
+use Rattle.serde_json.specs.Written.{compact_text}
 use Rattle.aas_json_table.specs.TooDeep.{limits}
 use Rattle.aas_json_spelling.specs.Spells.{canonical_text}
-use Rattle.aas_json_mapping.specs.Trees.{asset_informations, concepts, shells, submodels}
+use Rattle.aas_json_spelling.specs.Values.{IsOrdered, HasWholeNumbers}
+use Rattle.aas_json_mapping.specs.Trees.{asset_informations, concepts, elements, shells, submodels}
+use Rattle.aas_model.specs.declared.path.PathStep.{PathStep}
+use Rattle.aas_path.specs.PathText.{path_text}
+use Rattle.aas_path_trees.specs.PathRule.{KeepsRule}
+use Rattle.aas_edit_laws.specs.Laws.{at_level}
 use Rattle.aas_command.specs.declared.command.Command.{Command}
-use Rattle.aas_command.specs.declared.command.Command.TheVariants.{CreateShell, CreateSubmodel, CreateConcept, ReplaceShell, ReplaceSubmodel, ReplaceConcept, DeleteShell, DeleteSubmodel, DeleteConcept, SetAsset}
+use Rattle.aas_command.specs.declared.command.Command.TheVariants.{CreateShell, CreateSubmodel, CreateConcept, ReplaceShell, ReplaceSubmodel, ReplaceConcept, DeleteShell, DeleteSubmodel, DeleteConcept, SetAsset, InsertElement, ReplaceElement, DeleteElement, UpdateValue}
 
--- what it brings is whole
+-- a path that can be written, or the empty one, which leads to the submodel
+abbrev pub IsPlace : List PathStep → Type 0
+IsPlace [] = ⊤
+IsPlace (s ∷ p) = KeepsRule (s ∷ p)
+
+-- A JSON value can be sent: names rise in it, as in each value that is read, its numbers are whole, and at most 127 arrays and objects nest. So its text, where it
+-- is UTF-8, is read as the same value.
+pub record IsSendable (v : Data) : Type 0 where
+  pub order : IsOrdered v
+  pub numbers : HasWholeNumbers v
+  pub shallow : depth v ≤ max_depth
+
+-- what it brings is whole, at its level, or can be sent, and its path can be written
 unfoldable pub IsWellFormed : Command → Type 0
 IsWellFormed (CreateShell d) = shells.IsWhole limits d
 IsWellFormed (CreateSubmodel d) = submodels.IsWhole limits d
@@ -21,6 +41,10 @@ IsWellFormed (DeleteShell id) = ⊤
 IsWellFormed (DeleteSubmodel id) = ⊤
 IsWellFormed (DeleteConcept id) = ⊤
 IsWellFormed (SetAsset shell asset) = asset_informations.IsWhole limits asset
+IsWellFormed (InsertElement id p e) = IsPlace p.steps × elements.IsWhole (at_level (length p.steps + 1)) e
+IsWellFormed (ReplaceElement id p e) = KeepsRule p.steps × elements.IsWhole (at_level (length p.steps)) e
+IsWellFormed (DeleteElement id p) = KeepsRule p.steps
+IsWellFormed (UpdateValue id p v) = IsPlace p.steps × IsSendable v
 
 -- a tag, and the fields behind it
 pub record Tagged : Type 0 where
@@ -41,6 +65,10 @@ tagged_of (DeleteShell id) = tagged 7 (encode_utf8_all id ∷ [])
 tagged_of (DeleteSubmodel id) = tagged 8 (encode_utf8_all id ∷ [])
 tagged_of (DeleteConcept id) = tagged 9 (encode_utf8_all id ∷ [])
 tagged_of (SetAsset shell asset) = tagged 10 (encode_utf8_all shell ∷ canonical_text asset_informations asset ∷ [])
+tagged_of (InsertElement id p e) = tagged 13 (encode_utf8_all id ∷ path_text p.steps ∷ canonical_text elements e ∷ [])
+tagged_of (ReplaceElement id p e) = tagged 14 (encode_utf8_all id ∷ path_text p.steps ∷ canonical_text elements e ∷ [])
+tagged_of (DeleteElement id p) = tagged 15 (encode_utf8_all id ∷ path_text p.steps ∷ [])
+tagged_of (UpdateValue id p v) = tagged 16 (encode_utf8_all id ∷ path_text p.steps ∷ compact_text v ∷ [])
 
 abbrev pub field : List ℕ → List ℕ
 field bytes = to_be_bytes w32 (length bytes) ++ bytes

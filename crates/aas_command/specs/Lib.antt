@@ -1,3 +1,4 @@
 pub mod Commands
+pub mod DataCode
 pub mod Encoding
 pub mod Refusals

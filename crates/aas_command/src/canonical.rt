@@ -1,14 +1,16 @@
-// Canonical texts of whole documents.
-ghost use Rattle.std.specs.Prelude.{◌≡◌, IfOk};
+// Canonical texts of whole documents and elements.
+ghost use Rattle.std.specs.Prelude.{◌≡◌, true, IfOk};
 ghost use Rattle.std.specs.Str.{IsUtf8};
 ghost use Rattle.aas_json_spelling.specs.Spells.{canonical_text};
-ghost use Rattle.aas_json_mapping.specs.Trees.{asset_informations, concepts, shells, submodels};
+ghost use Rattle.aas_json_mapping.specs.Trees.{asset_informations, concepts, elements, shells, submodels};
 ghost use Rattle.aas_json_table.specs.TooDeep.{limits};
+ghost use Rattle.aas_json_write.specs.Order.{element_in_order};
 
 use aas_json_write::{
-    whole_trees_are_in_order, write_asset_information, write_concept, write_shell, write_submodel,
+    whole_trees_are_in_order, write_asset_information, write_concept, write_element, write_shell,
+    write_submodel,
 };
-use aas_model::{AssetInformation, Concept, NoMemory, Shell, Submodel};
+use aas_model::{AssetInformation, Concept, Element, NoMemory, Shell, Submodel};
 use std::alloc::Global;
 
 /// The canonical text of a shell.
@@ -54,5 +56,16 @@ pub fn asset_text(alloc: Global, asset: &AssetInformation) -> Result<Vec<u8>, No
 {
     let mut text = Vec::new(alloc);
     write_asset_information(alloc, asset, &mut text)?;
+    Ok(text)
+}
+
+/// The canonical text of an element whose kept data is in order, as it is in each whole element and in each form of one.
+pub fn element_text(alloc: Global, element: &Element) -> Result<Vec<u8>, NoMemory>
+    requires { element_in_order element.now ≡ true }
+    ensures text { IfOk result (λ text. text.items ≡ canonical_text elements element.now) }
+    ensures utf8 { IfOk result (λ text. IsUtf8 text.items) }
+{
+    let mut text = Vec::new(alloc);
+    write_element(alloc, element, &mut text)?;
     Ok(text)
 }

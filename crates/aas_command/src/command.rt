@@ -1,4 +1,5 @@
-use aas_model::{AssetInformation, Concept, Shell, Submodel, Text};
+use crate::SentValue;
+use aas_model::{AssetInformation, Concept, Element, Path, Shell, Submodel, Text};
 
 /// A change of the repository.
 ///
@@ -39,5 +40,29 @@ pub enum Command {
     SetAsset {
         shell: Text,
         asset: AssetInformation,
+    },
+    /// Post an element: the last child of the element to which the path leads, or of the submodel where the path is empty.
+    InsertElement {
+        submodel: Text,
+        path: Path,
+        element: Element,
+    },
+    /// Put an element in the place of that to which the path leads.
+    ReplaceElement {
+        submodel: Text,
+        path: Path,
+        element: Element,
+    },
+    /// Delete the element to which the path leads.
+    DeleteElement {
+        submodel: Text,
+        path: Path,
+    },
+    /// Update the values of the element to which the path leads, or of the submodel where the path is empty, by the value form
+    /// that is sent, or a part of it (PatchSubmodelElementByPath and PatchSubmodel, ValueOnly).
+    UpdateValue {
+        submodel: Text,
+        path: Path,
+        value: SentValue,
     },
 }

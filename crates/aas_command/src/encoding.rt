@@ -1,14 +1,23 @@
 // Commands as payloads.
-ghost use Rattle.std.specs.Prelude.{◌≡◌, ◌++◌, [], ◌∷◌, IfErr, MatchResult, OnOk};
+ghost use Rattle.std.specs.Prelude.{◌≡◌, ◌++◌, [], ◌∷◌, IfErr, IfOk, MatchResult, OnOk};
 ghost use Rattle.std.specs.Str.{IsUtf8};
-ghost use Rattle.aas_command.specs.Commands.{IsWellFormed, bytes_of, field, payload_of, tagged};
+ghost use Rattle.aas_command.specs.Commands.{IsPlace, IsWellFormed, bytes_of, field, payload_of, tagged};
 ghost use Rattle.aas_command.specs.Encoding.{HasFields, IsFaultOf, IsField};
 ghost use Rattle.aas_command.specs.declared.command.Command.TheVariants.{SetAsset};
+ghost use Rattle.aas_json_mapping.specs.Trees.{elements};
+ghost use Rattle.aas_json_spelling.specs.Spells.{canonical_text};
+ghost use Rattle.aas_json_spelling.specs.Values.{HasWholeNumbers};
+ghost use Rattle.serde_json.specs.Written.{compact_text};
+ghost use Rattle.aas_json_table.specs.TooDeep.{Levels};
+ghost use Rattle.aas_path.specs.PathText.{path_text};
+ghost use Rattle.std.specs.Str.{encode_utf8_all};
 
-use crate::Command;
-use crate::canonical::{asset_text, concept_text, shell_text, submodel_text};
-use aas_model::{AssetInformation, NoMemory, Text};
+use crate::canonical::{asset_text, concept_text, element_text, shell_text, submodel_text};
+use crate::{Command, SentValue};
+use aas_json_write::whole_trees_are_in_order;
+use aas_model::{AssetInformation, Element, NoMemory, Path, Text};
 use aas_outside::Frame;
+use aas_path::print_path;
 use std::alloc::{AllocError, Global};
 
 /// Why a command has no frame.
@@ -80,6 +89,22 @@ fn payload(alloc: Global, command: &Command) -> Result<Vec<u8>, EncodeFault>
         Command::DeleteSubmodel { id } => one_field(alloc, 8, id.as_str().as_bytes()),
         Command::DeleteConcept { id } => one_field(alloc, 9, id.as_str().as_bytes()),
         Command::SetAsset { shell, asset } => asset_payload(alloc, shell, asset),
+        Command::InsertElement {
+            submodel,
+            path,
+            element,
+        } => element_payload(alloc, 13, submodel, path, element),
+        Command::ReplaceElement {
+            submodel,
+            path,
+            element,
+        } => element_payload(alloc, 14, submodel, path, element),
+        Command::DeleteElement { submodel, path } => path_payload(alloc, 15, submodel, path),
+        Command::UpdateValue {
+            submodel,
+            path,
+            value,
+        } => value_payload(alloc, submodel, path, value),
     }
 }
 
@@ -98,6 +123,85 @@ fn asset_payload(
     let mut payload = one_field(alloc, 10, shell.as_str().as_bytes())?;
     push_field(&mut payload, &asset_text(alloc, asset)?)?;
     Ok(payload)
+}
+
+/// The payload of a command on the element to which a path leads, with an element that is whole.
+#[tactic(auto, using(crate::proofs::Payloads::longer_by_third))]
+fn element_payload(
+    alloc: Global,
+    tag: u8,
+    submodel: &Text,
+    path: &Path,
+    element: &Element,
+) -> Result<Vec<u8>, EncodeFault>
+    requires path { IsPlace path.now.steps }
+    requires whole { (left : Levels) × elements.IsWhole left element.now }
+    ensures payload { MatchResult result
+        (λ payload. payload.items ≡ bytes_of (tagged tag
+        (encode_utf8_all submodel.now ∷ path_text path.now.steps ∷ canonical_text elements element.now ∷ [])))
+        (IsFaultOf (bytes_of (tagged tag
+        (encode_utf8_all submodel.now ∷ path_text path.now.steps ∷ canonical_text elements element.now ∷ [])))) }
+    ensures fields { OnOk result (IsField (encode_utf8_all submodel.now) × IsField (path_text path.now.steps)
+        × IsField (canonical_text elements element.now)) }
+{
+    whole_trees_are_in_order();
+    let mut payload = path_payload(alloc, tag, submodel, path)?;
+    push_field(&mut payload, &element_text(alloc, element)?)?;
+    Ok(payload)
+}
+
+/// The payload of the command that updates values.
+#[tactic(auto, using(crate::proofs::Payloads::longer_by_third))]
+fn value_payload(
+    alloc: Global,
+    submodel: &Text,
+    path: &Path,
+    value: &SentValue,
+) -> Result<Vec<u8>, EncodeFault>
+    requires path { IsPlace path.now.steps }
+    requires whole { HasWholeNumbers value.now }
+    ensures payload { MatchResult result
+        (λ payload. payload.items ≡ bytes_of (tagged 16
+        (encode_utf8_all submodel.now ∷ path_text path.now.steps ∷ compact_text value.now ∷ [])))
+        (IsFaultOf (bytes_of (tagged 16
+        (encode_utf8_all submodel.now ∷ path_text path.now.steps ∷ compact_text value.now ∷ [])))) }
+    ensures fields { OnOk result (IsField (encode_utf8_all submodel.now) × IsField (path_text path.now.steps)
+        × IsField (compact_text value.now)) }
+{
+    let mut payload = path_payload(alloc, 16, submodel, path)?;
+    push_field(&mut payload, &value.text(alloc)?)?;
+    Ok(payload)
+}
+
+/// The payload of a command on the element to which a path leads.
+#[tactic(auto, using(crate::proofs::Payloads::longer))]
+fn path_payload(
+    alloc: Global,
+    tag: u8,
+    submodel: &Text,
+    path: &Path,
+) -> Result<Vec<u8>, EncodeFault>
+    requires { IsPlace path.now.steps }
+    ensures payload { MatchResult result
+        (λ payload. payload.items ≡ bytes_of (tagged tag (encode_utf8_all submodel.now ∷ path_text path.now.steps ∷ [])))
+        (IsFaultOf (bytes_of (tagged tag (encode_utf8_all submodel.now ∷ path_text path.now.steps ∷ [])))) }
+    ensures fields { OnOk result (IsField (encode_utf8_all submodel.now) × IsField (path_text path.now.steps)) }
+{
+    let mut payload = one_field(alloc, tag, submodel.as_str().as_bytes())?;
+    push_field(&mut payload, &written(alloc, path)?)?;
+    Ok(payload)
+}
+
+/// The text of a path, which can be written.
+#[tactic(auto, using(crate::proofs::PathTexts::path_text_utf8))]
+fn written(alloc: Global, path: &Path) -> Result<Vec<u8>, NoMemory>
+    requires { IsPlace path.now.steps }
+    ensures text { IfOk result (λ text. text.items ≡ path_text path.now.steps) }
+    ensures utf8 { IfOk result (λ text. IsUtf8 text.items) }
+{
+    let mut text = Vec::new(alloc);
+    print_path(path, &mut text)?;
+    Ok(text)
 }
 
 /// The payload of a tag and one field, whose content is UTF-8.

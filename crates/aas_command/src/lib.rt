@@ -10,10 +10,12 @@ mod command;
 mod encoding;
 mod question;
 mod refusal;
+mod sent_value;
 mod text;
 
-pub use canonical::{asset_text, concept_text, shell_text, submodel_text};
+pub use canonical::{asset_text, concept_text, element_text, shell_text, submodel_text};
 pub use command::Command;
 pub use encoding::{EncodeFault, encode};
 pub use question::Question;
 pub use refusal::{Absent, Refusal};
+pub use sent_value::SentValue;

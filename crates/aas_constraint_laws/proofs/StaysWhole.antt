@@ -24,7 +24,7 @@ use Rattle.aas_constraint_laws.specs.Values.{without_values, bare, DifferInValue
 use Rattle.aas_constraint_laws.proofs.Bare.{made, bare_own, bare_out}
 use Rattle.aas_constraint_laws.proofs.Bridge.{law}
 
-abbrev Child : Type 0
+abbrev pub Child : Type 0
 Child = ℕ × Element
 
 -- ---- lists with another item in a place
@@ -47,10 +47,10 @@ map_set f (y ∷ xs) (suc i) x w at same = ap (λ l. f y ∷ l) (map_set f xs i 
 -- ---- what is said of an element and of all below it
 
 module _ {T : Type 0} (f : Element-F T → T) where
-  abbrev of : Element → T
+  abbrev pub of : Element → T
   of = fold-Element T f
 
-  abbrev over : Own → List T → T
+  abbrev pub over : Own → List T → T
   over o ts = f (record { common = o.common; payload = o.payload; role = o.role; kids = ts })
 
   of_out : (e : Element) → of e ≡ over (own_of e) (map of (kids_of e))
@@ -62,13 +62,13 @@ module _ {T : Type 0} (f : Element-F T → T) where
       ∙ ap (λ x. f (record { common = x.common; payload = x.payload; role = x.role; kids = map of x.kids })) (out-roll-Element (record { common = o.common; payload = o.payload; role = o.role; kids = ks }))
 
   -- it is the same with an element of which the same is said in another's place
-  same_with_child : (p : List PathStep) (ks : List Element) (k w : Element) → ((e : Element) → element_below p e ≡ Some k → of (with_below p e w) ≡ of e)
+  pub same_with_child : (p : List PathStep) (ks : List Element) (k w : Element) → ((e : Element) → element_below p e ≡ Some k → of (with_below p e w) ≡ of e)
       → (o : Option Child) → ((c : Child) → o ≡ Some c → slice_get ks c.0 ≡ Some c.1) → option_and_then (λ c. element_below p c.1) o ≡ Some k
       → map of (with_child (λ x. with_below p x w) ks o) ≡ map of ks
   same_with_child p ks k w h None at there = absurd (cc)
   same_with_child p ks k w h (Some c) at there = map_set of ks c.0 c.1 (with_below p c.1 w) (at c refl) (h c.1 there)
 
-  same_with : (p : List PathStep) (e k w : Element) → of w ≡ of k → element_below p e ≡ Some k → of (with_below p e w) ≡ of e
+  pub same_with : (p : List PathStep) (e k w : Element) → of w ≡ of k → element_below p e ≡ Some k → of (with_below p e w) ≡ of e
   unfolding element_below with_below
   same_with [] e k w same there = let is : e ≡ k = cc in same ∙ ap of (sym is)
   same_with (s ∷ p) e k w same there =
@@ -78,7 +78,7 @@ module _ {T : Type 0} (f : Element-F T → T) where
       ∙ sym (of_out e)
 
   -- and with the same element without its values, where they are no matter
-  abbrev AreNoMatter : Type 0
+  abbrev pub AreNoMatter : Type 0
   AreNoMatter = (o : Own) (ts : List T) → over (bare_own o) ts ≡ over o ts
 
   abbrev Known : Type 0
@@ -96,23 +96,23 @@ module _ {T : Type 0} (f : Element-F T → T) where
   same_bare : AreNoMatter → (e : Element) → of (bare e) ≡ of e
   same_bare no_matter = ind-Element (λ e. of (bare e) ≡ of e) (λ x y is. level no_matter (roll-Element x) y.kids (ap (λ z. z.kids) (out-roll-Element x ∙ sym is)))
 
-  same_changed : AreNoMatter → (e u : Element) → DifferInValues e u → of u ≡ of e
+  pub same_changed : AreNoMatter → (e u : Element) → DifferInValues e u → of u ≡ of e
   same_changed no_matter e u same = sym (same_bare no_matter u) ∙ ap of (sym same) ∙ same_bare no_matter e
 
 -- ---- places and levels
 
-abbrev levels_over : Element-F ℕ → ℕ
+abbrev pub levels_over : Element-F ℕ → ℕ
 levels_over e = suc (most e.kids)
 
 abbrev parts_over : Element-F Bool → Bool
 parts_over e = whole_common limits e.common && whole_payload limits e.payload && list_all (λ b. b) e.kids
 
-placed_alike : (c : Common) (x : Payload) (r : Role) (ks : List Placed)
+pub placed_alike : (c : Common) (x : Payload) (r : Role) (ks : List Placed)
     → placed_over (record { common = c; payload = without_values x; role = r; kids = ks }) ≡ placed_over (record { common = c; payload = x; role = r; kids = ks })
 placed_alike c p.Capability r ks = refl
 placed_alike c _ r ks = refl
 
-role_out : (e : Element) → (of placed_over e).role ≡ (out-Element e).role
+pub role_out : (e : Element) → (of placed_over e).role ≡ (out-Element e).role
 role_out e = ap (λ (z : Placed). z.role) (of_out placed_over e)
 
 -- ---- parts
@@ -121,18 +121,18 @@ all_parts : (ks : List Element) → list_all (λ b. b) (map (has_whole_parts lim
 all_parts [] = refl
 all_parts (k ∷ ks) = ap (λ b. has_whole_parts limits k && b) (all_parts ks)
 
-parts_of_kids : (e : Element) → has_whole_parts limits e ≡ true → list_all (has_whole_parts limits) (kids_of e) ≡ true
+pub parts_of_kids : (e : Element) → has_whole_parts limits e ≡ true → list_all (has_whole_parts limits) (kids_of e) ≡ true
 parts_of_kids e whole =
     let own : Bool = whole_common limits (out-Element e).common && whole_payload limits (out-Element e).payload in
     sym (all_parts (kids_of e)) ∙ (and_parts own (list_all (λ b. b) (map (has_whole_parts limits) (kids_of e))) (sym (of_out parts_over e) ∙ whole)).1
 
-parts_below_child : (p : List PathStep) (ks : List Element) (k : Element) → ((e : Element) → has_whole_parts limits e ≡ true → element_below p e ≡ Some k → has_whole_parts limits k ≡ true)
+pub parts_below_child : (p : List PathStep) (ks : List Element) (k : Element) → ((e : Element) → has_whole_parts limits e ≡ true → element_below p e ≡ Some k → has_whole_parts limits k ≡ true)
     → list_all (has_whole_parts limits) ks ≡ true → (o : Option Child) → ((c : Child) → o ≡ Some c → slice_get ks c.0 ≡ Some c.1) → option_and_then (λ c. element_below p c.1) o ≡ Some k
     → has_whole_parts limits k ≡ true
 parts_below_child p ks k h whole None at there = absurd (cc)
 parts_below_child p ks k h whole (Some c) at there = h c.1 (all_at (has_whole_parts limits) ks c.0 c.1 whole (at c refl)) there
 
-parts_below : (p : List PathStep) (e k : Element) → has_whole_parts limits e ≡ true → element_below p e ≡ Some k → has_whole_parts limits k ≡ true
+pub parts_below : (p : List PathStep) (e k : Element) → has_whole_parts limits e ≡ true → element_below p e ≡ Some k → has_whole_parts limits k ≡ true
 unfolding element_below
 parts_below [] e k whole there = let is : e ≡ k = cc in ap (has_whole_parts limits) (sym is) ∙ whole
 parts_below (s ∷ p) e k whole there =
@@ -140,7 +140,7 @@ parts_below (s ∷ p) e k whole there =
 
 -- ---- a whole child, and the submodel
 
-child_whole : (p : List PathStep) (k e u : Element) → is_whole_element limits k ≡ true → element_below p k ≡ Some e → DifferInValues e u → has_whole_parts limits u ≡ true
+pub child_whole : (p : List PathStep) (k e u : Element) → is_whole_element limits k ≡ true → element_below p k ≡ Some e → DifferInValues e u → has_whole_parts limits u ≡ true
     → is_whole_element limits (with_below p k u) ≡ is_whole_element limits k
 child_whole p k e u whole there same parts =
     let child = (and_parts (is_member (out-Element k).role) (is_whole_child limits k) whole).1 in
@@ -158,7 +158,7 @@ kids_whole p ks e u whole same parts None at there = absurd (cc)
 kids_whole p ks e u whole same parts (Some c) at there =
     all_set (is_whole_element limits) ks c.0 c.1 (with_below p c.1 u) (at c refl) (child_whole p c.1 e u (all_at (is_whole_element limits) ks c.0 c.1 whole (at c refl)) there same parts)
 
-stays_whole : (d : Submodel) (p : List PathStep) (e u : Element) → is_whole_submodel limits d ≡ true → element_at d p ≡ Some e → DifferInValues e u → has_whole_parts limits u ≡ true
+pub stays_whole : (d : Submodel) (p : List PathStep) (e u : Element) → is_whole_submodel limits d ≡ true → element_at d p ≡ Some e → DifferInValues e u → has_whole_parts limits u ≡ true
     → is_whole_submodel limits (with_element d p u) ≡ true
 stays_whole d [] e u whole there same parts = absurd (cc)
 stays_whole d (s ∷ p) e u whole there same parts =

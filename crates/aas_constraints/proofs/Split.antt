@@ -12,12 +12,13 @@ use Rattle.aas_reference.specs.Faults.{least, least_of}
 use Rattle.aas_reference.proofs.Faults.{AreAbove, Rise, least_of_both, least_of_each}
 use Rattle.aas_constraint_rules.specs.Attributes.{references_of, seen_of_submodel, seen_of_shell, seen_of_concept}
 use Rattle.aas_constraint_rules.specs.Faults.{broken, submodel_rules, shell_rules, concept_rules}
-use Rattle.aas_constraint_rules.specs.Rules.{ElementSentence, local, placed, holds, rules}
-use Rattle.aas_constraint_rules.specs.Sites.{Site}
+use Rattle.aas_constraint_rules.specs.Rules.{ElementSentence, local, placed, holds, holds_locally, rules}
+use Rattle.aas_constraint_rules.specs.Sentences.{holds_of}
+use Rattle.aas_constraint_rules.specs.Sites.{Own, Site}
 use Rattle.aas_constraint_parts.specs.References.{each_reference, reference_fault, references_fault}
 use Rattle.aas_constraint_parts.specs.Tests.{first_failed, tests}
 use Rattle.aas_constraint_parts.proofs.Tests.{first_failing}
-use Rattle.aas_constraints.specs.Own.{itself, least_broken, own_fault, own_element_fault}
+use Rattle.aas_constraints.specs.Own.{itself, at_place, least_broken, own_fault, own_element_fault, place_fault}
 
 -- ---- a table in two
 
@@ -69,15 +70,31 @@ no_references false rs = refl
 no_references true [] = refl
 no_references true (r ∷ rs) = no_references true rs
 
-in_two : (x : Site) (s : ElementSentence) → holds s x ≡ (itself s x && list_all (each_reference s) (references_of x.own))
-in_two x (local s) = refl
-in_two x (placed test) = no_references (test x) (references_of x.own)
+alone_in_two : (o : Own) (s : ElementSentence) → holds_locally s o ≡ (itself s o && list_all (each_reference s) (references_of o))
+alone_in_two o (local s) = refl
+alone_in_two o (placed test) = no_references true (references_of o)
+
+kept : (b : Bool) → b ≡ (b && true)
+kept false = refl
+kept true = refl
+
+placed_in_two : (x : Site) (s : ElementSentence) → holds s x ≡ (holds_locally s x.own && at_place s x)
+placed_in_two x (local s) = kept (holds_of (references_of x.own) x.own s)
+placed_in_two x (placed test) = refl
 
 failing_same : {S : Type 0} (test other : S → Bool) → ((s : S) → test s ≡ other s) → (rs : List (Rule S)) → filter (λ r. not (test r.sentence)) rs ≡ filter (λ r. not (other r.sentence)) rs
 failing_same test other h [] = refl
 failing_same test other h (r ∷ rs) = ap₂ (λ b l. cond (not b) (r ∷ l) l) (h r.sentence) (failing_same test other h rs)
 
-pub element_split : (x : Site) → first (broken x) ≡ least (own_element_fault x) (references_fault (references_of x.own))
+-- what an element breaks by itself
+pub local_split : (o : Own) → first (failing (λ s. holds_locally s o) rules) ≡ least (own_element_fault o) (references_fault (references_of o))
+local_split o =
+    ap (λ rs. first (map (λ r. r.number) rs)) (failing_same (λ s. holds_locally s o) (λ s. itself s o && list_all (each_reference s) (references_of o)) (alone_in_two o) rules)
+    ∙ split (λ s. itself s o) each_reference rules (references_of o) refl (λ r. refl)
+
+-- what it breaks at its place is the lesser of that and of what the place breaks
+pub element_split : (x : Site) → first (broken x) ≡ least (first (failing (λ s. holds_locally s x.own) rules)) (place_fault x)
 element_split x =
-    ap (λ rs. first (map (λ r. r.number) rs)) (failing_same (λ s. holds s x) (λ s. itself s x && list_all (each_reference s) (references_of x.own)) (in_two x) rules)
-    ∙ split (λ s. itself s x) each_reference rules (references_of x.own) refl (λ r. refl)
+    ap (λ rs. first (map (λ r. r.number) rs)) (failing_same (λ s. holds s x) (λ s. holds_locally s x.own && at_place s x) (placed_in_two x) rules)
+    ∙ least_of_both (λ s. holds_locally s x.own) (λ s. at_place s x) rules (rising (map (λ r. r.number) rules) refl)
+    ∙ ap (least (first (failing (λ s. holds_locally s x.own) rules))) (first_failing (λ s. at_place s x) rules)

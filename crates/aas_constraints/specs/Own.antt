@@ -1,22 +1,32 @@
 -- What is wanted of an element or a document itself, apart from its references.
-use Rattle.std.specs.Prelude.{ℕ, Bool, List, Option}
+use Rattle.std.specs.Prelude.{ℕ, Bool, true, List, Option}
 use Rattle.aas_model.specs.declared.reference.Reference.{Reference}
 use Rattle.aas_reference.specs.Rules.{Rule, failing, first}
 use Rattle.aas_constraint_rules.specs.Rules.{ElementSentence, local, placed, rules}
 use Rattle.aas_constraint_rules.specs.Sentences.{Sentence, holds_of}
-use Rattle.aas_constraint_rules.specs.Sites.{Site}
+use Rattle.aas_constraint_rules.specs.Sites.{Own, Site}
 use Rattle.aas_constraint_parts.specs.Tests.{first_failed, tests}
 
-abbrev pub itself : ElementSentence → Site → Bool
-itself (local s) x = s.itself x.own
-itself (placed test) x = test x
+-- what is wanted of an element alone, apart from its references
+abbrev pub itself : ElementSentence → Own → Bool
+itself (local s) o = s.itself o
+itself (placed test) o = true
+
+-- what is wanted of an element at its place
+abbrev pub at_place : ElementSentence → Site → Bool
+at_place (local s) x = true
+at_place (placed test) x = test x
 
 -- the least number that is broken apart from references
 abbrev pub own_fault : {D : Type 0} → List (Rule (Sentence D)) → D → Option ℕ
 own_fault rs d = first_failed (tests (λ s. s.itself d) rs)
 
-abbrev pub own_element_fault : Site → Option ℕ
-own_element_fault x = first_failed (tests (λ s. itself s x) rules)
+abbrev pub own_element_fault : Own → Option ℕ
+own_element_fault o = first_failed (tests (λ s. itself s o) rules)
+
+-- the least number that is broken by a place
+abbrev pub place_fault : Site → Option ℕ
+place_fault x = first_failed (tests (λ s. at_place s x) rules)
 
 -- the least number that is broken by a document with these references
 abbrev pub least_broken : {D : Type 0} → List (Rule (Sentence D)) → List Reference → D → Option ℕ

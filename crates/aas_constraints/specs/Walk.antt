@@ -5,9 +5,11 @@ use Rattle.aas_model.specs.declared.element.Element.{Element}
 use Rattle.aas_model.specs.declared.path.Fault.{Fault}
 use Rattle.aas_model.specs.declared.reference.Reference.{Reference}
 use Rattle.aas_constraint_rules.specs.Sites.{Own, own_of, Site, sites, sites_among, tree_of, trees}
-use Rattle.aas_constraint_rules.specs.Rules.{semantics_of, first_some, is_repeat}
-use Rattle.aas_reference.specs.Rules.{first}
-use Rattle.aas_constraint_rules.specs.Faults.{broken, faults_at}
+use Rattle.aas_constraint_rules.specs.Rules.{holds_locally, rules, semantics_of, first_some, is_repeat}
+use Rattle.aas_constraints.specs.declared.place.Scope.{Scope}
+use Rattle.aas_constraints.specs.declared.place.Scope.TheVariants.{Everything, Local}
+use Rattle.aas_reference.specs.Rules.{failing, first}
+use Rattle.aas_constraint_rules.specs.Faults.{broken, fault}
 
 abbrev pub above_of : Option (Bor Element) → Option Own
 above_of None = None
@@ -22,13 +24,21 @@ pub record Knows (b : List Own) (name : Option (List ℕ)) (again : Bool) (lead 
 abbrev pub place : Bool → Option Own → List Own → Own → Site
 place t a b o = record { in_template = t; path = []; above = a; before = b; own = o }
 
--- the least number that is broken at a place
-abbrev pub first_broken : Bool → Option Own → List Own → Own → Option ℕ
-first_broken t a b o = first (broken (place t a b o))
+-- the numbers of the sentences that count and don't hold at a place
+abbrev pub counted : Scope → Site → List ℕ
+counted Everything x = broken x
+counted Local x = failing (λ s. holds_locally s x.own) rules
 
--- the first fault in an element, and among the elements that come after the siblings b
-unfoldable pub found_in : Bool → Option Own → List Own → Element → Option Fault
-found_in t a b e = first (flat_map faults_at (sites t a b (tree_of e)))
+-- the least of them
+abbrev pub first_broken : Scope → Bool → Option Own → List Own → Own → Option ℕ
+first_broken c t a b o = first (counted c (place t a b o))
 
-unfoldable pub found_among : Bool → Option Own → List Own → List Element → Option Fault
-found_among t a b ks = first (flat_map faults_at (sites_among t a b (trees (map tree_of ks))))
+abbrev pub counted_at : Scope → Site → List Fault
+counted_at c x = map (fault x.path) (counted c x)
+
+-- the first fault that counts in an element, and among the elements that come after the siblings b
+unfoldable pub found_in : Scope → Bool → Option Own → List Own → Element → Option Fault
+found_in c t a b e = first (flat_map (counted_at c) (sites t a b (tree_of e)))
+
+unfoldable pub found_among : Scope → Bool → Option Own → List Own → List Element → Option Fault
+found_among c t a b ks = first (flat_map (counted_at c) (sites_among t a b (trees (map tree_of ks))))

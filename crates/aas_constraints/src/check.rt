@@ -4,10 +4,11 @@ ghost use Rattle.aas_reference.specs.Rules.{first};
 ghost use Rattle.aas_constraint_rules.specs.Sites.{Own};
 ghost use Rattle.aas_constraint_rules.specs.Faults.{concept_faults, element_faults, fault, faults, shell_faults};
 ghost use Rattle.aas_constraint_rules.specs.Sites.{own_of};
+ghost use Rattle.aas_constraint_laws.specs.Law.{local_faults};
 ghost use Rattle.aas_constraints.specs.Walk.{above_of, Knows, found_in, found_among};
 
 use crate::documents::{concept_fault, is_template, shell_fault, submodel_fault};
-use crate::place::{first_broken, first_semantics, step_to};
+use crate::place::{Scope, first_broken, first_semantics, step_to};
 use aas_constraint_parts::meet_name;
 use aas_model::{Concept, Element, Fault, Many, NoMemory, Path, Reference, Shell, Submodel};
 use std::alloc::Global;
@@ -25,39 +26,41 @@ fn fault_here(alloc: Global, number: u16) -> Fault
     }
 }
 
-/// The first fault in an element, of whose earlier siblings is known what `Knows` says.
+/// The first fault of those that count in an element, of whose earlier siblings is known what `Knows` says.
 #[cycle(check)]
 fn check_in(
     alloc: Global,
     e: &Element,
+    scope: Scope,
     in_template: bool,
     above: Option<&Element>,
     is_repeat: bool,
     lead: Option<&Reference>,
 ) -> Result<Option<Fault>, NoMemory>
-    ensures { IfOk result (λ f. (b : List Own) → Knows b (own_of e.now).common.id_short is_repeat (option_copied lead.entry) → f ≡ found_in in_template (above_of above.entry) b e.now) }
+    ensures { IfOk result (λ f. (b : List Own) → Knows b (own_of e.now).common.id_short is_repeat (option_copied lead.entry) → f ≡ found_in scope in_template (above_of above.entry) b e.now) }
 {
-    match first_broken(alloc, e, in_template, above, is_repeat, lead)? {
+    match first_broken(alloc, e, scope, in_template, above, is_repeat, lead)? {
         Some(number) => Ok(Some(fault_here(alloc, number))),
-        None => Ok(check_among(alloc, &e.kids, in_template, Some(e))?),
+        None => Ok(check_among(alloc, &e.kids, scope, in_template, Some(e))?),
     }
 }
 
-/// The first fault among the children of an element or a document.
+/// The first fault of those that count among the children of an element or a document.
 #[cycle(check)]
 fn check_among(
     alloc: Global,
     kids: &Many<Element>,
+    scope: Scope,
     in_template: bool,
     above: Option<&Element>,
 ) -> Result<Option<Fault>, NoMemory>
-    ensures { IfOk result (λ f. f ≡ found_among in_template (above_of above.entry) [] kids.now) }
+    ensures { IfOk result (λ f. f ≡ found_among scope in_template (above_of above.entry) [] kids.now) }
 {
     let mut names = BTreeSet::new(alloc);
     let mut lead = None;
     for (place, kid) in kids.as_slice().iter().enumerate() {
         let is_repeat = meet_name(&mut names, &kid.common.id_short)?;
-        if let Some(mut fault) = check_in(alloc, kid, in_template, above, is_repeat, lead)? {
+        if let Some(mut fault) = check_in(alloc, kid, scope, in_template, above, is_repeat, lead)? {
             fault.path.steps.insert(0, step_to(above, place, kid)?)?;
             return Ok(Some(fault));
         }
@@ -70,13 +73,21 @@ fn check_among(
 pub fn check_element(alloc: Global, e: &Element) -> Result<Option<Fault>, NoMemory>
     ensures { IfOk result (λ f. f ≡ first (element_faults e.now)) }
 {
-    match check_in(alloc, e, true, None, false, None)? {
+    match check_in(alloc, e, Scope::Everything, true, None, false, None)? {
         Some(mut fault) => {
             fault.path.steps.insert(0, step_to(None, 0, e)?)?;
             Ok(Some(fault))
         }
         None => Ok(None),
     }
+}
+
+/// The first fault that an element, or what lies below it, has by itself, wherever it stands. Its path begins at the element: a
+/// fault of the element itself has the empty path.
+pub fn local_fault(alloc: Global, element: &Element) -> Result<Option<Fault>, NoMemory>
+    ensures { IfOk result (λ f. f ≡ first (local_faults element.now)) }
+{
+    Ok(check_in(alloc, element, Scope::Local, true, None, false, None)?)
 }
 
 /// The first fault of a submodel: at the submodel or at the first faulty element in preorder, there with the least number.
@@ -86,7 +97,7 @@ pub fn check_submodel(alloc: Global, d: &Submodel) -> Result<Option<Fault>, NoMe
 {
     match submodel_fault(alloc, d)? {
         Some(number) => Ok(Some(fault_here(alloc, number))),
-        None => Ok(check_among(alloc, &d.kids, is_template(d.kind), None)?),
+        None => Ok(check_among(alloc, &d.kids, Scope::Everything, is_template(d.kind), None)?),
     }
 }
 

@@ -5,7 +5,7 @@ ghost use Rattle.aas_constraint_rules.specs.Attributes.{lang_texts_of, payload_l
 ghost use Rattle.aas_constraint_rules.specs.Decided.{is_string};
 ghost use Rattle.aas_constraint_rules.specs.Rules.{agree, element_has_form, is_managed, semantics_have_main, stands_in_operation, texts_are_strings};
 ghost use Rattle.aas_constraint_rules.specs.Sites.{Own, stands_in_list};
-ghost use Rattle.aas_constraints.specs.Own.{own_element_fault};
+ghost use Rattle.aas_constraints.specs.Own.{own_element_fault, place_fault};
 ghost use Rattle.aas_constraint_parts.specs.References.{references_fault};
 ghost use Rattle.aas_constraint_rules.specs.Sites.{own_of};
 ghost use Rattle.aas_constraints.specs.Walk.{Knows, above_of, place};
@@ -148,41 +148,51 @@ fn variable_is_new(above: Option<&Element>, is_repeat: bool) -> bool
     !stands_in_operation(above) || !is_repeat
 }
 
-/// The least number that is broken at the element, but for its references, of whose earlier siblings is known what `Knows`
-/// says.
-pub(crate) fn own_fault(
-    alloc: Global,
-    e: &Element,
-    in_template: bool,
-    above: Option<&Element>,
-    is_repeat: bool,
-    lead: Option<&Reference>,
-) -> Result<Option<u16>, NoMemory>
-    ensures { IfOk result (λ n. (b : List Own) → Knows b (own_of e.now).common.id_short is_repeat (option_copied lead.entry) → n ≡ own_element_fault (place in_template (above_of above.entry) b (own_of e.now))) }
+/// The least number that the element breaks by itself, but for its references.
+pub(crate) fn own_fault(alloc: Global, e: &Element) -> Result<Option<u16>, NoMemory>
+    ensures { IfOk result (λ n. n ≡ own_element_fault (own_of e.now)) }
 {
     let common = &e.common;
     let qualifiers = common.qualifiers.as_slice();
-    let semantics = common.semantics.semantic_id.as_ref();
     Ok(first_failed(&[
         (0, element_has_form(e)),
         (2, id_short_is_name(&common.id_short)),
         (14, is_managed(&e.payload)),
         (20, qualifiers_have_form(qualifiers)),
         (21, qualifiers_differ(alloc, qualifiers)?),
-        (22, name_is_new(above, is_repeat)),
         (77, extensions_differ(alloc, common.extensions.as_slice())?),
+        (118, semantics_have_main(e)),
+        (130, texts_are_strings(e)),
+        (133, subjects_are_external(specific_asset_ids(&e.payload))),
+    ]))
+}
+
+/// The least number that the element breaks at its place, of whose earlier siblings is known what `Knows` says.
+pub(crate) fn place_fault(
+    e: &Element,
+    in_template: bool,
+    above: Option<&Element>,
+    is_repeat: bool,
+    lead: Option<&Reference>,
+) -> Option<u16>
+    ensures { (b : List Own) → Knows b (own_of e.now).common.id_short is_repeat (option_copied lead.entry) → result ≡ place_fault (place in_template (above_of above.entry) b (own_of e.now)) }
+{
+    let common = &e.common;
+    let semantics = common.semantics.semantic_id.as_ref();
+    first_failed(&[
+        (22, name_is_new(above, is_repeat)),
         (107, agree(list_semantics(above), semantics)),
         (108, has_list_kind(above, e.payload.kind())),
         (109, has_list_value_type(above, &e.payload)),
         (114, has_first_semantics(above, lead, semantics)),
         (117, is_named(above, &common.id_short)),
-        (118, semantics_have_main(e)),
         (120, is_unnamed_in_list(above, &common.id_short)),
-        (129, is_template_or_none(in_template, qualifiers)),
-        (130, texts_are_strings(e)),
-        (133, subjects_are_external(specific_asset_ids(&e.payload))),
+        (
+            129,
+            is_template_or_none(in_template, common.qualifiers.as_slice()),
+        ),
         (134, variable_is_new(above, is_repeat)),
-    ]))
+    ])
 }
 
 /// The least number that the references of the element break.

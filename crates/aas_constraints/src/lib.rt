@@ -10,4 +10,5 @@ mod documents;
 mod element;
 mod place;
 
-pub use check::{check_concept, check_element, check_shell, check_submodel};
+pub use check::{check_concept, check_element, check_shell, check_submodel, local_fault};
+pub use place::step_to;

@@ -2,6 +2,7 @@ use crate::changes::{Work, parsed, patched, worked};
 use crate::document::{read_at_level, written};
 use crate::faults::fault_of;
 use crate::forms::form_of;
+use crate::modifiers::{Modifier, paths_at, reference_at, shown};
 use crate::parts::{part_of, sameness};
 use crate::text::{text, text_of};
 use aas_command::Refusal;
@@ -38,6 +39,19 @@ fn called(alloc: Global, call: &str, input: &str) -> Result<String, Refusal> {
         "value" => form_of::<Element>(alloc, input, Extent::WithBlobValue),
         "value without blobs" => form_of::<Element>(alloc, input, Extent::WithoutBlobValue),
         "value of submodel" => form_of::<Submodel>(alloc, input, Extent::WithBlobValue),
+        _ => modified(alloc, call, input),
+    }
+}
+
+/// The same of the calls of modifiers.
+fn modified(alloc: Global, call: &str, input: &str) -> Result<String, Refusal> {
+    match call {
+        "metadata" => shown::<Element>(alloc, Modifier::Metadata, input),
+        "core" => shown::<Element>(alloc, Modifier::Core, input),
+        "without blobs" => shown::<Element>(alloc, Modifier::WithoutBlobs, input),
+        "metadata of submodel" => shown::<Submodel>(alloc, Modifier::Metadata, input),
+        "core of submodel" => shown::<Submodel>(alloc, Modifier::Core, input),
+        "submodel without blobs" => shown::<Submodel>(alloc, Modifier::WithoutBlobs, input),
         _ => called_at(alloc, call, input),
     }
 }
@@ -48,6 +62,8 @@ fn called_at(alloc: Global, call: &str, input: &str) -> Result<String, Refusal> 
     match call {
         "read element" => read_at_level(alloc, place, json),
         "path" => parsed(alloc, place),
+        "reference" => reference_at(alloc, place, json),
+        "paths" => paths_at(alloc, place, json),
         "find" => worked(alloc, Work::Find, place, json),
         "insert" => worked(alloc, Work::Insert, place, json),
         "replace" => worked(alloc, Work::Replace, place, json),

@@ -64,7 +64,7 @@ fn worked_in(
     }
 }
 
-fn missing(alloc: Global, missing: &Missing) -> Result<String, Refusal> {
+pub(crate) fn missing(alloc: Global, missing: &Missing) -> Result<String, Refusal> {
     Ok(format!(in alloc; "missing after {}", missing.steps)?)
 }
 

@@ -8,6 +8,7 @@ mod changes;
 mod document;
 mod faults;
 mod forms;
+mod modifiers;
 mod parts;
 mod text;
 

@@ -1,60 +1,46 @@
-// One example: a run, and what is expected of it.
-ghost use Rattle.std.specs.Prelude.{◌≤◌};
-
+// An example, as a line says it.
+use crate::disk::are_columns;
+use crate::not_run::NotRun;
 use aas_model::{Many, NoMemory, Text};
-use aas_outside::{MemLink, MemWire};
-use aas_server::run;
 use serde_json::Value;
 use std::alloc::Global;
 
-/// The pieces in which the console moves its bytes.
-const PIECES: [usize; 3] = [1, 7, 4096];
+#[derive(Drop)]
+pub(crate) struct Example<'a> {
+    pub words: Many<Text>,
+    pub status: u8,
+    /// What the console gets.
+    pub console: String,
+    /// What the console is given.
+    pub input: String,
+    /// What the line says of the disk.
+    pub columns: &'a str,
+}
 
-/// The most bytes that the console takes.
-const CAPACITY: usize = 1_000_000;
-
-/// What the example in a line gives, where that isn't what is expected.
-pub(crate) fn failure(alloc: Global, line: &str) -> Result<Option<String>, NoMemory> {
-    let (words, rest) = line.split_once('\t').unwrap_or((line, ""));
-    let (status, rest) = rest.split_once('\t').unwrap_or((rest, ""));
-    let (expected, input) = rest.split_once('\t').unwrap_or((rest, ""));
-    let (Some(expected), Some(input)) = (string(alloc, expected)?, string(alloc, input)?) else {
-        return Ok(Some(String::from_str(alloc, "no JSON string")?));
-    };
-    let words = words_of(alloc, words)?;
-    for piece in PIECES {
-        let given = given_in_pieces(alloc, &words, &input, piece)?;
-        if given.0 != status.parse().unwrap_or(u8::MAX) || given.1.as_str() != expected.as_str() {
-            return Ok(Some(given.1));
+impl<'a> Example<'a> {
+    pub(crate) fn read(alloc: Global, line: &'a str) -> Result<Example<'a>, NotRun> {
+        let (words, rest) = line.split_once('\t').unwrap_or((line, ""));
+        let (status, rest) = rest.split_once('\t').unwrap_or((rest, ""));
+        let (console, rest) = rest.split_once('\t').unwrap_or((rest, ""));
+        let (input, columns) = rest.split_once('\t').unwrap_or((rest, ""));
+        if !are_columns(columns) {
+            return Err(NotRun::Unreadable);
         }
+        Ok(Example {
+            status: status.parse().map_err(|_| NotRun::Unreadable)?,
+            words: words_of(alloc, words)?,
+            console: string(alloc, console)?,
+            input: string(alloc, input)?,
+            columns,
+        })
     }
-    Ok(None)
 }
 
-/// The status of a run, and what the console gets.
-fn given_in_pieces(
-    alloc: Global,
-    words: &Many<Text>,
-    input: &str,
-    piece: usize,
-) -> Result<(u8, String), NoMemory>
-    requires { 1 ≤ piece }
-{
-    let mut console = MemLink::new(alloc, input.as_bytes(), piece, CAPACITY, &[])?;
-    let mut wire = MemWire::new(alloc, 1, 0, &[])?;
-    let status = run(alloc, words, &mut console, &mut wire);
-    let sent = match str::from_utf8(console.sent()) {
-        Ok(sent) => String::from_str(alloc, sent)?,
-        Err(_) => String::from_str(alloc, "not UTF-8")?,
-    };
-    Ok((status, sent))
-}
-
-/// The text that a JSON string spells, or `None` where it is none.
-fn string(alloc: Global, json: &str) -> Result<Option<String>, NoMemory> {
+/// The text that a JSON string spells.
+fn string(alloc: Global, json: &str) -> Result<String, NotRun> {
     match Value::from_slice(alloc, json.as_bytes()) {
-        Ok(Value::String(text)) => Ok(Some(String::from_str(alloc, text.as_str())?)),
-        _ => Ok(None),
+        Ok(Value::String(text)) => Ok(String::from_str(alloc, text.as_str())?),
+        _ => Err(NotRun::Unreadable),
     }
 }
 

@@ -1,17 +1,26 @@
 //! Worked examples of whole runs. Each line of the input is an example: the words of the command line, the status, what the console gets and what
-//! it is given, with tabs between them; the last two are JSON strings. Each is run with its bytes in pieces of three sizes. Printed are the
-//! examples that give something else, and how many there are in all.
+//! it is given, with tabs between them; the last two are JSON strings. Further columns say what its disk begins with, which of its calls fail and
+//! what the run leaves (`disk.rt`). Each is run with its bytes in pieces of three sizes. Printed are the examples that give something else, and how
+//! many there are in all.
 
 #![tactic(auto)]
 
+mod disk;
 mod example;
+mod not_run;
+mod runs;
 
-use crate::example::failure;
-use aas_model::NoMemory;
+use crate::example::Example;
+use crate::not_run::NotRun;
+use crate::runs::Runs;
+use std::alloc::Global;
 use std::io::{self, BufRead, BufReader};
 
 fn main(rt: HostRuntime) -> io::Result<()> {
     let alloc = rt.alloc();
+    let Ok(mut runs) = runs_in_pieces(alloc) else {
+        return println!(rt; "no memory");
+    };
     let mut count = 0u64;
     for (before, line) in BufReader::new(alloc, rt.reader())?.lines(alloc).enumerate() {
         let line = line?;
@@ -19,12 +28,34 @@ fn main(rt: HostRuntime) -> io::Result<()> {
             continue;
         }
         count = count.saturating_add(1);
-        match failure(alloc, &line) {
+        let number = before.saturating_add(1);
+        match failure(alloc, &line, &mut runs) {
             Ok(None) => (),
-            Ok(Some(given)) => println!(rt; "line {}: {given}", before.saturating_add(1))?,
-            Err(NoMemory) => println!(rt; "line {}: no memory", before.saturating_add(1))?,
+            Ok(Some(given)) => println!(rt; "line {number}: {given}")?,
+            Err(NotRun::Unreadable) => println!(rt; "line {number}: not readable")?,
+            Err(NotRun::NoMemory) => println!(rt; "line {number}: no memory")?,
         }
     }
     println!(rt; "{count} examples")?;
     Ok(())
+}
+
+/// Runs in pieces of three sizes.
+fn runs_in_pieces(alloc: Global) -> Result<Vec<Runs>, NotRun> {
+    let mut runs = Vec::new(alloc);
+    for piece in [1, 7, 4096] {
+        runs.push(Runs::new(alloc, piece)?)?;
+    }
+    Ok(runs)
+}
+
+/// What the example in a line gives, where that isn't what is expected.
+fn failure(alloc: Global, line: &str, runs: &mut [Runs]) -> Result<Option<String>, NotRun> {
+    let example = Example::read(alloc, line)?;
+    for in_pieces in runs.iter_mut() {
+        if let Some(given) = in_pieces.failure(alloc, &example)? {
+            return Ok(Some(given));
+        }
+    }
+    Ok(None)
 }

@@ -1,4 +1,4 @@
-mod Disks
+pub mod Disks
 pub mod Gates
 mod Heads
 mod Images

@@ -10,3 +10,4 @@ pub mod PathSteps
 pub mod PlaceNumbers
 pub mod PlaceSteps
 pub mod RunsFound
+pub mod Utf8

@@ -24,7 +24,8 @@ pub enum InsertFault {
     NoMemory,
 }
 
-fn role_within(payload: &Payload) -> Option<Role>
+/// The role of a new child of an element of these attributes, or `None` where it takes none.
+pub fn role_within(payload: &Payload) -> Option<Role>
     ensures { result ≡ role_within payload.now }
 {
     match payload {

@@ -5,7 +5,7 @@ ghost use Rattle.aas_path_trees.specs.ElementAt.{is_text, place_named, place_wit
 use aas_model::{Element, PathStep, Payload, Text};
 
 /// Whether the children of the element are entered by their places.
-pub(crate) fn is_list(element: &Element) -> bool
+pub fn is_list(element: &Element) -> bool
     ensures { result ≡ is_list element.now }
 {
     matches!(element.payload, Payload::SubmodelElementList { .. })
@@ -20,7 +20,8 @@ fn has_name(element: &Element, name: &Text) -> bool
     }
 }
 
-fn place_named(kids: &[Element], name: &Text) -> Option<usize>
+/// The place of the first of the elements that has the idShort.
+pub fn place_named(kids: &[Element], name: &Text) -> Option<usize>
     ensures { result ≡ place_named name.now kids.now }
 {
     kids.iter().position(|kid| has_name(kid, name))
@@ -38,7 +39,7 @@ fn place_within(kids: &[Element], place: u64) -> Option<usize>
 
 /// The place to which the step leads among the children of a list or of something else.
 #[tactic(auto, unfolding(aas_path_trees::specs::ElementAt::place_of))]
-pub(crate) fn place_of(in_list: bool, step: &PathStep, kids: &[Element]) -> Option<usize>
+pub fn place_of(in_list: bool, step: &PathStep, kids: &[Element]) -> Option<usize>
     ensures { result ≡ place_of in_list step.now kids.now }
 {
     match step {

@@ -1,5 +1,5 @@
 -- Canonical texts and the trees that they are read as.
-use Rattle.std.proofs.Common.{◌≡◌, ◌≢◌, ◌⊎◌, ⊎_elim, ℕ, List, Option, Some, None, Result, Ok, Err, sym, ◌∙◌, ap, subst}
+use Rattle.std.proofs.Common.{◌≡◌, ◌≢◌, ◌≤◌, ◌⊎◌, ⊎_elim, arith, ℕ, List, Option, Some, None, Result, Ok, Err, sym, ◌∙◌, ap, subst}
 use Rattle.std.specs.Prelude.{⊤}
 use Rattle.std.specs.Str.{IsUtf8}
 use Rattle.std.proofs.lemmas.Option.{same_Some}
@@ -7,32 +7,36 @@ use Rattle.std.proofs.Math.Nat.{le_refl}
 use Rattle.serde_json.specs.Data.{Data}
 use Rattle.aas_model.specs.declared.read_fault.ReadFault.{ReadFault}
 use Rattle.aas_model.specs.declared.read_fault.ReadFault.TheVariants.{NoMemory}
-use Rattle.aas_json_table.specs.TooDeep.{limits}
+use Rattle.aas_json_table.specs.TooDeep.{Levels, limits}
 use Rattle.aas_json_spelling.specs.Reading.{reading}
 use Rattle.aas_json_spelling.specs.Reads.{ReadsIf, ReadsBytes, ReadsEachIf, ReadsEachOfBytes}
 use Rattle.aas_json_spelling.specs.Spells.{Trees, Spells, IsWithinLimits, canonical_text}
 use Rattle.aas_json_spelling.proofs.Laws.{Laws, one_tree, reads_back}
+use Rattle.aas_edit_laws.specs.Laws.{at_level}
 use Rattle.aas_record.specs.Forms.{IsCanonical}
 
-within : IsWithinLimits limits
-within = record { elements = le_refl _; references = le_refl _; kept = le_refl _ }
+pub at_limits : IsWithinLimits limits
+at_limits = record { elements = le_refl _; references = le_refl _; kept = le_refl _ }
+
+pub within_level : (n : ℕ) → 1 ≤ n → IsWithinLimits (at_level n)
+within_level n from = record { elements = omega (arith, from); references = le_refl _; kept = le_refl _ }
 
 -- what is read is whole
-pub whole_read : {A : Type 0} (trees : Trees A) (t : A) (bytes : List ℕ) → ReadsBytes trees limits (Ok t) bytes → trees.IsWhole limits t
-whole_read {A = A} trees t bytes reads = by_reading (reading bytes) reads
+pub whole_read : {A : Type 0} (trees : Trees A) (left : Levels) (t : A) (bytes : List ℕ) → ReadsBytes trees left (Ok t) bytes → trees.IsWhole left t
+whole_read {A = A} trees left t bytes reads = by_reading (reading bytes) reads
   where
-    by_reading : (o : Option Data) → ReadsIf {A = A} trees limits (Ok t) o → trees.IsWhole limits t
+    by_reading : (o : Option Data) → ReadsIf {A = A} trees left (Ok t) o → trees.IsWhole left t
     by_reading None r = absurd (⊎_elim (λ e. cc) (λ e. cc) r)
     by_reading (Some j) r = r.whole
 
 -- what a reader says that answers the tree whose canonical text it is given
-abbrev pub Answered : {A : Type 0} → Trees A → Result A ReadFault → List ℕ → Type 0
-Answered trees result bytes = (form : IsCanonical trees limits bytes) → (result ≡ Ok form.1.0) ⊎ (result ≡ Err NoMemory)
+abbrev pub Answered : {A : Type 0} → Trees A → Levels → Result A ReadFault → List ℕ → Type 0
+Answered trees left result bytes = (form : IsCanonical trees left bytes) → (result ≡ Ok form.1.0) ⊎ (result ≡ Err NoMemory)
 
 -- where it answers another tree, or a fault, it was given none
-pub another_tree : {A : Type 0} (trees : Trees A) (result : Result A ReadFault) (t : A) (text bytes : List ℕ) → Answered trees result bytes → result ≡ Ok t
-    → text ≡ canonical_text trees t → text ≢ bytes → ¬ (IsCanonical trees limits bytes)
-another_tree trees result t text bytes answered read is differs form = ⊎_elim
+pub another_tree : {A : Type 0} (trees : Trees A) (left : Levels) (result : Result A ReadFault) (t : A) (text bytes : List ℕ) → Answered trees left result bytes → result ≡ Ok t
+    → text ≡ canonical_text trees t → text ≢ bytes → ¬ (IsCanonical trees left bytes)
+another_tree trees left result t text bytes answered read is differs form = ⊎_elim
     (λ e. let same : t ≡ form.1.0 = cc in differs (is ∙ ap (canonical_text trees) same ∙ sym form.1.2))
     (λ e. cc)
     (answered form)
@@ -42,21 +46,21 @@ abbrev pub IsOfInput : ReadFault → Type 0
 IsOfInput NoMemory = ⊥
 IsOfInput fault = ⊤
 
-pub a_fault : {A : Type 0} (trees : Trees A) (result : Result A ReadFault) (fault : ReadFault) (bytes : List ℕ) → Answered trees result bytes → result ≡ Err fault → IsOfInput fault
-    → ¬ (IsCanonical trees limits bytes)
-a_fault trees result fault bytes answered read of_input form = ⊎_elim (λ e. cc) (λ e. let same : fault ≡ NoMemory = cc in subst IsOfInput same of_input) (answered form)
+pub a_fault : {A : Type 0} (trees : Trees A) (left : Levels) (result : Result A ReadFault) (fault : ReadFault) (bytes : List ℕ) → Answered trees left result bytes → result ≡ Err fault → IsOfInput fault
+    → ¬ (IsCanonical trees left bytes)
+a_fault trees left result fault bytes answered read of_input form = ⊎_elim (λ e. cc) (λ e. let same : fault ≡ NoMemory = cc in subst IsOfInput same of_input) (answered form)
 
-module _ {A : Type 0} (trees : Trees A) (Shape : A → Type 0) (laws : Laws trees Shape) where
+module _ {A : Type 0} (trees : Trees A) (Shape : A → Type 0) (laws : Laws trees Shape) (left : Levels) (within : IsWithinLimits left) where
   -- a reader answers the tree whose canonical text it is given
-  pub answers : (result : Result A ReadFault) (bytes : List ℕ) → ReadsEachOfBytes trees limits result bytes → Answered trees result bytes
+  pub answers : (result : Result A ReadFault) (bytes : List ℕ) → ReadsEachOfBytes trees left result bytes → Answered trees left result bytes
   answers result bytes each (utf8, (t, whole, same)) =
-      let read = reads_back trees Shape laws limits t within whole (subst IsUtf8 same utf8) in
-      (subst (λ o. ReadsEachIf trees limits result o) (ap reading same ∙ read.1) each) t read.2
+      let read = reads_back trees Shape laws left t within whole (subst IsUtf8 same utf8) in
+      (subst (λ o. ReadsEachIf trees left result o) (ap reading same ∙ read.1) each) t read.2
 
   -- whole trees of one canonical text are the same
-  pub same_by_text : (s t : A) → trees.IsWhole limits s → trees.IsWhole limits t → IsUtf8 (canonical_text trees s) → canonical_text trees s ≡ canonical_text trees t → s ≡ t
+  pub same_by_text : (s t : A) → trees.IsWhole left s → trees.IsWhole left t → IsUtf8 (canonical_text trees s) → canonical_text trees s ≡ canonical_text trees t → s ≡ t
   same_by_text s t whole_s whole_t utf8 same =
-      let a = reads_back trees Shape laws limits s within whole_s utf8 in
-      let b = reads_back trees Shape laws limits t within whole_t (subst IsUtf8 same utf8) in
+      let a = reads_back trees Shape laws left s within whole_s utf8 in
+      let b = reads_back trees Shape laws left t within whole_t (subst IsUtf8 same utf8) in
       let values : b.0 ≡ a.0 = same_Some _ _ (sym b.1 ∙ ap reading (sym same) ∙ a.1) in
-      one_tree trees Shape laws limits a.0 s t a.2 (subst (λ j. Spells trees limits j t) values b.2)
+      one_tree trees Shape laws left a.0 s t a.2 (subst (λ j. Spells trees left j t) values b.2)

@@ -1,5 +1,5 @@
 -- Fields are read in one way, and go wrong at one place.
-use Rattle.std.proofs.Common.{◌≡◌, ◌⊎◌, ⊎_elim, ℕ, List, [], ◌∷◌, ◌++◌, ◌+◌, ◌<◌, length, sym, ◌∙◌, ap, subst, arith, w32}
+use Rattle.std.proofs.Common.{◌≡◌, ⊎_elim, ℕ, List, [], ◌∷◌, ◌++◌, ◌+◌, ◌<◌, length, sym, ◌∙◌, ap, subst, arith, w32}
 use Rattle.std.specs.Prelude.{take, drop}
 use Rattle.std.specs.Int.{to_be_bytes, from_be_bytes}
 use Rattle.std.proofs.lemmas.Nat.{from_be_bytes-to_be_bytes_4}

@@ -7,9 +7,9 @@ use Rattle.aas_json_spelling.specs.Lists.{Each}
 use Rattle.aas_command.specs.Commands.{IsWellFormed, bytes_of, field, payload_of, tagged, tagged_of}
 use Rattle.aas_command.specs.Encoding.{HasFields, IsField}
 use Rattle.aas_command.specs.declared.command.Command.{Command}
-use Rattle.aas_command.specs.declared.command.Command.TheVariants.{CreateShell, CreateSubmodel, CreateConcept, ReplaceShell, ReplaceSubmodel, ReplaceConcept, DeleteShell, DeleteSubmodel, DeleteConcept, SetAsset}
+use Rattle.aas_command.specs.declared.command.Command.TheVariants.{CreateShell, CreateSubmodel, CreateConcept, ReplaceShell, ReplaceSubmodel, ReplaceConcept, DeleteShell, DeleteSubmodel, DeleteConcept, SetAsset, InsertElement, ReplaceElement, DeleteElement, UpdateValue}
 use Rattle.aas_record.specs.Fields.{Begins}
-use Rattle.aas_record.specs.Forms.{Form, identifier, shell, submodel, concept, asset_information, HasForm, forms_of}
+use Rattle.aas_record.specs.Forms.{Form, identifier, shell, submodel, concept, asset_information, path, place, element, child, value, HasForm, forms_of}
 use Rattle.aas_record.specs.Records.{IsRecord, IsNoRecord, IsRecordFault, FailsAt}
 use Rattle.aas_record.specs.Reading.{IsFieldFault, IsLastFault}
 use Rattle.aas_record.specs.declared.fault.RecordFault.{RecordFault}
@@ -42,6 +42,14 @@ right_payload (DeleteSubmodel id) at whole is = right_fields 8 (identifier ∷ [
 right_payload (DeleteConcept id) at whole is = right_fields 9 (identifier ∷ []) _ at refl (alone identifier _ is.0 is.0.utf8)
 right_payload (SetAsset id asset) at whole is = right_fields 10 (identifier ∷ asset_information ∷ []) _ at refl
     (_, _, begins _ _ is.0, is.0.utf8, (_, [], begins _ [] is.1.0, (is.1.0.utf8, (asset, whole, refl)), refl))
+right_payload (InsertElement id p e) at whole is = right_fields 13 (identifier ∷ place ∷ child ∷ []) _ at refl
+    (_, _, begins _ _ is.0, is.0.utf8, (_, _, begins _ _ is.1.0, (p.steps, whole.0, refl), (_, [], begins _ [] is.1.1.0, (p.steps, whole.0, refl, (is.1.1.0.utf8, (e, whole.1, refl))), refl)))
+right_payload (ReplaceElement id p e) at whole is = right_fields 14 (identifier ∷ path ∷ element ∷ []) _ at refl
+    (_, _, begins _ _ is.0, is.0.utf8, (_, _, begins _ _ is.1.0, (p.steps, (refl, whole.0)), (_, [], begins _ [] is.1.1.0, (p.steps, whole.0, refl, (is.1.1.0.utf8, (e, whole.1, refl))), refl)))
+right_payload (DeleteElement id p) at whole is = right_fields 15 (identifier ∷ path ∷ []) _ at refl
+    (_, _, begins _ _ is.0, is.0.utf8, (_, [], begins _ [] is.1.0, (p.steps, (refl, whole)), refl))
+right_payload (UpdateValue id p v) at whole is = right_fields 16 (identifier ∷ place ∷ value ∷ []) _ at refl
+    (_, _, begins _ _ is.0, is.0.utf8, (_, _, begins _ _ is.1.0, (p.steps, whole.0, refl), (_, [], begins _ [] is.1.1.0, (is.1.1.0.utf8, (v, whole.1, refl)), refl)))
 
 pub right : (payload : List ℕ) (c : Command) (at : ℕ) → IsRecord payload c → ¬ (IsNoRecord payload at)
 right payload c at is wrong = right_payload c at is.well_formed is.fields (subst (λ p. IsNoRecord p at) is.same wrong)
@@ -77,6 +85,19 @@ read_two payload bytes rest first second t tag c split is row whole a utf8_a b u
   well_formed = whole;
   fields = subst (λ r. Each IsField r.fields) (sym row) (record { utf8 = utf8_a; short = a.short }, (record { utf8 = utf8_b; short = b.short }, tt));
   same = split.0 ∙ ap (λ n. n ∷ bytes) is ∙ ap (λ x. tag ∷ x) (a.bytes_are ∙ ap (λ x. field first ++ x) b.bytes_are) ∙ ap bytes_of (sym row);
+}
+
+-- a command of three
+pub read_three : (payload bytes rest behind first second third : List ℕ) (t tag : ℕ) (c : Command) → IsFirstAndRest payload t bytes → t ≡ tag
+    → tagged_of c ≡ tagged tag (first ∷ second ∷ third ∷ []) → IsWellFormed c
+    → Begins bytes first rest → IsUtf8 first → Begins rest second behind → IsUtf8 second → Begins behind third [] → IsUtf8 third → IsRecord payload c
+unfolding HasFields payload_of
+read_three payload bytes rest behind first second third t tag c split is row whole a utf8_a b utf8_b d utf8_d = record {
+  well_formed = whole;
+  fields = subst (λ r. Each IsField r.fields) (sym row)
+      (record { utf8 = utf8_a; short = a.short }, (record { utf8 = utf8_b; short = b.short }, (record { utf8 = utf8_d; short = d.short }, tt)));
+  same = split.0 ∙ ap (λ n. n ∷ bytes) is
+      ∙ ap (λ x. tag ∷ x) (a.bytes_are ∙ ap (λ x. field first ++ x) (b.bytes_are ∙ ap (λ x. field second ++ x) d.bytes_are)) ∙ ap bytes_of (sym row);
 }
 
 -- ---- what goes wrong
@@ -123,17 +144,52 @@ module _ (payload bytes : List ℕ) (t tag : ℕ) (r : Result Command RecordFaul
       by_fault NoMemory g = tt
 
   -- that of the second of two
-  pub wrong_second : (first rest : List ℕ) (place : ℕ) (form last : Form) → forms_of tag ≡ Some (form ∷ last ∷ []) → Begins bytes first rest → HasForm form [] first → place ≡ length payload - length rest
-      → IsLastFault (HasForm last (first ∷ [])) place rest fault → MatchResult r (IsRecord payload) (IsRecordFault payload)
-  wrong_second first rest place form last row begins has stands fails = handed_on r handed (by_fault fault fails)
+  pub wrong_second : (first rest : List ℕ) (at : ℕ) (form last : Form) → forms_of tag ≡ Some (form ∷ last ∷ []) → Begins bytes first rest → HasForm form [] first → at ≡ length payload - length rest
+      → IsLastFault (HasForm last (first ∷ [])) at rest fault → MatchResult r (IsRecord payload) (IsRecordFault payload)
+  wrong_second first rest at form last row begins has stands fails = handed_on r handed (by_fault fault fails)
     where
       behind : length bytes ≡ 4 + length first + length rest
       behind = ap length begins.bytes_are ∙ omega (arith, length-append (field first) rest)
 
-      here : place ≡ 1 + 4 + length first
+      here : at ≡ 1 + 4 + length first
       here = omega (arith, behind, split.1, stands)
 
-      by_fault : (f : RecordFault) → IsLastFault (HasForm last (first ∷ [])) place rest f → IsRecordFault payload f
-      by_fault (NotARecord at) g =
-          wrong payload bytes t at (form ∷ last ∷ []) split (at_tag (form ∷ last ∷ []) row) (inr (first, rest, begins, has, subst (λ p. FailsAt (last ∷ []) (first ∷ []) p rest at) here g))
+      by_fault : (f : RecordFault) → IsLastFault (HasForm last (first ∷ [])) at rest f → IsRecordFault payload f
+      by_fault (NotARecord there) g =
+          wrong payload bytes t there (form ∷ last ∷ []) split (at_tag (form ∷ last ∷ []) row) (inr (first, rest, begins, has, subst (λ p. FailsAt (last ∷ []) (first ∷ []) p rest there) here g))
+      by_fault NoMemory g = tt
+
+  -- that of the second of three
+  pub wrong_middle : (first rest : List ℕ) (at : ℕ) (form middle last : Form) → forms_of tag ≡ Some (form ∷ middle ∷ last ∷ []) → Begins bytes first rest → HasForm form [] first
+      → at ≡ length payload - length rest → IsFieldFault (HasForm middle (first ∷ [])) at rest fault → MatchResult r (IsRecord payload) (IsRecordFault payload)
+  wrong_middle first rest at form middle last row begins has stands fails = handed_on r handed (by_fault fault fails)
+    where
+      forms : List Form
+      forms = form ∷ middle ∷ last ∷ []
+
+      here : at ≡ 1 + 4 + length first
+      here = omega (arith, ap length begins.bytes_are, length-append (field first) rest, split.1, stands)
+
+      by_fault : (f : RecordFault) → IsFieldFault (HasForm middle (first ∷ [])) at rest f → IsRecordFault payload f
+      by_fault (NotARecord there) g =
+          wrong payload bytes t there forms split (at_tag forms row)
+          (inr (first, rest, begins, has, subst (λ p. FailsAt (middle ∷ last ∷ []) (first ∷ []) p rest there) here (inl g)))
+      by_fault NoMemory g = tt
+
+  -- that of the third
+  pub wrong_third : (first rest second behind : List ℕ) (at : ℕ) (form middle last : Form) → forms_of tag ≡ Some (form ∷ middle ∷ last ∷ []) → Begins bytes first rest
+      → HasForm form [] first → Begins rest second behind → HasForm middle (first ∷ []) second → at ≡ length payload - length behind
+      → IsLastFault (HasForm last (first ∷ second ∷ [])) at behind fault → MatchResult r (IsRecord payload) (IsRecordFault payload)
+  wrong_third first rest second behind at form middle last row begins has goes_on has_middle stands fails = handed_on r handed (by_fault fault fails)
+    where
+      forms : List Form
+      forms = form ∷ middle ∷ last ∷ []
+
+      here : at ≡ 1 + 4 + length first + 4 + length second
+      here = omega (arith, ap length begins.bytes_are, length-append (field first) rest, ap length goes_on.bytes_are, length-append (field second) behind, split.1, stands)
+
+      by_fault : (f : RecordFault) → IsLastFault (HasForm last (first ∷ second ∷ [])) at behind f → IsRecordFault payload f
+      by_fault (NotARecord there) g =
+          wrong payload bytes t there forms split (at_tag forms row)
+          (inr (first, rest, begins, has, inr (second, behind, goes_on, has_middle, subst (λ p. FailsAt (last ∷ []) (first ∷ second ∷ []) p behind there) here g)))
       by_fault NoMemory g = tt

@@ -1,22 +1,27 @@
 -- A payload is that of one command alone.
-use Rattle.std.proofs.Common.{◌≡◌, ◌⊎◌, inl, inr, ℕ, List, [], ◌∷◌, length, Result, Ok, Err, refl, sym, ◌∙◌, ap, arith}
+use Rattle.std.proofs.Common.{◌≡◌, ◌⊎◌, ◌+◌, inl, inr, subst, ℕ, List, [], ◌∷◌, length, Result, Ok, Err, refl, sym, ◌∙◌, ap, arith}
 use Rattle.std.specs.Prelude.{flat_map, MatchResult}
 use Rattle.std.proofs.lemmas.Str.{encodes_same}
 use Rattle.aas_lemmas.proofs.Lists.{same_tails}
 use Rattle.aas_json_spelling.specs.Lists.{Each}
 use Rattle.aas_json_spelling.specs.Mapped.{AnyShape}
-use Rattle.aas_json_mapping.specs.Shape.{IsShapedSubmodel}
-use Rattle.aas_json_mapping.specs.Trees.{asset_informations, concepts, shells, submodels}
+use Rattle.aas_json_mapping.specs.Shape.{IsShaped, IsShapedSubmodel}
+use Rattle.aas_json_mapping.specs.Trees.{asset_informations, concepts, elements, shells, submodels}
 use Rattle.aas_json_mapping.proofs.DocumentsLaws.{concepts_laws, shells_laws, submodels_laws}
+use Rattle.aas_json_mapping.proofs.ElementsLaws.{elements_laws}
+use Rattle.aas_model.specs.declared.path.PathStep.{PathStep}
+use Rattle.aas_edit_laws.specs.Laws.{at_level}
 use Rattle.aas_json_mapping.proofs.PartsLaws.{asset_informations_laws}
 use Rattle.aas_command.specs.Commands.{IsWellFormed, field, payload_of, tagged_of}
 use Rattle.aas_command.specs.Encoding.{HasFields, IsField}
 use Rattle.aas_command.specs.declared.command.Command.{Command}
-use Rattle.aas_command.specs.declared.command.Command.TheVariants.{CreateShell, CreateSubmodel, CreateConcept, ReplaceShell, ReplaceSubmodel, ReplaceConcept, DeleteShell, DeleteSubmodel, DeleteConcept, SetAsset}
+use Rattle.aas_command.specs.declared.command.Command.TheVariants.{CreateShell, CreateSubmodel, CreateConcept, ReplaceShell, ReplaceSubmodel, ReplaceConcept, DeleteShell, DeleteSubmodel, DeleteConcept, SetAsset, InsertElement, ReplaceElement, DeleteElement, UpdateValue}
 use Rattle.aas_record.specs.Records.{IsRecord, IsRecordFault}
 use Rattle.aas_record.specs.declared.fault.RecordFault.{RecordFault}
 use Rattle.aas_record.specs.declared.fault.RecordFault.TheVariants.{NotARecord, NoMemory}
-use Rattle.aas_record.proofs.Canonical.{same_by_text}
+use Rattle.aas_record.proofs.Canonical.{at_limits, same_by_text, within_level}
+use Rattle.aas_record.proofs.Values.{same_value}
+use Rattle.aas_record.proofs.Places.{is_place, one_place, some_steps}
 use Rattle.aas_record.proofs.Once.{one}
 use Rattle.aas_record.proofs.Payloads.{right}
 
@@ -35,18 +40,42 @@ first a b others more e = cc
 -- commands of one tag, with the same fields, are the same
 same_tagged : (c d : Command) → IsWellFormed c → IsWellFormed d → HasFields c → (tagged_of c).tag ≡ (tagged_of d).tag → (tagged_of c).fields ≡ (tagged_of d).fields → c ≡ d
 unfolding IsWellFormed HasFields
-same_tagged (CreateShell s) (CreateShell t) a b is tags e = ap CreateShell (same_by_text shells AnyShape shells_laws s t a b is.0.utf8 (first _ _ _ _ e))
-same_tagged (CreateSubmodel s) (CreateSubmodel t) a b is tags e = ap CreateSubmodel (same_by_text submodels IsShapedSubmodel submodels_laws s t a b is.0.utf8 (first _ _ _ _ e))
-same_tagged (CreateConcept s) (CreateConcept t) a b is tags e = ap CreateConcept (same_by_text concepts AnyShape concepts_laws s t a b is.0.utf8 (first _ _ _ _ e))
-same_tagged (ReplaceShell s) (ReplaceShell t) a b is tags e = ap ReplaceShell (same_by_text shells AnyShape shells_laws s t a b is.0.utf8 (first _ _ _ _ e))
-same_tagged (ReplaceSubmodel s) (ReplaceSubmodel t) a b is tags e = ap ReplaceSubmodel (same_by_text submodels IsShapedSubmodel submodels_laws s t a b is.0.utf8 (first _ _ _ _ e))
-same_tagged (ReplaceConcept s) (ReplaceConcept t) a b is tags e = ap ReplaceConcept (same_by_text concepts AnyShape concepts_laws s t a b is.0.utf8 (first _ _ _ _ e))
+same_tagged (CreateShell s) (CreateShell t) a b is tags e = ap CreateShell (same_by_text shells AnyShape shells_laws _ at_limits s t a b is.0.utf8 (first _ _ _ _ e))
+same_tagged (CreateSubmodel s) (CreateSubmodel t) a b is tags e = ap CreateSubmodel (same_by_text submodels IsShapedSubmodel submodels_laws _ at_limits s t a b is.0.utf8 (first _ _ _ _ e))
+same_tagged (CreateConcept s) (CreateConcept t) a b is tags e = ap CreateConcept (same_by_text concepts AnyShape concepts_laws _ at_limits s t a b is.0.utf8 (first _ _ _ _ e))
+same_tagged (ReplaceShell s) (ReplaceShell t) a b is tags e = ap ReplaceShell (same_by_text shells AnyShape shells_laws _ at_limits s t a b is.0.utf8 (first _ _ _ _ e))
+same_tagged (ReplaceSubmodel s) (ReplaceSubmodel t) a b is tags e = ap ReplaceSubmodel (same_by_text submodels IsShapedSubmodel submodels_laws _ at_limits s t a b is.0.utf8 (first _ _ _ _ e))
+same_tagged (ReplaceConcept s) (ReplaceConcept t) a b is tags e = ap ReplaceConcept (same_by_text concepts AnyShape concepts_laws _ at_limits s t a b is.0.utf8 (first _ _ _ _ e))
 same_tagged (DeleteShell s) (DeleteShell t) a b is tags e = ap DeleteShell (encodes_same s t (first _ _ _ _ e))
 same_tagged (DeleteSubmodel s) (DeleteSubmodel t) a b is tags e = ap DeleteSubmodel (encodes_same s t (first _ _ _ _ e))
 same_tagged (DeleteConcept s) (DeleteConcept t) a b is tags e = ap DeleteConcept (encodes_same s t (first _ _ _ _ e))
 same_tagged (SetAsset i s) (SetAsset j t) a b is tags e =
     ap (λ x. SetAsset x s) (encodes_same i j (first _ _ _ _ e))
-    ∙ ap (SetAsset j) (same_by_text asset_informations AnyShape asset_informations_laws s t a b is.1.0.utf8 (first _ _ _ _ (same_tails _ _ _ _ e)))
+    ∙ ap (SetAsset j) (same_by_text asset_informations AnyShape asset_informations_laws _ at_limits s t a b is.1.0.utf8 (first _ _ _ _ (same_tails _ _ _ _ e)))
+same_tagged (InsertElement i p s) (InsertElement j q t) a b is tags e =
+    let paths = one_place p.steps q.steps a.0 b.0 (first _ _ _ _ (same_tails _ _ _ _ e)) in
+    let left = at_level (length p.steps + 1) in
+    let whole : elements.IsWhole left t = subst (λ (o : List PathStep). elements.IsWhole (at_level (length o + 1)) t) (sym paths) b.1 in
+    ap (λ x. InsertElement x p s) (encodes_same i j (first _ _ _ _ e))
+    ∙ ap (λ (o : List PathStep). InsertElement j (record { steps = o }) s) paths
+    ∙ ap (InsertElement j q) (same_by_text elements IsShaped elements_laws left (within_level (length p.steps + 1) (omega arith)) s t a.1 whole is.1.1.0.utf8
+    (first _ _ _ _ (same_tails _ _ _ _ (same_tails _ _ _ _ e))))
+same_tagged (ReplaceElement i p s) (ReplaceElement j q t) a b is tags e =
+    let paths = one_place p.steps q.steps (is_place p.steps a.0) (is_place q.steps b.0) (first _ _ _ _ (same_tails _ _ _ _ e)) in
+    let left = at_level (length p.steps) in
+    let whole : elements.IsWhole left t = subst (λ (o : List PathStep). elements.IsWhole (at_level (length o)) t) (sym paths) b.1 in
+    ap (λ x. ReplaceElement x p s) (encodes_same i j (first _ _ _ _ e))
+    ∙ ap (λ (o : List PathStep). ReplaceElement j (record { steps = o }) s) paths
+    ∙ ap (ReplaceElement j q) (same_by_text elements IsShaped elements_laws left (within_level (length p.steps) (some_steps p.steps a.0)) s t a.1 whole is.1.1.0.utf8
+    (first _ _ _ _ (same_tails _ _ _ _ (same_tails _ _ _ _ e))))
+same_tagged (DeleteElement i p) (DeleteElement j q) a b is tags e =
+    let paths = one_place p.steps q.steps (is_place p.steps a) (is_place q.steps b) (first _ _ _ _ (same_tails _ _ _ _ e)) in
+    ap (λ x. DeleteElement x p) (encodes_same i j (first _ _ _ _ e)) ∙ ap (λ (o : List PathStep). DeleteElement j (record { steps = o })) paths
+same_tagged (UpdateValue i p v) (UpdateValue j q w) a b is tags e =
+    let paths = one_place p.steps q.steps a.0 b.0 (first _ _ _ _ (same_tails _ _ _ _ e)) in
+    ap (λ x. UpdateValue x p v) (encodes_same i j (first _ _ _ _ e))
+    ∙ ap (λ (o : List PathStep). UpdateValue j (record { steps = o }) v) paths
+    ∙ ap (UpdateValue j q) (same_value v w a.1 b.1 is.1.1.0.utf8 (first _ _ _ _ (same_tails _ _ _ _ (same_tails _ _ _ _ e))))
 same_tagged c d a b is tags e = absurd (omega (arith, tags))
 
 pub one_command : (payload : List ℕ) (c d : Command) → IsRecord payload c → IsRecord payload d → c ≡ d

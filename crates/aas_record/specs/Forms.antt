@@ -1,9 +1,16 @@
 -- What the fields behind each tag hold. This profile's own rule.
-use Rattle.std.specs.Prelude.{◌≡◌, ◌==◌, ℕ, List, [], ◌∷◌, Option, option_map, find}
+use Rattle.std.specs.Prelude.{◌≡◌, ◌==◌, ◌+◌, ℕ, List, [], ◌∷◌, length, Option, option_map, find}
 use Rattle.std.specs.Str.{IsUtf8}
+use Rattle.serde_json.specs.Data.{Data}
+use Rattle.serde_json.specs.Written.{compact_text}
 use Rattle.aas_json_table.specs.TooDeep.{Levels, limits}
 use Rattle.aas_json_spelling.specs.Spells.{Trees, canonical_text}
-use Rattle.aas_json_mapping.specs.Trees.{asset_informations, concepts, shells, submodels}
+use Rattle.aas_json_mapping.specs.Trees.{asset_informations, concepts, elements, shells, submodels}
+use Rattle.aas_model.specs.declared.path.PathStep.{PathStep}
+use Rattle.aas_edit_laws.specs.Laws.{at_level}
+use Rattle.aas_path.specs.PathText.{IsPath, path_text}
+use Rattle.aas_path_trees.specs.PathRule.{KeepsRule}
+use Rattle.aas_command.specs.Commands.{IsPlace, IsSendable}
 
 -- what a field may hold
 pub data Form : Type 0 where
@@ -12,10 +19,29 @@ pub data Form : Type 0 where
   submodel : Form
   concept : Form
   asset_information : Form
+  -- the path of an element
+  path : Form
+  -- the same, or nothing, which is the submodel
+  place : Form
+  -- an element, for the place of the one to which the path before it leads
+  element : Form
+  -- an element, for a place right below
+  child : Form
+  -- a JSON value
+  value : Form
 
 -- the canonical text of a whole tree, in UTF-8
 abbrev pub IsCanonical : {A : Type 0} → Trees A → Levels → List ℕ → Type 0
 IsCanonical {A = A} trees levels content = IsUtf8 content × ((t : A) × trees.IsWhole levels t × (content ≡ canonical_text trees t))
+
+-- the compact text of a value that can be sent, in UTF-8
+abbrev pub IsCompact : List ℕ → Type 0
+IsCompact content = IsUtf8 content × ((v : Data) × IsSendable v × (content ≡ compact_text v))
+
+-- behind a submodel's identifier stands the text of this path
+abbrev pub IsBehind : List (List ℕ) → List PathStep → Type 0
+IsBehind (id ∷ text ∷ []) p = text ≡ path_text p
+IsBehind before p = ⊥
 
 -- The content has the form, behind the contents of the fields before it.
 abbrev pub HasForm : Form → List (List ℕ) → List ℕ → Type 0
@@ -24,6 +50,11 @@ HasForm shell before content = IsCanonical shells limits content
 HasForm submodel before content = IsCanonical submodels limits content
 HasForm concept before content = IsCanonical concepts limits content
 HasForm asset_information before content = IsCanonical asset_informations limits content
+HasForm path before content = (p : List PathStep) × IsPath content p
+HasForm place before content = (p : List PathStep) × IsPlace p × (content ≡ path_text p)
+HasForm element before content = (p : List PathStep) × KeepsRule p × IsBehind before p × IsCanonical elements (at_level (length p)) content
+HasForm child before content = (p : List PathStep) × IsPlace p × IsBehind before p × IsCanonical elements (at_level (length p + 1)) content
+HasForm value before content = IsCompact content
 
 -- ---- one row a tag
 
@@ -46,6 +77,10 @@ rows =
     ∷ row 8 (identifier ∷ [])
     ∷ row 9 (identifier ∷ [])
     ∷ row 10 (identifier ∷ asset_information ∷ [])
+    ∷ row 13 (identifier ∷ place ∷ child ∷ [])
+    ∷ row 14 (identifier ∷ path ∷ element ∷ [])
+    ∷ row 15 (identifier ∷ path ∷ [])
+    ∷ row 16 (identifier ∷ place ∷ value ∷ [])
     ∷ []
 
 -- the forms of the fields behind a tag, if a command has it

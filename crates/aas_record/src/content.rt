@@ -1,16 +1,29 @@
 // What a field of a payload holds.
-ghost use Rattle.std.specs.Prelude.{◌≡◌, ◌⊎◌, ℕ, List, Ok, Err, IfOk, MatchOption, ⊤};
+ghost use Rattle.std.specs.Prelude.{◌≡◌, ◌≤◌, ◌⊎◌, ℕ, List, Ok, Err, IfOk, MatchOption, ⊤};
 ghost use Rattle.std.specs.Str.{IsUtf8, encode_utf8_all};
-ghost use Rattle.aas_json_table.specs.TooDeep.{limits};
+ghost use Rattle.aas_json_table.specs.TooDeep.{Levels, limits};
 ghost use Rattle.aas_json_spelling.specs.Reads.{ReadsBytes};
 ghost use Rattle.aas_json_spelling.specs.Spells.{Trees, canonical_text};
-ghost use Rattle.aas_json_mapping.specs.Trees.{asset_informations, concepts, shells, submodels};
+ghost use Rattle.aas_json_mapping.specs.Trees.{asset_informations, concepts, elements, shells, submodels};
+ghost use Rattle.aas_model.specs.declared.path.PathStep.{PathStep};
+ghost use Rattle.aas_edit_laws.specs.Laws.{at_level};
+ghost use Rattle.aas_path.specs.PathText.{IsPath, path_text};
+ghost use Rattle.aas_path_trees.specs.PathRule.{KeepsRule};
+ghost use Rattle.aas_command.specs.Commands.{IsPlace, IsSendable};
+ghost use Rattle.serde_json.specs.Written.{compact_text};
 ghost use Rattle.aas_model.specs.declared.read_fault.ReadFault.TheVariants as read_fault;
-ghost use Rattle.aas_record.specs.Forms.{IsCanonical};
+ghost use Rattle.aas_record.specs.Forms.{IsCanonical, IsCompact};
 
-use aas_command::{asset_text, concept_text, shell_text, submodel_text};
-use aas_json_read::{read_asset_information, read_concept, read_shell, read_submodel};
-use aas_model::{AssetInformation, Concept, NoMemory, ReadFault, Shell, Submodel, Text};
+use aas_command::{SentValue, asset_text, concept_text, element_text, shell_text, submodel_text};
+use aas_json_input::read_value;
+use aas_json_read::{
+    read_asset_information, read_concept, read_element, read_shell, read_submodel,
+};
+use aas_json_write::whole_trees_are_in_order;
+use aas_model::{
+    AssetInformation, Concept, Element, Many, NoMemory, Path, ReadFault, Shell, Submodel, Text,
+};
+use aas_path::{PathFault, parse_path};
 use std::alloc::Global;
 
 /// What a field may hold.
@@ -28,42 +41,62 @@ pub(crate) trait Content: Drop + Sized {
             (λ value. is_whole value × has_form bytes.now × (bytes.now ≡ bytes_of value))) };
 }
 
-/// A document that is written as its canonical text.
-pub(crate) trait Document: Drop + Sized {
+/// A tree that is written as its canonical text: a document, or an element at a level.
+pub(crate) trait Tree: Drop + Sized {
     ghost trees: { Trees Self };
 
-    /// The tree whose canonical text the bytes are; where they are none, any tree or any fault.
-    fn read(alloc: Global, bytes: &[u8]) -> Result<Self, ReadFault>
-        ensures reads { ReadsBytes trees limits result bytes.now }
-        ensures answered { (form : IsCanonical trees limits bytes.now) → (result ≡ Ok form.1.0) ⊎ (result ≡ Err read_fault.NoMemory) };
+    /// The levels that are left for one at a level. A document stands at no level.
+    ghost left: { ℕ → Levels };
 
-    /// The canonical text.
+    /// The tree whose canonical text the bytes are; where they are none, any tree or any fault.
+    fn read(alloc: Global, bytes: &[u8], level: u32) -> Result<Self, ReadFault>
+        requires { 1 ≤ level }
+        ensures reads { ReadsBytes trees (left level) result bytes.now }
+        ensures answered { (form : IsCanonical trees (left level) bytes.now) →
+            (result ≡ Ok form.1.0) ⊎ (result ≡ Err read_fault.NoMemory) };
+
+    /// The canonical text of one that is whole at some level.
     fn text(&self, alloc: Global) -> Result<Vec<u8>, NoMemory>
-        requires { trees.IsWhole limits self.now }
+        requires { (level : ℕ) × trees.IsWhole (left level) self.now }
         ensures text { IfOk result (λ text. text.items ≡ canonical_text trees self.now) }
         ensures utf8 { IfOk result (λ text. IsUtf8 text.items) };
 }
 
-impl<D: Document> Content for D {
-    ghost bytes_of = { canonical_text D.trees };
+/// The tree, for a place at a level, whose canonical text the bytes are, if there is one.
+pub(crate) fn read_tree<T: Tree>(
+    alloc: Global,
+    bytes: &[u8],
+    level: u32,
+) -> Result<Option<T>, NoMemory>
+    requires { 1 ≤ level }
+    ensures { IfOk result (λ found. MatchOption found
+        (¬ (IsCanonical T.trees (T.left level) bytes.now))
+        (λ tree. T.trees.IsWhole (T.left level) tree × IsCanonical T.trees (T.left level) bytes.now
+        × (bytes.now ≡ canonical_text T.trees tree))) }
+{
+    let tree = match <T as Tree>::read(alloc, bytes, level) {
+        Ok(tree) => tree,
+        Err(ReadFault::NotJson) => return Ok(None),
+        Err(ReadFault::NotMapping { .. }) => return Ok(None),
+        Err(ReadFault::TooDeep { .. }) => return Ok(None),
+        Err(ReadFault::NoMemory) => return Err(NoMemory),
+    };
+    if tree.text(alloc)?.as_slice() == bytes {
+        Ok(Some(tree))
+    } else {
+        Ok(None)
+    }
+}
 
-    ghost is_whole = { D.trees.IsWhole limits };
+impl<T: Tree> Content for T {
+    ghost bytes_of = { canonical_text T.trees };
 
-    ghost has_form = { IsCanonical D.trees limits };
+    ghost is_whole = { T.trees.IsWhole (T.left 1) };
 
-    fn read(alloc: Global, bytes: &[u8]) -> Result<Option<D>, NoMemory> {
-        let document = match <D as Document>::read(alloc, bytes) {
-            Ok(document) => document,
-            Err(ReadFault::NotJson) => return Ok(None),
-            Err(ReadFault::NotMapping { .. }) => return Ok(None),
-            Err(ReadFault::TooDeep { .. }) => return Ok(None),
-            Err(ReadFault::NoMemory) => return Err(NoMemory),
-        };
-        if document.text(alloc)?.as_slice() == bytes {
-            Ok(Some(document))
-        } else {
-            Ok(None)
-        }
+    ghost has_form = { IsCanonical T.trees (T.left 1) };
+
+    fn read(alloc: Global, bytes: &[u8]) -> Result<Option<T>, NoMemory> {
+        read_tree(alloc, bytes, 1)
     }
 }
 
@@ -82,10 +115,81 @@ impl Content for Text {
     }
 }
 
-impl Document for Shell {
+impl Content for Path {
+    ghost bytes_of = { λ path. path_text path.steps };
+
+    ghost is_whole = { λ path. KeepsRule path.steps };
+
+    ghost has_form = { λ content. (p : List PathStep) × IsPath content p };
+
+    fn read(alloc: Global, bytes: &[u8]) -> Result<Option<Path>, NoMemory> {
+        match parse_path(alloc, bytes) {
+            Ok(path) => Ok(Some(path)),
+            Err(PathFault::BadPath { .. }) => Ok(None),
+            Err(PathFault::NoMemory) => Err(NoMemory),
+        }
+    }
+}
+
+/// A path that may be empty, and then leads to the submodel.
+#[derive(Drop)]
+pub(crate) struct Place {
+    pub(crate) path: Path,
+}
+
+impl Content for Place {
+    ghost bytes_of = { λ place. path_text place.path.steps };
+
+    ghost is_whole = { λ place. IsPlace place.path.steps };
+
+    ghost has_form = { λ content. (p : List PathStep) × IsPlace p × (content ≡ path_text p) };
+
+    fn read(alloc: Global, bytes: &[u8]) -> Result<Option<Place>, NoMemory> {
+        if bytes.is_empty() {
+            let path = Path {
+                steps: Many::new(alloc),
+            };
+            return Ok(Some(Place { path }));
+        }
+        match <Path as Content>::read(alloc, bytes)? {
+            Some(path) => Ok(Some(Place { path })),
+            None => Ok(None),
+        }
+    }
+}
+
+impl Content for SentValue {
+    ghost bytes_of = { compact_text };
+
+    ghost is_whole = { IsSendable };
+
+    ghost has_form = { IsCompact };
+
+    fn read(alloc: Global, bytes: &[u8]) -> Result<Option<SentValue>, NoMemory> {
+        let value = match read_value(alloc, bytes) {
+            Ok(value) => SentValue::new(value),
+            Err(ReadFault::NotJson) => return Ok(None),
+            Err(ReadFault::NotMapping { .. }) => return Ok(None),
+            Err(ReadFault::TooDeep { .. }) => return Ok(None),
+            Err(ReadFault::NoMemory) => return Err(NoMemory),
+        };
+        if !value.has_whole_numbers() {
+            return Ok(None);
+        }
+        if value.text(alloc)?.as_slice() == bytes {
+            Ok(Some(value))
+        } else {
+            Ok(None)
+        }
+    }
+}
+
+impl Tree for Shell {
     ghost trees = { shells };
 
-    fn read(alloc: Global, bytes: &[u8]) -> Result<Shell, ReadFault> {
+    ghost left = { λ _. limits };
+
+    fn read(alloc: Global, bytes: &[u8], _level: u32) -> Result<Shell, ReadFault> {
         read_shell(alloc, bytes)
     }
 
@@ -94,10 +198,12 @@ impl Document for Shell {
     }
 }
 
-impl Document for Submodel {
+impl Tree for Submodel {
     ghost trees = { submodels };
 
-    fn read(alloc: Global, bytes: &[u8]) -> Result<Submodel, ReadFault> {
+    ghost left = { λ _. limits };
+
+    fn read(alloc: Global, bytes: &[u8], _level: u32) -> Result<Submodel, ReadFault> {
         read_submodel(alloc, bytes)
     }
 
@@ -106,10 +212,12 @@ impl Document for Submodel {
     }
 }
 
-impl Document for Concept {
+impl Tree for Concept {
     ghost trees = { concepts };
 
-    fn read(alloc: Global, bytes: &[u8]) -> Result<Concept, ReadFault> {
+    ghost left = { λ _. limits };
+
+    fn read(alloc: Global, bytes: &[u8], _level: u32) -> Result<Concept, ReadFault> {
         read_concept(alloc, bytes)
     }
 
@@ -118,14 +226,31 @@ impl Document for Concept {
     }
 }
 
-impl Document for AssetInformation {
+impl Tree for AssetInformation {
     ghost trees = { asset_informations };
 
-    fn read(alloc: Global, bytes: &[u8]) -> Result<AssetInformation, ReadFault> {
+    ghost left = { λ _. limits };
+
+    fn read(alloc: Global, bytes: &[u8], _level: u32) -> Result<AssetInformation, ReadFault> {
         read_asset_information(alloc, bytes)
     }
 
     fn text(&self, alloc: Global) -> Result<Vec<u8>, NoMemory> {
         asset_text(alloc, self)
+    }
+}
+
+impl Tree for Element {
+    ghost trees = { elements };
+
+    ghost left = { at_level };
+
+    fn read(alloc: Global, bytes: &[u8], level: u32) -> Result<Element, ReadFault> {
+        read_element(alloc, bytes, level)
+    }
+
+    fn text(&self, alloc: Global) -> Result<Vec<u8>, NoMemory> {
+        whole_trees_are_in_order();
+        element_text(alloc, self)
     }
 }

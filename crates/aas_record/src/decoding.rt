@@ -3,6 +3,7 @@ ghost use Rattle.std.specs.Prelude.{MatchResult};
 ghost use Rattle.aas_record.specs.Records.{IsRecord, IsRecordFault};
 
 use crate::RecordFault;
+use crate::elements::{deletion, insertion, replacement, update};
 use crate::fields::{field, last_field};
 use aas_command::Command;
 use std::alloc::Global;
@@ -54,6 +55,10 @@ pub fn decode(alloc: Global, payload: &[u8]) -> Result<Command, RecordFault>
                 asset: last_field(alloc, rest, at)?,
             })
         }
+        13 => insertion(alloc, payload, fields),
+        14 => replacement(alloc, payload, fields),
+        15 => deletion(alloc, payload, fields),
+        16 => update(alloc, payload, fields),
         _ => Err(RecordFault::NotARecord { at: 0 }),
     }
 }

@@ -1,10 +1,12 @@
 // The fields of a payload.
-ghost use Rattle.std.specs.Prelude.{◌≡◌, ◌+◌, ◌<◌, ◌^◌, [], length, MatchOption, MatchResult};
+ghost use Rattle.std.specs.Prelude.{◌≡◌, ◌+◌, ◌-◌, ◌<◌, ◌≤◌, ◌^◌, [], length, MatchOption, MatchResult};
+ghost use Rattle.aas_json_spelling.specs.Spells.{canonical_text};
+ghost use Rattle.aas_record.specs.Forms.{IsCanonical};
 ghost use Rattle.aas_record.specs.Fields.{Begins, IsCut};
 ghost use Rattle.aas_record.specs.Reading.{HasField, IsFieldFault, IsLastFault};
 
 use crate::RecordFault;
-use crate::content::Content;
+use crate::content::{Content, Tree, read_tree};
 use std::alloc::Global;
 
 /// The content of the first field of some bytes, and what is behind it; none where they end within it.
@@ -49,6 +51,56 @@ pub(crate) fn last_field<C: Content>(alloc: Global, bytes: &[u8], at: u64) -> Re
         (IsLastFault C.has_form at bytes.now) }
 {
     let (value, rest) = field(alloc, bytes, at)?;
+    ended(value, bytes, rest, at)
+}
+
+/// The tree at a level that the first field of some bytes holds, and what is behind it. The bytes stand at the place `at` of a
+/// payload.
+fn tree_field<T: Tree>(
+    alloc: Global,
+    bytes: &[u8],
+    at: u64,
+    level: u32,
+) -> Result<(T, &[u8]), RecordFault>
+    requires { 1 ≤ level }
+    ensures { MatchResult result
+        (λ r. HasField (T.trees.IsWhole (T.left level)) (canonical_text T.trees) (IsCanonical T.trees (T.left level)) bytes.now r.0 r.1.now)
+        (IsFieldFault (IsCanonical T.trees (T.left level)) at bytes.now) }
+{
+    let Some((content, rest)) = first_field(bytes) else {
+        return Err(RecordFault::NotARecord { at });
+    };
+    match read_tree(alloc, content, level)? {
+        Some(tree) => Ok((tree, rest)),
+        None => Err(RecordFault::NotARecord { at }),
+    }
+}
+
+/// The tree at a level that the one field that some bytes are holds. The bytes stand at the place `at` of a payload.
+pub(crate) fn last_tree<T: Tree>(
+    alloc: Global,
+    bytes: &[u8],
+    at: u64,
+    level: u32,
+) -> Result<T, RecordFault>
+    requires level { 1 ≤ level }
+    requires place { at + length bytes.now < 2 ^ 64 }
+    ensures { MatchResult result
+        (λ tree. HasField (T.trees.IsWhole (T.left level)) (canonical_text T.trees) (IsCanonical T.trees (T.left level)) bytes.now tree [])
+        (IsLastFault (IsCanonical T.trees (T.left level)) at bytes.now) }
+{
+    let (tree, rest) = tree_field(alloc, bytes, at, level)?;
+    ended(tree, bytes, rest, at)
+}
+
+/// The value, where nothing is left behind it of some bytes that stand at the place `at` of a payload.
+fn ended<V: Drop>(value: V, bytes: &[u8], rest: &[u8], at: u64) -> Result<V, RecordFault>
+    requires within { length rest.now ≤ length bytes.now }
+    requires place { at + length bytes.now < 2 ^ 64 }
+    ensures { MatchResult result
+        (λ it. (it ≡ value) × (rest.now ≡ []))
+        (λ fault. (0 < length rest.now) × (fault ≡ RecordFault.NotARecord (at + (length bytes.now - length rest.now)))) }
+{
     if rest.is_empty() {
         Ok(value)
     } else {

@@ -8,6 +8,7 @@
 
 mod content;
 mod decoding;
+mod elements;
 mod fault;
 mod fields;
 mod laws;

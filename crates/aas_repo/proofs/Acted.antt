@@ -37,6 +37,7 @@ module _ {K I : Type 0} (stands_for : I → List (List ℕ) → Type 0) (kept : 
     record {
       new = new.documents;
       steps = planned.2 records settled.told;
+      fields = planned.3;
       holds = record {
         documents = refl;
         kept = subst (λ (p : List ℕ). kept new.keeper (records ++ p ∷ [])) planned.0 (adds records settled.told);
@@ -54,6 +55,7 @@ module _ {K I : Type 0} (stands_for : I → List (List ℕ) → Type 0) (kept : 
     λ is. record {
       new = new.documents;
       steps = planned.2 records settled.told;
+      fields = planned.3;
       faulted = record {
         documents = refl;
         in_turn = subst (λ (p : List ℕ). InTurn stands_for (left_at new.keeper) (moment mid.keeper) (moment new.keeper) records [] (p ∷ []))

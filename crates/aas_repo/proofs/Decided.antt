@@ -25,28 +25,28 @@ use Rattle.aas_step.specs.Made.{with_document}
 use Rattle.aas_step.specs.Step.{accepted, refused, result_of, later_causes, ComesBy, ComesTo}
 use Rattle.aas_step.specs.Valid.{AreValid}
 use Rattle.aas_store.specs.Documents.{Documents, has, without}
-use Rattle.aas_repo.specs.Decisions.{Deletes, IsDecision, Puts, with_asset}
+use Rattle.aas_repo.specs.Decisions.{Deletes, IsDecision, Makes, Puts, with_asset}
 use Rattle.aas_repo.specs.declared.decision.Decision.TheVariants as decision
 
 -- ---- the first of the causes
 
-refused_by : (has_room : Bool) (d : Documents) (c : Command) (refusal : Refusal) (cs : List Cause) → causes d c ≡ cs
+pub refused_by : (has_room : Bool) (d : Documents) (c : Command) (refusal : Refusal) (cs : List Cause) → causes d c ≡ cs
     → first_of cs ≡ Some refusal → ComesTo has_room d c (refused refusal)
 unfolding ComesTo
 refused_by has_room d c refusal cs are is =
     subst (λ (o : Cause). ComesBy o has_room d c (refused refusal)) (sym (ap first_of are ∙ is)) refl
 
-comes : (has_room : Bool) (d : Documents) (c : Command) (x : Document) (o : Cause) → Puts d c None x
+comes : (has_room : Bool) (d : Documents) (c : Command) (x : Document) (o : Cause) → Makes d c x
     → o ≡ first_of (later_causes has_room (x ∷ []))
     → ComesTo has_room d c (result_of o (with_document d x))
 unfolding ComesTo
-comes has_room d c x o puts is =
+comes has_room d c x o makes is =
     let later : Cause = first_of (later_causes has_room (x ∷ [])) in
-    subst (λ (e : Cause). ComesBy e has_room d c (result_of o (with_document d x))) (sym (ap first_of puts.causes_are)) (
+    subst (λ (e : Cause). ComesBy e has_room d c (result_of o (with_document d x))) (sym makes.no_cause) (
       x ∷ [],
-      puts.made,
+      makes.made,
       ap (λ (e : Cause). result_of e (with_document d x)) is
-          ∙ ap (λ (old : Documents). result_of later (with_document old x)) (sym puts.left_are),
+          ∙ ap (λ (old : Documents). result_of later (with_document old x)) (sym makes.left_are),
     )
 
 -- where no document is made
@@ -84,9 +84,9 @@ conflicts has_room d new c k id x puts there same =
     (same, λ is. absurd (cc), refused_by has_room d c Conflict _ puts.causes_are (ap (λ b. first_of (when b Conflict ∷ [])) there))
 
 pub clear : (d : Documents) (c : Command) (k : Collection) (id : List ℕ) (x : Document) → Puts d c (is_there k id d) x
-    → has k (encode_utf8_all id) d ≡ false → Puts d c None x
+    → has k (encode_utf8_all id) d ≡ false → Makes d c x
 clear d c k id x puts there =
-    record { causes_are = puts.causes_are ∙ ap (λ b. when b Conflict ∷ []) there; made = puts.made; left_are = puts.left_are }
+    record { no_cause = ap first_of (puts.causes_are ∙ ap (λ b. when b Conflict ∷ []) there); made = puts.made; left_are = puts.left_are }
 
 pub misses : (has_room : Bool) (d new : Documents) (c : Command) (k : Collection) (id : List ℕ) → causes d c ≡ is_absent k id d ∷ []
     → has k (encode_utf8_all id) d ≡ false → new ≡ d
@@ -96,10 +96,10 @@ misses has_room d new c k id are there same =
     (same, λ is. absurd (cc), refused_by has_room d c what _ are (ap (λ b. first_of (unless b what ∷ [])) there))
 
 pub found : (d : Documents) (c : Command) (k : Collection) (id : List ℕ) (x : Document) → Puts d c (is_absent k id d) x
-    → has k (encode_utf8_all id) d ≡ true → Puts d c None x
+    → has k (encode_utf8_all id) d ≡ true → Makes d c x
 found d c k id x puts there =
     record {
-      causes_are = puts.causes_are ∙ ap (λ b. unless b (NotFound (absent_of k)) ∷ []) there;
+      no_cause = ap first_of (puts.causes_are ∙ ap (λ b. unless b (NotFound (absent_of k)) ∷ []) there);
       made = puts.made;
       left_are = puts.left_are;
     }
@@ -130,7 +130,7 @@ no_storage_fault [] false true refusal e is = absurd (cc)
 no_storage_fault [] false false refusal e is = absurd (cc)
 no_storage_fault (f ∷ fs) many has_room refusal e is = of_fault (f.number == 0) f refusal e is
 
-pub makes : (has_room : Bool) (d new : Documents) (c : Command) (x : Document) → Puts d c None x
+pub makes : (has_room : Bool) (d new : Documents) (c : Command) (x : Document) → Makes d c x
     → None ≡ first_of (later_causes has_room (x ∷ [])) → new ≡ with_document d x
     → IsDecision has_room d c new decision.Made
 unfolding three
@@ -146,7 +146,7 @@ is_valid has_room x whole none =
     let clear = nothing (faults_of x) (has_too_many x) has_room none in
     (record { whole = whole; faultless = clear.0 }, clear.1)
 
-pub refuses : (has_room : Bool) (d new : Documents) (c : Command) (x : Document) (refusal : Refusal) → Puts d c None x
+pub refuses : (has_room : Bool) (d new : Documents) (c : Command) (x : Document) (refusal : Refusal) → Makes d c x
     → Some refusal ≡ first_of (later_causes has_room (x ∷ [])) → new ≡ d
     → IsDecision has_room d c new (decision.Refused refusal)
 unfolding three
@@ -170,11 +170,11 @@ deleted d new c k id deletes there same =
 
 pub sets : (d : Documents) (id : List ℕ) (a : AssetInformation) (found : Option Shell) (s : Shell)
     → map.get d.shells (encode_utf8_all id) ≡ found → Some s ≡ option_map (with_asset a) found
-    → Puts d (SetAsset id a) None (shell s)
+    → Makes d (SetAsset id a) (shell s)
 sets d id a None s is made = absurd (cc)
 sets d id a (Some old) s is made =
     let same : with_asset a old ≡ s = cc in record {
-      causes_are = ap (λ (o : Option Shell). unless (is_some o) (NotFound (absent_of Shells)) ∷ []) is;
+      no_cause = ap (λ (o : Option Shell). first_of (unless (is_some o) (NotFound (absent_of Shells)) ∷ [])) is;
       made = ap (λ (s : Shell). shell s ∷ []) (sym same)
           ∙ sym (ap (λ (o : Option Shell). option_map_or (λ (s : Shell). shell (with_asset a s) ∷ []) o []) is);
       left_are = refl;

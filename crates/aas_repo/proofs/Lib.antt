@@ -1,4 +1,8 @@
 mod Acted
+mod Bodies
 mod Counted
 mod Decided
+mod Edited
 mod Planned
+mod Reached
+mod Updated

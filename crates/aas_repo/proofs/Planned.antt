@@ -2,6 +2,7 @@
 use Rattle.std.proofs.Common.{◌≡◌, ◌≤◌, ◌<◌, ◌^◌, ℕ, Bool, true, false, List, length, refl, sym, ap, ◌∙◌, subst, arith}
 use Rattle.std.specs.Prelude.{IsTrue}
 use Rattle.aas_command.specs.Commands.{IsWellFormed, payload_of}
+use Rattle.aas_command.specs.Encoding.{HasFields}
 use Rattle.aas_command.specs.declared.command.Command.{Command}
 use Rattle.aas_command.specs.declared.refusal.Refusal.{Refusal}
 use Rattle.aas_rule.specs.Rule.{Room}
@@ -39,12 +40,13 @@ module _ (has_room : ℕ → Bool) (kept : List (List ℕ) → Type 0) (room : R
       asked ∙ ap has_room (size_is ∙ ap length is) ∙ law records (length (payload_of c)) known
 
   pub plan_made : (old new : Documents) (c : Command) (frame : List ℕ) (size : ℕ) (b : Bool) → frame ≡ payload_of c → size ≡ length frame
-      → b ≡ has_room size
+      → b ≡ has_room size → HasFields c
       → IsDecision b old c new decision.Made → IsPlan has_room kept room old c new (plan.Made frame)
-  plan_made old new c frame size b is size_is asked made = (
+  plan_made old new c frame size b is size_is asked fields made = (
     is,
     ap has_room (sym size_is) ∙ sym asked ∙ made.0,
     λ records known. steps b records old c (accepted new) (told c frame size b is size_is asked records known) made.1,
+    fields,
   )
 
   pub plan_refused : (old new : Documents) (c : Command) (frame : List ℕ) (size : ℕ) (b : Bool) (refusal : Refusal) → frame ≡ payload_of c

@@ -1,8 +1,9 @@
 -- What is done with a command. This profile's own rule.
 use Rattle.std.specs.Prelude.{◌≡◌, ◌≢◌, ℕ, List, [], ◌∷◌, ◌++◌, Result, Ok, Err}
 use Rattle.aas_command.specs.Commands.{payload_of}
+use Rattle.aas_command.specs.Encoding.{HasFields}
 use Rattle.aas_command.specs.declared.command.Command.{Command}
-use Rattle.aas_command.specs.declared.command.Command.TheVariants.{CreateShell, CreateSubmodel, CreateConcept}
+use Rattle.aas_command.specs.declared.command.Command.TheVariants.{CreateShell, CreateSubmodel, CreateConcept, InsertElement}
 use Rattle.aas_command.specs.declared.refusal.Refusal.{Refusal}
 use Rattle.aas_command.specs.declared.refusal.Refusal.TheVariants.{NoMemory, StorageFault}
 use Rattle.aas_rule.specs.Rule.{Repository, Room}
@@ -17,18 +18,21 @@ abbrev pub done_of : Command → Done
 done_of (CreateShell d) = Created
 done_of (CreateSubmodel d) = Created
 done_of (CreateConcept d) = Created
+done_of (InsertElement id p e) = Created
 done_of c = Changed
 
--- The command is accepted and kept.
+-- The command is accepted and kept, and can be read from its payload.
 pub record IsAccepted {I : Type 0} (room : Room) (stands_for : I → List (List ℕ) → Type 0) (r : Repository Documents) (c : Command) (from : ℕ) (now : State Documents I) : Type 0 where
   pub new : Documents
   pub steps : Steps room r c (accepted new)
+  pub fields : HasFields c
   pub holds : Holds stands_for r.records (payload_of c ∷ []) (record { documents = new; records = r.records ++ payload_of c ∷ [] }) from now
 
 -- The command is accepted, but the keeper failed: the documents are those that it makes, and a stop leaves it or not.
 pub record IsTorn {I : Type 0} (room : Room) (stands_for : I → List (List ℕ) → Type 0) (r : Repository Documents) (c : Command) (from : ℕ) (now : State Documents I) : Type 0 where
   pub new : Documents
   pub steps : Steps room r c (accepted new)
+  pub fields : HasFields c
   pub faulted : IsFaulted stands_for r.records [] (payload_of c ∷ []) new from now
 
 -- by what is answered: for a refusal, and for want of memory, everything is as before

@@ -1,26 +1,91 @@
--- What a question is answered in some documents: the canonical text of what it asks for, or that this isn't there (IDTA-01002-3-0, the operations that get a
--- document by its identifier).
-use Rattle.std.specs.Prelude.{ℕ, List, Option, Some, None, Result, Ok, Err}
-use Rattle.std.specs.Str.{encode_utf8_all}
+-- What a question is answered in some documents: the text of what it asks for, or why there is none (IDTA-01002-3-0, the operations that get a document by its
+-- identifier and an element by its path, with the content modifiers Normal, Metadata, Value, Reference and Path).
+use Rattle.std.specs.Prelude.{ℕ, List, [], take, Option, Some, None, Result, Ok, Err}
 use Rattle.std.specs.FinMap as map
+use Rattle.std.specs.Option.{option_map_or}
+use Rattle.std.specs.Str.{encode_utf8_all}
+use Rattle.serde_json.specs.Data.{Data, string}
+use Rattle.serde_json.specs.Written.{compact_text}
 use Rattle.aas_json_spelling.specs.Spells.{canonical_text}
-use Rattle.aas_json_mapping.specs.Trees.{asset_informations, concepts, shells, submodels}
+use Rattle.aas_json_mapping.specs.Trees.{asset_informations, concepts, elements, shells, submodels}
+use Rattle.aas_reference.specs.Spelling.{spell_reference}
+use Rattle.aas_model.specs.declared.documents.Concept.{Concept}
+use Rattle.aas_model.specs.declared.documents.Shell.{Shell}
+use Rattle.aas_model.specs.declared.documents.Submodel.{Submodel}
+use Rattle.aas_model.specs.declared.element.Element.{Element}
+use Rattle.aas_model.specs.declared.path.Path.{Path}
+use Rattle.aas_model.specs.declared.path.PathStep.{PathStep}
+use Rattle.aas_model.specs.declared.reference.Reference.{Reference}
+use Rattle.aas_value.specs.ValueForm.{array_of, submodel_value, value_form}
+use Rattle.aas_form.specs.CoreForm.{core_form, submodel_core}
+use Rattle.aas_form.specs.MetadataForm.{metadata_form, submodel_metadata}
+use Rattle.aas_form.specs.PathsFrom.{element_paths, submodel_paths}
+use Rattle.aas_form.specs.ReferenceTo.{reference_to, shell_reference}
+use Rattle.aas_form.specs.WithoutBlobs.{submodel_without_blobs, without_blobs}
+use Rattle.aas_path.specs.PathText.{path_text}
+use Rattle.aas_path_trees.specs.ElementAt.{depth_found, element_at}
 use Rattle.aas_command.specs.declared.question.Question.{Question}
-use Rattle.aas_command.specs.declared.question.Question.TheVariants.{Shell, Asset, Submodel, Concept}
-use Rattle.aas_command.specs.declared.refusal.Absent.{Absent}
+use Rattle.aas_command.specs.declared.question.Question.TheVariants as question
 use Rattle.aas_command.specs.declared.refusal.Absent.TheVariants as absent
 use Rattle.aas_command.specs.declared.refusal.Refusal.{Refusal}
-use Rattle.aas_command.specs.declared.refusal.Refusal.TheVariants.{NotFound}
+use Rattle.aas_command.specs.declared.refusal.Refusal.TheVariants.{NotFound, NoValueForm}
 use Rattle.aas_store.specs.Documents.{Documents}
 
--- the text of what is found
-abbrev pub text_or_absent : {D : Type 0} → Absent → (D → List ℕ) → Option D → Result (List ℕ) Refusal
-text_or_absent what text None = Err (NotFound what)
-text_or_absent what text (Some document) = Ok (text document)
+-- a body, or a refusal
+abbrev pub Answer : Type 0
+Answer = Result (List ℕ) Refusal
 
--- one row a question
-unfoldable pub answer_of : Documents → Question → Result (List ℕ) Refusal
-answer_of d (Shell id) = text_or_absent absent.Shell (canonical_text shells) (map.get d.shells (encode_utf8_all id))
-answer_of d (Asset id) = text_or_absent absent.Shell (λ s. canonical_text asset_informations s.asset) (map.get d.shells (encode_utf8_all id))
-answer_of d (Submodel id) = text_or_absent absent.Submodel (canonical_text submodels) (map.get d.submodels (encode_utf8_all id))
-answer_of d (Concept id) = text_or_absent absent.Concept (canonical_text concepts) (map.get d.concepts (encode_utf8_all id))
+-- ---- texts
+
+abbrev pub reference_text : Reference → List ℕ
+reference_text r = compact_text (spell_reference r)
+
+-- an array of the texts of paths
+abbrev pub paths_text : List Path → List ℕ
+paths_text ps = compact_text (array_of (λ p. string (path_text p.steps)) ps)
+
+-- of a value form, where there is one
+abbrev pub value_answer : Option Data → Answer
+value_answer None = Err NoValueForm
+value_answer (Some form) = Ok (compact_text form)
+
+-- ---- what is asked about
+
+abbrev pub of_shell : Documents → List ℕ → (Shell → Answer) → Answer
+of_shell d id answer = option_map_or answer (map.get d.shells (encode_utf8_all id)) (Err (NotFound absent.Shell))
+
+abbrev pub of_submodel : Documents → List ℕ → (Submodel → Answer) → Answer
+of_submodel d id answer = option_map_or answer (map.get d.submodels (encode_utf8_all id)) (Err (NotFound absent.Submodel))
+
+abbrev pub of_concept : Documents → List ℕ → (Concept → Answer) → Answer
+of_concept d id answer = option_map_or answer (map.get d.concepts (encode_utf8_all id)) (Err (NotFound absent.Concept))
+
+-- the path leads to nothing
+abbrev pub lost : List PathStep → Submodel → Answer
+lost p s = Err (NotFound (absent.Element (record { steps = take (depth_found s p) p })))
+
+abbrev pub of_element : Documents → List ℕ → List PathStep → (Element → Answer) → Answer
+of_element d id p answer = of_submodel d id (λ s. option_map_or answer (element_at s p) (lost p s))
+
+abbrev pub of_reference : Option Reference → Answer → Answer
+of_reference found none = option_map_or (λ r. Ok (reference_text r)) found none
+
+-- ---- one row a question
+
+unfoldable pub answer_of : Documents → Question → Answer
+answer_of d (question.Shell id) = of_shell d id (λ s. Ok (canonical_text shells s))
+answer_of d (question.ShellReference id) = of_shell d id (λ s. Ok (reference_text (shell_reference s)))
+answer_of d (question.Asset id) = of_shell d id (λ s. Ok (canonical_text asset_informations s.asset))
+answer_of d (question.Submodel id level extent) =
+    of_submodel d id (λ s. Ok (canonical_text submodels (submodel_without_blobs extent (submodel_core level s))))
+answer_of d (question.SubmodelMetadata id) = of_submodel d id (λ s. Ok (canonical_text submodels (submodel_metadata s)))
+answer_of d (question.SubmodelValue id level extent) = of_submodel d id (λ s. Ok (compact_text (submodel_value extent (submodel_core level s))))
+answer_of d (question.SubmodelReference id) = of_submodel d id (λ s. of_reference (reference_to s []) (lost [] s))
+answer_of d (question.SubmodelPaths id level) = of_submodel d id (λ s. Ok (paths_text (submodel_paths (submodel_core level s))))
+answer_of d (question.Element id p level extent) =
+    of_element d id p.steps (λ e. Ok (canonical_text elements (without_blobs extent (core_form level e))))
+answer_of d (question.ElementMetadata id p) = of_element d id p.steps (λ e. Ok (canonical_text elements (metadata_form e)))
+answer_of d (question.ElementValue id p level extent) = of_element d id p.steps (λ e. value_answer (value_form extent (core_form level e)))
+answer_of d (question.ElementReference id p) = of_submodel d id (λ s. of_reference (reference_to s p.steps) (lost p.steps s))
+answer_of d (question.ElementPaths id p level) = of_element d id p.steps (λ e. Ok (paths_text (element_paths p.steps (core_form level e))))
+answer_of d (question.Concept id) = of_concept d id (λ c. Ok (canonical_text concepts c))

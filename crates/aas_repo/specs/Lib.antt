@@ -2,3 +2,4 @@ pub mod Acts
 pub mod Answers
 pub mod Decisions
 pub mod Held
+pub mod Patches

@@ -1,5 +1,5 @@
 // Commands are refused, or change the store: the causes are tried from the left, and then the store is changed.
-ghost use Rattle.std.specs.Prelude.{◌≡◌, [], ◌∷◌, IfOk, IsTrue, None, option_map};
+ghost use Rattle.std.specs.Prelude.{◌≡◌, [], ◌∷◌, IfOk, IsTrue, option_map};
 ghost use Rattle.std.specs.Option.{option_copied};
 ghost use Rattle.std.specs.FinMap as map;
 ghost use Rattle.std.specs.Str.{encode_utf8_all};
@@ -12,10 +12,12 @@ ghost use Rattle.aas_json_table.specs.TooDeep.{limits};
 ghost use Rattle.aas_step.specs.Causes.{absent_of, first_of};
 ghost use Rattle.aas_step.specs.Step.{later_causes};
 ghost use Rattle.aas_step.specs.Valid.{AreValid};
-ghost use Rattle.aas_repo.specs.Decisions.{Deletes, IsDecision, Puts, with_asset};
+ghost use Rattle.aas_repo.specs.Decisions.{Deletes, IsDecision, Makes, with_asset};
 
 use crate::decision::Decision;
+use crate::editing::{Deletion, Insertion, Replacement, make_edit};
 use crate::stored::Stored;
+use crate::updating::update;
 use aas_command::{Absent, Command, Refusal};
 use aas_model::{AssetInformation, Collection, Duplicate, NoMemory, Shell, Text};
 use aas_store::Store;
@@ -44,6 +46,36 @@ pub(crate) fn decide<S: Store>(
         Command::DeleteSubmodel { id } => delete(store, Collection::Submodels, id, has_room),
         Command::DeleteConcept { id } => delete(store, Collection::Concepts, id, has_room),
         Command::SetAsset { shell, asset } => set_asset(alloc, store, shell, asset, has_room),
+        Command::InsertElement {
+            submodel,
+            path,
+            element,
+        } => make_edit(
+            alloc,
+            store,
+            submodel,
+            Insertion { path, element },
+            has_room,
+        ),
+        Command::ReplaceElement {
+            submodel,
+            path,
+            element,
+        } => make_edit(
+            alloc,
+            store,
+            submodel,
+            Replacement { path, element },
+            has_room,
+        ),
+        Command::DeleteElement { submodel, path } => {
+            make_edit(alloc, store, submodel, Deletion { path }, has_room)
+        }
+        Command::UpdateValue {
+            submodel,
+            path,
+            value,
+        } => update(alloc, store, submodel, path, value, has_room),
     }
 }
 
@@ -132,9 +164,14 @@ fn with_asset(shell: Option<&Shell>, asset: AssetInformation) -> Result<Option<S
 }
 
 /// Puts the one document that a command makes, unless a later cause refuses the command.
-fn put<S: Store, D: Stored>(alloc: Global, store: &mut S, document: D, has_room: bool) -> Decision
+pub(crate) fn put<S: Store, D: Stored>(
+    alloc: Global,
+    store: &mut S,
+    document: D,
+    has_room: bool,
+) -> Decision
     requires { IsTrue (is_whole (D.document document)) }
-    ensures { (c : commands.Command) → Puts (S.documents store.old) c None (D.document document) →
+    ensures { (c : commands.Command) → Makes (S.documents store.old) c (D.document document) →
         IsDecision has_room (S.documents store.old) c (S.documents store.new) result }
 {
     match later_cause(alloc, &document, has_room) {

@@ -3,11 +3,12 @@ use aas_outside::Frame;
 
 /// What was decided on a command, where it is known whether there is room to keep it.
 #[derive(Drop)]
-pub(crate) enum Decision {
+pub enum Decision {
     /// The store has what the command makes.
     Made,
-    /// The store is as it was, and so at `NoMemory`.
+    /// The first cause that refuses the command, which is never `StorageFault`. The store is as it was.
     Refused(Refusal),
+    /// Memory was refused. The store is as it was.
     NoMemory,
 }
 

@@ -4,13 +4,22 @@
 #![tactic(auto)]
 
 mod answers;
+mod asking;
+mod containers;
 mod count;
 mod deciding;
 mod decision;
+mod editing;
+mod element_answers;
 mod planning;
 mod repo;
 mod stored;
+mod submodel_answers;
+mod texts;
+mod updating;
 
+pub use decision::Decision;
+pub use planning::change;
 pub use repo::{Done, Repo};
 
 #[cfg(test)]

@@ -29,13 +29,13 @@ pub(crate) fn plan<S: Store, K: Keeper>(
     match encode(alloc, &command) {
         Ok(frame) => {
             let has_room = keeper.room(frame.len());
-            match make(alloc, store, command, has_room) {
+            match change(alloc, store, command, has_room) {
                 Decision::Made => Plan::Made(frame),
                 Decision::Refused(refusal) => Plan::Refused(refusal),
                 Decision::NoMemory => Plan::NoMemory,
             }
         }
-        Err(EncodeFault::TooLong) => match make(alloc, store, command, false) {
+        Err(EncodeFault::TooLong) => match change(alloc, store, command, false) {
             Decision::Made => unreachable!(),
             Decision::Refused(refusal) => Plan::Refused(refusal),
             Decision::NoMemory => Plan::NoMemory,
@@ -47,9 +47,10 @@ pub(crate) fn plan<S: Store, K: Keeper>(
     }
 }
 
-/// Refuses the command, or makes its change in the store, which stays one of valid documents.
+/// Refuses the command, or makes its change in the store, which stays one of valid documents. The causes are tried from the
+/// left, and the last is that there is no room to keep the command.
 #[tactic(auto, using(crate::proofs::Planned::decided_valid))]
-fn make<S: Store>(alloc: Global, store: &mut S, command: Command, has_room: bool) -> Decision
+pub fn change<S: Store>(alloc: Global, store: &mut S, command: Command, has_room: bool) -> Decision
     requires valid { AreValid (S.documents store.old) }
     requires well_formed { IsWellFormed command }
     ensures decision { IsDecision has_room (S.documents store.old) command (S.documents store.new) result }

@@ -9,7 +9,7 @@ ghost use Rattle.aas_repo.specs.Acts.{Acts, done_of};
 ghost use Rattle.aas_repo.specs.Answers.{answer_of};
 ghost use Rattle.aas_repo.specs.Held.{state_of};
 
-use crate::answers::{asset_answer, concept_answer, shell_answer, submodel_answer};
+use crate::asking::tell;
 use crate::decision::Plan;
 use crate::planning::plan;
 use aas_command::{Command, Question, Refusal};
@@ -113,18 +113,13 @@ impl<S: Store, K: Keeper> Repo<S, K> {
         }
     }
 
-    /// The body of the reply to a question, or why there is none: only `NotFound` and `NoMemory` come.
-    #[tactic(auto, unfolding(crate::specs::Answers::answer_of))]
+    /// The body of the reply to a question, or why there is none: only `NotFound`, `NoValueForm` and `NoMemory`
+    /// come.
     pub fn ask(&self, question: &Question) -> Result<Many<u8>, Refusal>
         requires { self.now.stopped ≡ false }
         ensures { (result ≡ Err NoMemory) ⊎ (result ≡ answer_of self.now.documents question.now) }
     {
-        match question {
-            Question::Shell { id } => shell_answer(self.alloc, &self.store, id),
-            Question::Asset { id } => asset_answer(self.alloc, &self.store, id),
-            Question::Submodel { id } => submodel_answer(self.alloc, &self.store, id),
-            Question::Concept { id } => concept_answer(self.alloc, &self.store, id),
-        }
+        tell(self.alloc, &self.store, question)
     }
 }
 
@@ -145,6 +140,7 @@ fn done_of(command: &Command) -> Done
         Command::CreateShell { .. } => Done::Created,
         Command::CreateSubmodel { .. } => Done::Created,
         Command::CreateConcept { .. } => Done::Created,
+        Command::InsertElement { .. } => Done::Created,
         _ => Done::Changed,
     }
 }

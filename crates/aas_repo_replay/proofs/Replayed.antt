@@ -1,18 +1,16 @@
 -- What payloads replay to grows at their end, is one state, and is valid.
-use Rattle.std.proofs.Common.{◌≡◌, ◌⊎◌, inl, inr, ℕ, zero, suc, ◌+◌, ◌<◌, Bool, true, false, List, [], ◌∷◌, ◌++◌, Option, Some, None, refl, sym, ap, ◌∙◌, subst, length, take, get_or, arith}
+use Rattle.std.proofs.Common.{◌≡◌, inl, inr, ℕ, zero, suc, ◌+◌, ◌<◌, Bool, true, false, List, [], ◌∷◌, ◌++◌, Some, None, refl, sym, ◌∙◌, subst, length, take, get_or, arith}
 use Rattle.std.proofs.lemmas.Bool.{cases_order}
-use Rattle.std.proofs.lemmas.List.{take-take, take_all, take_more}
+use Rattle.std.proofs.lemmas.List.{take-take, take_more}
 use Rattle.std.proofs.lemmas.Option.{get_or_from_slice_get, slice_get_within}
-use Rattle.std.specs.Prelude.{IfSome, flat_map, slice_get}
+use Rattle.std.specs.Prelude.{flat_map, slice_get}
 use Rattle.aas_command.specs.Commands.{IsWellFormed, payload_of}
 use Rattle.aas_command.specs.Encoding.{HasFields}
 use Rattle.aas_command.specs.declared.command.Command.{Command}
 use Rattle.aas_command.specs.declared.refusal.Refusal.{Refusal}
 use Rattle.aas_command.specs.declared.refusal.Refusal.TheVariants.{StorageFull}
-use Rattle.aas_journal.specs.Given.{GivesNext, IsGateOf}
-use Rattle.aas_outside_disk.specs.Files.{Files}
-use Rattle.aas_record.specs.Laws.{IsOfOneCommand, RecordsAreRight}
-use Rattle.aas_record.specs.Records.{IsNoRecord, IsRecord}
+use Rattle.aas_record.specs.Laws.{IsOfOneCommand}
+use Rattle.aas_record.specs.Records.{IsRecord}
 use Rattle.aas_rule.specs.Rule.{Repository, Room}
 use Rattle.aas_step.proofs.Validity.{empty_valid, stays_valid}
 use Rattle.aas_step.specs.Causes.{Cause, causes, document_causes, first_of, unless}
@@ -101,6 +99,19 @@ next_in_front (first ∷ payloads) m zero payload low e = absurd (omega arith)
 next_in_front (first ∷ payloads) zero (suc n) payload low e = e
 next_in_front (first ∷ payloads) (suc m) (suc n) payload low e = next_in_front payloads m n payload (omega (arith, low)) e
 
+-- ---- valid documents
+
+adds_valid : (old : Documents) (payload : List ℕ) (new : Documents) → AreValid old → Adds old payload new → AreValid new
+unfolding Steps
+adds_valid old payload new valid (c, is, steps) = stays_valid true old new c is.well_formed valid steps
+
+valid_from : (old : Documents) (payloads : List (List ℕ)) (d : Documents) → AreValid old → ReplaysFrom old payloads d → AreValid d
+valid_from old [] d valid is = subst AreValid (sym is) valid
+valid_from old (payload ∷ payloads) d valid (next, adds, rest) = valid_from next payloads d (adds_valid old payload next valid adds) rest
+
+pub replays_valid : ReplaysValid
+replays_valid payloads d is = valid_from empty payloads d empty_valid is
+
 -- ---- one state
 
 -- the command that a payload adds in some documents comes to what it adds
@@ -111,30 +122,31 @@ adds_by one d payload c new is (other, too, comes) =
     subst (λ (x : Command). ComesTo true d x (accepted new)) (one payload other c too is) comes
 
 module _ (one_command : IsOfOneCommand) (one_result : OneResult) where
-  one_in : (d : Documents) (c : Command) (a b : Result) → ComesTo true d c a → ComesTo true d c b → a ≡ b
+  one_in : (d : Documents) (c : Command) (a b : Result) → AreValid d → ComesTo true d c a → ComesTo true d c b → a ≡ b
   unfolding Steps
-  one_in d c a b first second = one_result always_room (record { documents = d; records = [] }) c a b first second
+  one_in d c a b valid first second = one_result always_room (record { documents = d; records = [] }) c a b valid first second
 
-  adds_once : (d : Documents) (payload : List ℕ) (a b : Documents) → Adds d payload a → Adds d payload b → a ≡ b
+  adds_once : (d : Documents) (payload : List ℕ) (a b : Documents) → AreValid d → Adds d payload a → Adds d payload b → a ≡ b
   unfolding Steps
-  adds_once d payload a b (c, is, steps) adds =
-      let e : accepted a ≡ accepted b = one_in d c (accepted a) (accepted b) steps (adds_by one_command d payload c b is adds) in
+  adds_once d payload a b valid (c, is, steps) adds =
+      let e : accepted a ≡ accepted b = one_in d c (accepted a) (accepted b) valid steps (adds_by one_command d payload c b is adds) in
       cc
 
-  from_once : (old : Documents) (payloads : List (List ℕ)) (a b : Documents) → ReplaysFrom old payloads a → ReplaysFrom old payloads b → a ≡ b
-  from_once old [] a b first second = first ∙ sym second
-  from_once old (payload ∷ payloads) a b (next, made, rest) (other, too, others) =
-      from_once next payloads a b rest (subst (λ (x : Documents). ReplaysFrom x payloads b) (adds_once old payload other next too made) others)
+  from_once : (old : Documents) (payloads : List (List ℕ)) (a b : Documents) → AreValid old → ReplaysFrom old payloads a → ReplaysFrom old payloads b → a ≡ b
+  from_once old [] a b valid first second = first ∙ sym second
+  from_once old (payload ∷ payloads) a b valid (next, made, rest) (other, too, others) =
+      from_once next payloads a b (adds_valid old payload next valid made) rest
+      (subst (λ (x : Documents). ReplaysFrom x payloads b) (adds_once old payload other next valid too made) others)
 
   pub one_replay : OneReplay
-  one_replay payloads a b first second = from_once empty payloads a b first second
+  one_replay payloads a b first second = from_once empty payloads a b empty_valid first second
 
   -- ---- one place
 
   never_both : (payloads : List (List ℕ)) (n : ℕ) (d e : Documents) → Replays payloads d → ¬ (StopsAt payloads n e)
   never_both payloads n d e is stop =
       let at = reached empty payloads n stop.payload d is stop.next in
-      let same : at.mid ≡ e = from_once empty (take n payloads) at.mid e at.before stop.before in
+      let same : at.mid ≡ e = from_once empty (take n payloads) at.mid e empty_valid at.before stop.before in
       stop.nothing at.next (subst (λ (x : Documents). Adds x stop.payload at.next) same at.adds)
 
   never_later : (payloads : List (List ℕ)) (m n : ℕ) (d e : Documents) → m < n → StopsAt payloads m d → ¬ (StopsAt payloads n e)
@@ -159,66 +171,13 @@ module _ (one_command : IsOfOneCommand) (one_result : OneResult) where
 
   -- ---- the command of one payload
 
-  pub refused_adds_nothing : (d : Documents) (payload : List ℕ) (c : Command) (why : Refusal) → IsRecord payload c
+  pub refused_adds_nothing : (d : Documents) (payload : List ℕ) (c : Command) (why : Refusal) → AreValid d → IsRecord payload c
       → ComesTo true d c (refused why) → AddsNothing d payload
-  refused_adds_nothing d payload c why is comes new adds =
-      let e : refused why ≡ accepted new = one_in d c (refused why) (accepted new) comes (adds_by one_command d payload c new is adds) in
+  refused_adds_nothing d payload c why valid is comes new adds =
+      let e : refused why ≡ accepted new = one_in d c (refused why) (accepted new) valid comes (adds_by one_command d payload c new is adds) in
       cc
-
-pub no_record_adds_nothing : RecordsAreRight → (d : Documents) (payload : List ℕ) (at : ℕ) → IsNoRecord payload at → AddsNothing d payload
-no_record_adds_nothing right d payload at wrong new (c, is, steps) = right payload c at is wrong
 
 pub accepted_record_adds : (d : Documents) (payload : List ℕ) (c : Command) (new : Documents) → IsRecord payload c
     → ComesTo true d c (accepted new) → Adds d payload new
 unfolding Steps
 accepted_record_adds d payload c new is comes = (c, is, comes)
-
--- ---- valid documents
-
-valid_from : (old : Documents) (payloads : List (List ℕ)) (d : Documents) → AreValid old → ReplaysFrom old payloads d → AreValid d
-unfolding Steps
-valid_from old [] d valid is = subst AreValid (sym is) valid
-valid_from old (payload ∷ payloads) d valid (next, (c, is, steps), rest) =
-    valid_from next payloads d (stays_valid true old next c is.well_formed valid steps) rest
-
-pub replays_valid : ReplaysValid
-replays_valid payloads d is = valid_from empty payloads d empty_valid is
-
--- ---- the walk over a journal
-
--- the payloads before this gate replay to these documents
-pub record HasDone (payloads : List (List ℕ)) (gate : ℕ) (d : Documents) : Type 0 where
-  pub n : ℕ
-  pub at : IsGateOf payloads gate n
-  pub replays : Replays (take n payloads) d
-
-pub none_done : (payloads : List (List ℕ)) (d : Documents) → d ≡ empty → HasDone payloads 8 d
-none_done payloads d is = record { n = 0; at = record { within = omega arith; at_is = refl }; replays = is }
-
-pub all_done : (payloads : List (List ℕ)) (n : ℕ) (d : Documents) → n ≡ length payloads → Replays (take n payloads) d → Replays payloads d
-all_done payloads n d is replays =
-    subst (λ (l : List (List ℕ)). Replays l d) (take_all n payloads (omega (arith, is))) replays
-
-pub next_done : (payloads : List (List ℕ)) (gate next : ℕ) (before items : List ℕ) (old new : Documents) (done : HasDone payloads gate old)
-    → before ≡ [] → GivesNext payloads done.n before items (Some next) → Adds old items new → HasDone payloads next new
-next_done payloads gate next before items old new done cleared (payload, is, read, place) adds =
-    let within : done.n < length payloads = slice_get_within payloads done.n payload is in
-    let same : items ≡ payload = read ∙ ap (λ (l : List ℕ). l ++ payload) cleared in record {
-      n = done.n + 1;
-      at = record { within = omega arith; at_is = place };
-      replays = next_replays payloads done.n old payload new done.replays is (subst (λ (x : List ℕ). Adds old x new) same adds);
-    }
-
-pub stop_done : (payloads : List (List ℕ)) (gate next : ℕ) (before items : List ℕ) (old new : Documents) (done : HasDone payloads gate old)
-    → before ≡ [] → GivesNext payloads done.n before items (Some next) → AddsNothing old items → new ≡ old → StopsAt payloads done.n new
-stop_done payloads gate next before items old new done cleared (payload, is, read, place) nothing stays =
-    let same : items ≡ payload = read ∙ ap (λ (l : List ℕ). l ++ payload) cleared in record {
-      before = subst (λ (x : Documents). Replays (take done.n payloads) x) (sym stays) done.replays;
-      payload = payload;
-      next = is;
-      nothing = subst (λ (x : Documents). AddsNothing x payload) (sym stays) (subst (AddsNothing old) same nothing);
-    }
-
-pub where_told : (seen : Option Files) (P : Files → Type 0) → ((files : Files) → seen ≡ Some files → P files) → IfSome seen P
-where_told None P h = tt
-where_told (Some files) P h = h files refl

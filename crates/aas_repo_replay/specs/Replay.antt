@@ -1,5 +1,5 @@
 -- What payloads replay to: what their commands make, one after another, of no documents at all. This profile's own rule.
-use Rattle.std.specs.Prelude.{◌≡◌, ℕ, Bool, true, List, [], ◌∷◌, Some, slice_get, take}
+use Rattle.std.specs.Prelude.{◌≡◌, ℕ, true, List, [], ◌∷◌, Some, slice_get, take}
 use Rattle.aas_command.specs.declared.command.Command.{Command}
 use Rattle.aas_record.specs.Records.{IsRecord}
 use Rattle.aas_rule.specs.Rule.{Room}

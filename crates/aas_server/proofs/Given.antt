@@ -1,12 +1,59 @@
 -- What was given to the console, and with which status a run ends.
-use Rattle.std.proofs.Common.{◌≡◌, ◌⊎◌, ℕ, List, [], ◌∷◌, Option, subst, sym, inl, inr, lit<}
+use Rattle.std.proofs.Common.{◌≡◌, ◌≢◌, ◌⊎◌, ⊎_elim, ℕ, List, [], ◌∷◌, Option, refl, subst, sym, ◌∙◌, inl, inr, lit<}
 use Rattle.std.specs.Prelude.{Contains}
+use Rattle.std.specs.Io.KnownBytes.{append_known}
+use Rattle.aas_outside.specs.Faults.{Rose}
 use Rattle.aas_outside.specs.Link.{GivesFront}
+use Rattle.aas_server.specs.Answer.{Answer, GivesFrontOf, Says, damage}
+use Rattle.aas_server.specs.Ends.{ConsoleState}
 
 -- after a call that gave nothing, of a text that is another's
 pub front_moved : (old mid new : Option (List ℕ)) (text items : List ℕ) → mid ≡ old → text ≡ items → GivesFront mid new text → GivesFront old new items
 front_moved old mid new text items nothing same front =
     subst (λ (before : Option (List ℕ)). GivesFront before new items) nothing (subst (λ (bytes : List ℕ). GivesFront mid new bytes) same front)
+
+-- ---- what was said
+
+front_weaker : (P Q : Answer → Type 0) (old new : Option (List ℕ)) → ((answer : Answer) → P answer → Q answer) → GivesFrontOf P old new → GivesFrontOf Q old new
+front_weaker P Q old new then (inl nothing) = inl nothing
+front_weaker P Q old new then (inr (answer, is, front)) = inr (answer, then answer is, front)
+
+pub says_weaker : (P Q : Answer → Type 0) (status : ℕ) (old new : ConsoleState) → ((answer : Answer) → P answer → Q answer)
+    → Says P status old new → Says Q status old new
+says_weaker P Q status old new then says = record {
+  given = λ not3 not10. let given = says.given not3 not10 in (given.0, then given.0 given.1, given.2, given.3);
+  front = λ is. front_weaker P Q old.sent new.sent then (says.front is);
+  fault = says.fault;
+  memory = says.memory;
+}
+
+three_or_ten : (n : ℕ) → n ≡ 3 → n ≡ 10 → ⊥
+three_or_ten n three ten = cc
+
+-- a line that takes no memory
+pub says_line : (answer : Answer) (status : ℕ) (old new : ConsoleState) → answer.status ≢ 10
+    → (status ≢ 3 → (status ≡ answer.status) × (new.sent ≡ append_known old.sent answer.text)) → (status ≡ 3 → GivesFront old.sent new.sent answer.text)
+    → (status ≡ 3 → Rose old.faults new.faults) → (status ≡ 3) ⊎ (status ≡ answer.status) → Says (λ said. said ≡ answer) status old new
+says_line answer status old new never given front fault statuses = record {
+  given = λ not3 not10. let all = given not3 in (answer, refl, all.0, all.1);
+  front = λ is. inr (answer, refl, front is);
+  fault = fault;
+  memory = λ ten. absurd (⊎_elim (λ three. three_or_ten status three ten) (λ is. never (sym is ∙ ten)) statuses);
+}
+
+pub says_damage : (at status : ℕ) (old new : ConsoleState) → (status ≡ 6 → new.sent ≡ append_known old.sent (damage at).text)
+    → (status ≡ 3 → GivesFront old.sent new.sent (damage at).text) → (status ≡ 3 → Rose old.faults new.faults) → (status ≡ 10 → new.sent ≡ old.sent)
+    → (status ≡ 3) ⊎ (status ≡ 6) ⊎ (status ≡ 10) → Says (λ said. said ≡ damage at) status old new
+says_damage at status old new given front fault silent statuses = record {
+  given = λ not3 not10.
+      let six : status ≡ 6 = ⊎_elim (λ three. absurd (not3 three)) (λ rest. ⊎_elim (λ six. six) (λ ten. absurd (not10 ten)) rest) statuses in
+      (damage at, refl, six, given six);
+  front = λ is. inr (damage at, refl, front is);
+  fault = fault;
+  memory = silent;
+}
+
+-- ---- statuses
 
 pub refused_status : (n : ℕ) → (n ≡ 3) ⊎ (n ≡ 7) ⊎ (n ≡ 10) → Contains (0 ∷ 3 ∷ 7 ∷ 10 ∷ []) n
 refused_status n (inl is) = (1, lit< tt, sym is)
@@ -21,3 +68,11 @@ never_ten n (inr is) ten = cc
 pub done_status : (n : ℕ) → (n ≡ 3) ⊎ (n ≡ 0) → Contains (0 ∷ 3 ∷ 7 ∷ 10 ∷ []) n
 done_status n (inl is) = (1, lit< tt, sym is)
 done_status n (inr is) = (0, lit< tt, sym is)
+
+pub made_status : (n : ℕ) → (n ≡ 3) ⊎ (n ≡ 0) → Contains (0 ∷ 3 ∷ 4 ∷ 8 ∷ []) n
+made_status n (inl is) = (1, lit< tt, sym is)
+made_status n (inr is) = (0, lit< tt, sym is)
+
+pub there_status : (n : ℕ) → (n ≡ 3) ⊎ (n ≡ 8) → Contains (0 ∷ 3 ∷ 4 ∷ 8 ∷ []) n
+there_status n (inl is) = (1, lit< tt, sym is)
+there_status n (inr is) = (3, lit< tt, sym is)

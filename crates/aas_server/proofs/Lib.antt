@@ -1,4 +1,9 @@
+mod Early
 mod Given
-mod Serving
+mod OneWay
+mod Opened
+mod OpenedThen
+mod Replayed
+mod Since
 mod ValueAnswers
 mod Words

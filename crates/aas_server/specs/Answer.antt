@@ -27,6 +27,22 @@ refused r = record { status = 7; text = line (codes "aasd: refused " ++ decimal 
 abbrev pub not_a_command : Answer
 not_a_command = record { status = 2; text = line (codes "aasd: not a command") }
 
+-- a call of the disk failed
+abbrev pub disk_failed : Answer
+disk_failed = record { status = 4; text = line (codes "aasd: disk fault") }
+
+-- there is no journal
+abbrev pub no_journal : Answer
+no_journal = record { status = 5; text = line (codes "aasd: not initialised") }
+
+-- the journal is damaged at this gate
+abbrev pub damage : ℕ → Answer
+damage at = record { status = 6; text = line (codes "aasd: damaged at " ++ decimal at) }
+
+-- a journal is to be made where something is
+abbrev pub already_there : Answer
+already_there = record { status = 8; text = line (codes "aasd: already there") }
+
 -- the status and what was given are those of an answer with P
 abbrev pub GivesAnswer : (Answer → Type 0) → ℕ → Option (List ℕ) → Option (List ℕ) → Type 0
 GivesAnswer P status old new = (answer : Answer) × P answer × (status ≡ answer.status) × (new ≡ append_known old answer.text)

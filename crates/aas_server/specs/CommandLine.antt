@@ -2,9 +2,10 @@
 use Rattle.std.specs.Prelude.{◌≡◌, ◌≤◌, ℕ, List, [], ◌∷◌, ◌==◌, Bool, false, codes, decimal, Option, Some, None, IfSome}
 use Rattle.std.specs.List.{list_any}
 use Rattle.aas_server.specs.declared.command_line.CommandLine.{CommandLine}
-use Rattle.aas_server.specs.declared.command_line.CommandLine.TheVariants.{Value, Pipe, Serve}
+use Rattle.aas_server.specs.declared.command_line.CommandLine.TheVariants.{Value, Init, Pipe, Serve}
 use Rattle.aas_server.specs.Answer.{Says, not_a_command}
-use Rattle.aas_server.specs.Ends.{ConsoleState, WireState}
+use Rattle.aas_server.specs.Ends.{ConsoleState, DiskState, WireState}
+use Rattle.aas_server.specs.Init.{Inits}
 use Rattle.aas_server.specs.Pipe.{Pipes}
 use Rattle.aas_server.specs.Serve.{Serves}
 use Rattle.aas_server.specs.ValueAnswer.{IsValueAnswer}
@@ -18,24 +19,32 @@ IsCount count = (1 ≤ count) × (count ≤ 1000000)
 -- the words of each command
 abbrev pub AreWordsOf : CommandLine → List (List ℕ) → Type 0
 AreWordsOf Value words = words ≡ codes "value" ∷ []
+AreWordsOf Init words = words ≡ codes "init" ∷ []
 AreWordsOf Pipe words = words ≡ codes "pipe" ∷ []
 AreWordsOf (Serve count) words =
     IsCount count × ((address : List ℕ) × (words ≡ codes "serve" ∷ address ∷ decimal count ∷ []))
 
--- what a run of each command, or of no command, does: its status, and the console and the wire before and after it
-abbrev pub Does : Option CommandLine → ℕ → ConsoleState → ConsoleState → WireState → WireState → Type 0
-Does None status old new wire_old wire_new = Says (λ answer. answer ≡ not_a_command) status old new × (wire_new ≡ wire_old)
-Does (Some Value) status old new wire_old wire_new =
-    Says (λ answer. IfSome old.left (λ input. IsValueAnswer input answer)) status old new × (wire_new ≡ wire_old)
-Does (Some Pipe) status old new wire_old wire_new = Pipes status old new × (wire_new ≡ wire_old)
-Does (Some (Serve count)) status old new wire_old wire_new = Serves count status wire_old wire_new × (new ≡ old)
+-- What a run of each command, or of no command, does: its status, and the console, the wire and the disk before and after it,
+-- of which the disk is seen so.
+abbrev pub Does : {D : Type 0} → (D → DiskState) → Option CommandLine → ℕ → ConsoleState → ConsoleState → WireState → WireState → D → D → Type 0
+Does view None status old new wire_old wire_new disk_old disk_new =
+    Says (λ answer. answer ≡ not_a_command) status old new × (wire_new ≡ wire_old) × (disk_new ≡ disk_old)
+Does view (Some Value) status old new wire_old wire_new disk_old disk_new =
+    Says (λ answer. IfSome old.left (λ input. IsValueAnswer input answer)) status old new × (wire_new ≡ wire_old) × (disk_new ≡ disk_old)
+Does view (Some Init) status old new wire_old wire_new disk_old disk_new =
+    Inits status old new (view disk_old) (view disk_new) × (wire_new ≡ wire_old)
+Does view (Some Pipe) status old new wire_old wire_new disk_old disk_new =
+    Pipes status old new (view disk_old) (view disk_new) × (wire_new ≡ wire_old)
+Does view (Some (Serve count)) status old new wire_old wire_new disk_old disk_new =
+    Serves count status old new wire_old wire_new (view disk_old) (view disk_new)
 
 -- the statuses with which a run of each command, or of no command, may end
 abbrev pub statuses_of : Option CommandLine → List ℕ
 statuses_of None = 2 ∷ 3 ∷ []
 statuses_of (Some Value) = 0 ∷ 3 ∷ 7 ∷ 10 ∷ []
-statuses_of (Some Pipe) = 0 ∷ 3 ∷ 4 ∷ 10 ∷ []
-statuses_of (Some (Serve count)) = 0 ∷ 3 ∷ 4 ∷ 10 ∷ []
+statuses_of (Some Init) = 0 ∷ 3 ∷ 4 ∷ 8 ∷ []
+statuses_of (Some Pipe) = 0 ∷ 3 ∷ 4 ∷ 5 ∷ 6 ∷ 10 ∷ []
+statuses_of (Some (Serve count)) = 0 ∷ 3 ∷ 4 ∷ 5 ∷ 6 ∷ 10 ∷ []
 
 -- ---- the words as a whole
 

@@ -1,8 +1,13 @@
 pub mod Answer
-pub mod Beginning
+pub mod Causes
 pub mod CommandLine
 pub mod Console
+pub mod Early
 pub mod Ends
+pub mod Init
+pub mod Laws
+pub mod OnDisk
+pub mod Opening
 pub mod Pipe
 pub mod Serve
 pub mod Status

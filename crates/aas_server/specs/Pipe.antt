@@ -1,15 +1,18 @@
--- What `pipe` does: it serves one connection, the console, from a repository that begins empty. This profile's own rule.
+-- What `pipe` does: it serves one connection, the console, from the repository on the disk. This profile's own rule.
 use Rattle.std.specs.Prelude.{◌≡◌, ◌⊎◌, ℕ, List, Some}
+use Rattle.aas_journal.specs.Kept.{has_room_behind}
 use Rattle.aas_outside.specs.Faults.{Rose}
-use Rattle.aas_outside.specs.MemKeeper.{MemKeeperState}
-use Rattle.aas_repo.specs.Held.{Held}
+use Rattle.aas_rule.specs.Rule.{Repository}
 use Rattle.aas_session.specs.Served.{Served}
 use Rattle.aas_session.specs.declared.connection.Ended.{Ended}
 use Rattle.aas_session.specs.declared.connection.Ended.TheVariants.{Closed, LinkFault, KeeperFault, NoMemory}
 use Rattle.aas_step.specs.Valid.{AreValid}
+use Rattle.aas_store.specs.Documents.{Documents}
 use Rattle.aas_api_service.specs.Turns.{Turns}
-use Rattle.aas_server.specs.Beginning.{beginning, memory_room, memory_state, StandsFor}
-use Rattle.aas_server.specs.Ends.{ConsoleState}
+use Rattle.aas_server.specs.Early.{EndsEarly}
+use Rattle.aas_server.specs.Ends.{ConsoleState, DiskState}
+use Rattle.aas_server.specs.OnDisk.{StandsFor, state_on}
+use Rattle.aas_server.specs.Opening.{HasBegun, OpensAs}
 
 -- the status of a connection that ended so
 abbrev pub pipe_status : Ended → ℕ
@@ -18,16 +21,25 @@ pipe_status LinkFault = 3
 pipe_status KeeperFault = 4
 pipe_status NoMemory = 10
 
--- Of the session on the input of the console this was done, and the documents that it left are valid.
-pub record IsPiped (ended : Ended) (input : List ℕ) (old new : ConsoleState) : Type 0 where
-  pub held : Held MemKeeperState
-  pub served : Served (Turns memory_room) StandsFor beginning input 0 (memory_state held) old.sent new.sent
-      (Rose old.faults new.faults) ended
-  pub valid : AreValid held.documents
+-- Of the session on the input from this repository this was done, and the documents that it left are valid. What a stop
+-- leaves is said from the start of the run on.
+pub record IsPiped (ended : Ended) (input : List ℕ) (r : Repository Documents) (old new : ConsoleState) (disk_old disk_new : DiskState) : Type 0 where
+  pub documents : Documents
+  pub served : Served (Turns has_room_behind) (StandsFor disk_old r.records) r input disk_old.moment (state_on disk_new documents)
+      old.sent new.sent (Rose old.faults new.faults) ended
+  pub valid : AreValid documents
 
--- there was no memory to begin with, or the connection was served
-abbrev pub Pipes : ℕ → ConsoleState → ConsoleState → Type 0
-Pipes status old new =
-    ((status ≡ 10) × (new ≡ old))
-    ⊎ ((ended : Ended) × (status ≡ pipe_status ended) × (ended ≡ LinkFault → Rose old.faults new.faults)
-    × ((input : List ℕ) → old.left ≡ Some input → IsPiped ended input old new))
+-- the connection was served
+pub record IsConsoleServed (status : ℕ) (old new : ConsoleState) (disk_old disk_new : DiskState) : Type 0 where
+  pub ended : Ended
+  pub status_is : status ≡ pipe_status ended
+  pub has_begun : HasBegun disk_old
+  pub piped : (input : List ℕ) (r : Repository Documents) → old.left ≡ Some input → OpensAs disk_old r
+      → IsPiped ended input r old new disk_old disk_new
+  pub link_fault : ended ≡ LinkFault → Rose old.faults new.faults
+  pub keeper_fault : ended ≡ KeeperFault → Rose disk_old.faults disk_new.faults
+
+-- no repository was begun, or the connection was served
+abbrev pub Pipes : ℕ → ConsoleState → ConsoleState → DiskState → DiskState → Type 0
+Pipes status old new disk_old disk_new =
+    EndsEarly status old new disk_old disk_new ⊎ IsConsoleServed status old new disk_old disk_new

@@ -1,41 +1,58 @@
 -- What `serve` does: it serves the connections of a wire one after another, each from the repository that the one before
--- left, the first from an empty one. This profile's own rule.
+-- left, the first from that on the disk. This profile's own rule.
 use Rattle.std.specs.Prelude.{◌≡◌, ◌⊎◌, ℕ, List, Some}
+use Rattle.aas_journal.specs.Kept.{has_room_behind}
 use Rattle.aas_outside.specs.Faults.{Rose}
-use Rattle.aas_outside.specs.MemKeeper.{MemKeeperState}
 use Rattle.aas_outside.specs.Surroundings.{Connections, sent_on_all}
-use Rattle.aas_repo.specs.Held.{Held}
+use Rattle.aas_rule.specs.Rule.{Repository}
 use Rattle.aas_session.specs.Connections.{ServesAll}
 use Rattle.aas_session.specs.declared.wire.WireEnded.{WireEnded}
 use Rattle.aas_session.specs.declared.wire.WireEnded.TheVariants.{Done, WireFault, KeeperFault}
 use Rattle.aas_step.specs.Valid.{AreValid}
+use Rattle.aas_store.specs.Documents.{Documents}
 use Rattle.aas_api_service.specs.Turns.{Turns}
-use Rattle.aas_server.specs.Beginning.{beginning, memory_room, memory_state, StandsFor}
-use Rattle.aas_server.specs.Ends.{WireState}
+use Rattle.aas_server.specs.Early.{EndsEarly}
+use Rattle.aas_server.specs.Ends.{ConsoleState, DiskState, IsUnwritten, WireState}
+use Rattle.aas_server.specs.OnDisk.{StandsFor, state_on}
+use Rattle.aas_server.specs.Opening.{HasBegun, OpensAs}
 
 abbrev pub serve_status : WireEnded → ℕ
 serve_status Done = 0
 serve_status WireFault = 3
 serve_status KeeperFault = 4
 
--- nothing was begun, taken or given
-pub record IsUnserved (old new : WireState) : Type 0 where
+-- A repository was begun, but the wire can't listen. Nothing was begun, taken or given on it, and the disk was only read.
+pub record IsUnserved (status : ℕ) (old new : WireState) (disk_old disk_new : DiskState) : Type 0 where
+  pub status_is : status ≡ 3
+  pub has_begun : HasBegun disk_old
+  pub fault : Rose old.wire_faults new.wire_faults
   pub connections : new.connections ≡ old.connections
   pub left : new.left ≡ old.left
   pub sent : new.sent ≡ old.sent
+  pub unwritten : IsUnwritten disk_old disk_new
 
--- Of so many of the connections that were to come this was done, and the documents that they left are valid.
-pub record IsServed (count : ℕ) (ended : WireEnded) (c : Connections) (sent : List ℕ) (old new : WireState) : Type 0 where
-  pub held : Held MemKeeperState
-  pub served : ServesAll (Turns memory_room) StandsFor beginning c.coming (sent_on_all c sent) count 0 (memory_state held)
-      new.connections new.sent (Rose old.faults new.faults) ended
-  pub valid : AreValid held.documents
+-- From this repository on, of so many of the connections that were to come this was done, and the documents that they left
+-- are valid. What a stop leaves is said from the start of the run on.
+pub record IsServed (count : ℕ) (ended : WireEnded) (c : Connections) (sent : List ℕ) (r : Repository Documents)
+    (old new : WireState) (disk_old disk_new : DiskState) : Type 0 where
+  pub documents : Documents
+  pub served : ServesAll (Turns has_room_behind) (StandsFor disk_old r.records) r c.coming (sent_on_all c sent) count
+      disk_old.moment (state_on disk_new documents) new.connections new.sent (Rose old.faults new.faults) ended
+  pub valid : AreValid documents
 
--- there was no memory to begin with, or the wire can't listen, or its connections were served
-abbrev pub Serves : ℕ → ℕ → WireState → WireState → Type 0
-Serves count status old new =
-    ((status ≡ 10) × IsUnserved old new)
-    ⊎ ((status ≡ 3) × Rose old.wire_faults new.wire_faults × IsUnserved old new)
-    ⊎ ((ended : WireEnded) × (status ≡ serve_status ended) × (ended ≡ WireFault → Rose old.wire_faults new.wire_faults)
-    × ((c : Connections) (sent : List ℕ) → old.connections ≡ Some c → old.sent ≡ Some sent →
-    IsServed count ended c sent old new))
+-- connections were served
+pub record IsWireServed (count status : ℕ) (old new : WireState) (disk_old disk_new : DiskState) : Type 0 where
+  pub ended : WireEnded
+  pub status_is : status ≡ serve_status ended
+  pub has_begun : HasBegun disk_old
+  pub served : (c : Connections) (sent : List ℕ) (r : Repository Documents) → old.connections ≡ Some c → old.sent ≡ Some sent
+      → OpensAs disk_old r → IsServed count ended c sent r old new disk_old disk_new
+  pub wire_fault : ended ≡ WireFault → Rose old.wire_faults new.wire_faults
+  pub keeper_fault : ended ≡ KeeperFault → Rose disk_old.faults disk_new.faults
+
+-- no repository was begun, or the wire can't listen, or its connections were served
+abbrev pub Serves : ℕ → ℕ → ConsoleState → ConsoleState → WireState → WireState → DiskState → DiskState → Type 0
+Serves count status old new wire_old wire_new disk_old disk_new =
+    (EndsEarly status old new disk_old disk_new × (wire_new ≡ wire_old))
+    ⊎ (IsUnserved status wire_old wire_new disk_old disk_new × (new ≡ old))
+    ⊎ (IsWireServed count status wire_old wire_new disk_old disk_new × (new ≡ old))

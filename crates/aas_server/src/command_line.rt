@@ -13,9 +13,11 @@ const MOST_CONNECTIONS: u32 = 1_000_000;
 pub enum CommandLine {
     /// The value form of the element on the console.
     Value,
-    /// The repository on the console, as one connection.
+    /// A journal without payloads on the disk.
+    Init,
+    /// The repository on the disk, and the console as its one connection.
     Pipe,
-    /// The repository on so many connections of a wire, 1 to 1,000,000. The address stands in the words.
+    /// The repository on the disk, and so many connections of a wire, 1 to 1,000,000. The address stands in the words.
     Serve { count: u32 },
 }
 
@@ -36,6 +38,7 @@ fn lone(word: &Text) -> Option<CommandLine>
 {
     match word.as_str() {
         "value" => Some(CommandLine::Value),
+        "init" => Some(CommandLine::Init),
         "pipe" => Some(CommandLine::Pipe),
         _ => None,
     }

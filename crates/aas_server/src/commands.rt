@@ -1,40 +1,70 @@
 // The commands of the program.
 ghost use Rattle.std.specs.Prelude.{◌≡◌, ◌≢◌, ◌<◌, ◌≤◌, length, IfSome, IfOk, IfErr, IsErrOf, Contains};
 ghost use Rattle.aas_outside.specs.Faults.{Rose};
+ghost use Rattle.aas_outside.specs.Moments.{Passes};
 ghost use Rattle.aas_server.specs.Answer.{done, not_a_command, refused, Says};
 ghost use Rattle.aas_server.specs.CommandLine.{Does, ForAsked, statuses_of};
-ghost use Rattle.aas_server.specs.Ends.{console_of, wire_of};
-ghost use Rattle.aas_server.specs.Pipe.{Pipes};
-ghost use Rattle.aas_server.specs.Serve.{Serves};
+ghost use Rattle.aas_server.specs.Ends.{console_of, disk_of, wire_of};
+ghost use Rattle.aas_server.specs.Init.{Inits};
 ghost use Rattle.aas_server.specs.Status.{exit_code};
 ghost use Rattle.aas_server.specs.Stop.{IfRefused};
 ghost use Rattle.aas_server.specs.ValueAnswer.{IsValueAnswer};
 
 use crate::command_line::{CommandLine, command_of};
 use crate::console::{end_refused, end_with, read_input};
-use crate::server::Server;
+use crate::serving::{pipe, serve};
 use crate::status::Status;
 use crate::stop::Stop;
 use crate::value::answer_value;
 use aas_command::Refusal;
-use aas_model::{Many, NoMemory, Text};
-use aas_outside::{Failed, Link, Wire};
+use aas_journal::{InitFault, init_journal};
+use aas_model::{Many, Text};
+use aas_outside::{Link, Wire};
+use aas_outside_disk::Disk;
 use std::alloc::Global;
 
-/// Does what the words ask for on this console and this wire, and answers the exit status of the program.
-pub fn run<C: Link, W: Wire>(alloc: Global, words: &Many<Text>, console: &mut C, wire: &mut W) -> u8
-    ensures does { ForAsked words.now (λ asked. Does asked result
+/// How a run ended, and the disk as it left it.
+#[derive(Drop)]
+pub struct Ran<D> {
+    /// The exit status of the program.
+    pub status: u8,
+    pub disk: D,
+}
+
+/// Does what the words ask for on this console, this wire and this disk. The disk comes back with every status.
+pub fn run<C: Link, W: Wire, D: Disk>(
+    alloc: Global,
+    words: &Many<Text>,
+    console: &mut C,
+    wire: &mut W,
+    mut disk: D,
+) -> Ran<D>
+    ensures does { ForAsked words.now (λ asked. Does (disk_of D.seen D.moment D.left_at D.faults) asked result.status
         (console_of C.left C.sent C.faults console.old) (console_of C.left C.sent C.faults console.new)
-        (wire_of W.left W.sent W.faults W.surroundings wire.old) (wire_of W.left W.sent W.faults W.surroundings wire.new)) }
-    ensures statuses { ForAsked words.now (λ asked. Contains (statuses_of asked) result) }
+        (wire_of W.left W.sent W.faults W.surroundings wire.old) (wire_of W.left W.sent W.faults W.surroundings wire.new)
+        disk result.disk) }
+    ensures statuses { ForAsked words.now (λ asked. Contains (statuses_of asked) result.status) }
+    // The disk's time goes on, what a stop may have left before stays, and its count of faults never falls.
+    ensures past { Passes (D.moment disk) (D.left_at disk) (D.moment result.disk) (D.left_at result.disk) }
+    ensures later { D.faults disk ≤ D.faults result.disk }
 {
     match command_of(words) {
-        Some(CommandLine::Value) => value(alloc, console).exit_code(),
-        Some(CommandLine::Pipe) => pipe(alloc, console).exit_code(),
+        Some(CommandLine::Value) => Ran {
+            status: value(alloc, console).exit_code(),
+            disk,
+        },
+        Some(CommandLine::Init) => Ran {
+            status: init(console, &mut disk).exit_code(),
+            disk,
+        },
+        Some(CommandLine::Pipe) => pipe(alloc, console, disk),
         Some(CommandLine::Serve { count }) => {
-            serve(alloc, address(words), wire, count).exit_code()
+            serve(alloc, address(words), console, wire, count, disk)
         }
-        None => no_command(console).exit_code(),
+        None => Ran {
+            status: no_command(console).exit_code(),
+            disk,
+        },
     }
 }
 
@@ -53,28 +83,23 @@ fn no_command<C: Link>(console: &mut C) -> Status
     end_with(console, b"aasd: not a command\n", Status::NotACommand)
 }
 
-fn pipe<C: Link>(alloc: Global, console: &mut C) -> Status
-    ensures does { Pipes (exit_code result)
-        (console_of C.left C.sent C.faults console.old) (console_of C.left C.sent C.faults console.new) }
-    ensures statuses { Contains (statuses_of (Some CommandLine.Pipe)) (exit_code result) }
+/// Makes a journal without payloads on the disk.
+fn init<C: Link, D: Disk>(console: &mut C, disk: &mut D) -> Status
+    ensures does { Inits (exit_code result)
+        (console_of C.left C.sent C.faults console.old) (console_of C.left C.sent C.faults console.new)
+        (disk_of D.seen D.moment D.left_at D.faults disk.old) (disk_of D.seen D.moment D.left_at D.faults disk.new) }
+    ensures statuses { Contains (statuses_of (Some CommandLine.Init)) (exit_code result) }
+    ensures past { Passes (D.moment disk.old) (D.left_at disk.old) (D.moment disk.new) (D.left_at disk.new) }
+    ensures later { D.faults disk.old ≤ D.faults disk.new }
 {
-    match Server::new(alloc) {
-        Ok(mut server) => Status::from(server.serve_console(console)),
-        Err(NoMemory) => Status::NoMemory,
-    }
-}
-
-fn serve<W: Wire>(alloc: Global, address: &str, wire: &mut W, count: u32) -> Status
-    ensures does { Serves count (exit_code result)
-        (wire_of W.left W.sent W.faults W.surroundings wire.old) (wire_of W.left W.sent W.faults W.surroundings wire.new) }
-    ensures statuses { Contains (statuses_of (Some (CommandLine.Serve count))) (exit_code result) }
-{
-    match Server::new(alloc) {
-        Ok(mut server) => match wire.listen(address) {
-            Ok(()) => Status::from(server.serve_wire(wire, count)),
-            Err(Failed) => Status::LinkFault,
-        },
-        Err(NoMemory) => Status::NoMemory,
+    match init_journal(disk) {
+        Ok(()) => end_with(console, b"initialised\n", Status::Done),
+        Err(InitFault::AlreadyThere) => end_with(
+            console,
+            b"aasd: already there\n",
+            Status::AlreadyThere,
+        ),
+        Err(InitFault::Failed) => end_with(console, b"aasd: disk fault\n", Status::DiskFault),
     }
 }
 

@@ -3,7 +3,7 @@ ghost use Rattle.std.specs.Prelude.{◌≡◌, ◌≢◌, ◌<◌, ◌≤◌, �
 ghost use Rattle.std.specs.Io.KnownBytes.{append_known, IsAtEnd};
 ghost use Rattle.aas_outside.specs.Faults.{Rose};
 ghost use Rattle.aas_outside.specs.Link.{GivesFront};
-ghost use Rattle.aas_server.specs.Answer.{refused};
+ghost use Rattle.aas_server.specs.Answer.{damage, refused};
 ghost use Rattle.aas_server.specs.Console.{input_limit};
 ghost use Rattle.aas_server.specs.Status.{exit_code};
 ghost use Rattle.aas_server.specs.Stop.{IfRefused};
@@ -52,6 +52,7 @@ pub fn end_with<L: Link>(link: &mut L, text: &[u8], status: Status) -> Status
     ensures front { exit_code result ≡ 3 → GivesFront (L.sent link.old) (L.sent link.new) text.now }
     ensures fault { exit_code result ≡ 3 → Rose (L.faults link.old) (L.faults link.new) }
     ensures later { L.faults link.old ≤ L.faults link.new }
+    ensures left { L.left link.new ≡ L.left link.old }
     ensures statuses { (exit_code result ≡ 3) ⊎ (exit_code result ≡ exit_code status) }
 {
     match give_all(link, text) {
@@ -89,6 +90,31 @@ pub fn end_refused<L: Link>(alloc: Global, link: &mut L, refusal: &Refusal) -> S
 {
     match refused_line(alloc, refusal) {
         Ok(line) => end_with(link, &line, Status::Refused),
+        Err(NoMemory) => Status::NoMemory,
+    }
+}
+
+/// The line of a journal that is damaged at the gate of this place.
+fn damaged_line(alloc: Global, at: u64) -> Result<Vec<u8>, NoMemory>
+    ensures { IfOk result (λ line. line.items ≡ (damage at).text) }
+{
+    let mut line = Vec::from_slice(alloc, b"aasd: damaged at ")?;
+    line.extend_from_slice(Buffer::new().format(at).as_bytes())?;
+    line.extend_from_slice(b"\n")?;
+    Ok(line)
+}
+
+/// Gives the line of a damaged journal and answers its status, or that of a fault where the link fails.
+pub fn end_damaged<L: Link>(alloc: Global, link: &mut L, at: u64) -> Status
+    ensures given { exit_code result ≡ 6 → L.sent link.new ≡ append_known (L.sent link.old) (damage at).text }
+    ensures front { exit_code result ≡ 3 → GivesFront (L.sent link.old) (L.sent link.new) (damage at).text }
+    ensures memory { exit_code result ≡ 10 → link.new ≡ link.old }
+    ensures fault { exit_code result ≡ 3 → Rose (L.faults link.old) (L.faults link.new) }
+    ensures left { L.left link.new ≡ L.left link.old }
+    ensures statuses { (exit_code result ≡ 3) ⊎ (exit_code result ≡ 6) ⊎ (exit_code result ≡ 10) }
+{
+    match damaged_line(alloc, at) {
+        Ok(line) => end_with(link, &line, Status::Damaged),
         Err(NoMemory) => Status::NoMemory,
     }
 }

@@ -1,4 +1,4 @@
-//! The commands of the program over any console and any wire: what each of them does, and the exit status.
+//! The commands of the program over any console, any wire and any disk: what each of them does, and the exit status.
 //!
 //! Real consoles, sockets and files stand in `aasd`.
 #![tactic(auto)]
@@ -6,12 +6,16 @@
 mod command_line;
 mod commands;
 mod console;
+mod laws;
+mod opening;
 mod server;
+mod serving;
 mod status;
 mod stop;
 mod value;
 
-pub use commands::run;
+pub use commands::{Ran, run};
+pub use laws::{files_open_one_way, sessions_open, sessions_replay, stops_open};
 pub use status::Status;
 
 #[cfg(test)]

@@ -1,70 +1,72 @@
-// A repository that is served.
-ghost use Rattle.std.specs.Prelude.{◌≡◌, ℕ, List, Some, IfOk};
+// The repository on a disk, and what it is served with.
+ghost use Rattle.std.specs.Prelude.{◌≡◌, ◌≢◌, ◌≤◌, ℕ, List, false, IfErr, IfOk, IfSome, MatchResult};
+ghost use Rattle.aas_journal.specs.Bank.{IsBankImage};
+ghost use Rattle.aas_journal.specs.Reads.{OnlyReads};
+ghost use Rattle.aas_journal.specs.Shown.{disk_of};
+ghost use Rattle.aas_journal.specs.declared.fault.OpenFault.TheVariants.{Failed as DiskFailed};
 ghost use Rattle.aas_outside.specs.Faults.{Rose};
-ghost use Rattle.aas_outside.specs.Surroundings.{Connections};
-ghost use Rattle.aas_server.specs.Beginning.{begun};
-ghost use Rattle.aas_server.specs.Ends.{console_of, wire_of};
-ghost use Rattle.aas_server.specs.Pipe.{IsPiped};
-ghost use Rattle.aas_server.specs.Serve.{IsServed};
+ghost use Rattle.aas_repo.specs.Held.{state_of};
+ghost use Rattle.aas_rule.specs.State.{IsSettledState, repository_of};
+ghost use Rattle.aas_step.specs.Valid.{AreValid};
+ghost use Rattle.aas_server.specs.Causes.{IsCause};
+ghost use Rattle.aas_server.specs.Opening.{Opens, begun};
 
+use crate::opening::open;
 use aas_api_service::Service;
+use aas_journal::{Journal, NotOpened, OpenFault};
 use aas_model::NoMemory;
-use aas_outside::{Link, MemKeeper, Wire};
-use aas_repo::Repo;
-use aas_session::{Ended, Intake, WireEnded, serve, serve_connection};
-use aas_step::no_documents_are_valid;
+use aas_outside::Keeper;
+use aas_outside_disk::Disk;
+use aas_session::Intake;
 use aas_store::TreeStore;
 use std::alloc::Global;
 
-/// The most bytes that the kept commands have, with their frames.
-const ROOM: usize = 16_777_216;
-
-/// A repository that keeps its commands in memory, and the storage for a request.
+/// The repository on a disk, and the storage for a request.
 #[derive(Drop)]
-pub struct Server {
-    service: Service<TreeStore, MemKeeper>,
-    intake: Intake,
+pub struct Server<D: Disk> {
+    pub service: Service<TreeStore, Journal<D>>,
+    pub intake: Intake,
 }
 
-impl Server {
-    /// A repository of no documents.
-    pub fn new(alloc: Global) -> Result<Server, NoMemory>
-        ensures { IfOk result (λ server. server.service.repo ≡ begun) }
+impl<D: Disk> Server<D> {
+    /// Opens the repository on the disk, or tells why there is none. The disk is only read.
+    pub fn open(alloc: Global, disk: D) -> Result<Server<D>, NotOpened<D>>
+        ensures begun { IfOk result (λ server. IfSome (D.seen disk) (λ files. (payloads : List (List ℕ)) ×
+            Opens files (begun (repository_of (state_of ⟦<Journal<D> as Keeper>⟧.kept ⟦<Journal<D> as Keeper>⟧.moment
+            ⟦<Journal<D> as Keeper>⟧.left_at server.service.repo) payloads)) ×
+            IsSettledState IsBankImage (state_of ⟦<Journal<D> as Keeper>⟧.kept ⟦<Journal<D> as Keeper>⟧.moment
+            ⟦<Journal<D> as Keeper>⟧.left_at server.service.repo) payloads)) }
+        ensures going { IfOk result (λ server. server.service.repo.stopped ≡ false) }
+        ensures cause { IfErr result (λ it. IfSome (D.seen disk) (λ files. IsCause files it.fault)) }
+        ensures failed { IfErr result (λ it. it.fault ≡ DiskFailed → Rose (D.faults disk) (D.faults it.disk)) }
+        ensures later { MatchResult result (λ server. D.faults disk ≤ D.faults (disk_of server.service.repo.keeper))
+            (λ it. D.faults disk ≤ D.faults it.disk) }
+        ensures reads { MatchResult result
+            (λ server. OnlyReads D.seen D.moment D.left_at disk (disk_of server.service.repo.keeper))
+            (λ it. OnlyReads D.seen D.moment D.left_at disk it.disk) }
     {
-        let keeper = MemKeeper::new(alloc, ROOM, &[])?;
-        no_documents_are_valid();
-        let repo = Repo::new(alloc, TreeStore::new(alloc), keeper);
-        Ok(Server {
-            service: Service::new(alloc, repo),
-            intake: Intake::new(alloc)?,
-        })
+        match Intake::new(alloc) {
+            Ok(intake) => match open(alloc, disk) {
+                Ok(repo) => Ok(Server {
+                    service: Service::new(alloc, repo),
+                    intake,
+                }),
+                Err(it) => Err(it),
+            },
+            Err(NoMemory) => Err(NotOpened {
+                fault: OpenFault::NoMemory,
+                disk,
+            }),
+        }
     }
 
-    /// Serves the console as one connection.
-    pub fn serve_console<C: Link>(&mut self, console: &mut C) -> Ended
-        requires { self.old.service.repo ≡ begun }
-        ensures served { (input : List ℕ) → C.left console.old ≡ Some input → IsPiped result input
-            (console_of C.left C.sent C.faults console.old) (console_of C.left C.sent C.faults console.new) }
-        ensures fault { result ≡ Ended.LinkFault → Rose (C.faults console.old) (C.faults console.new) }
+    /// Gives the disk back, also where the repository is stopped.
+    pub fn into_disk(self) -> D
+        ensures value { result ≡ disk_of self.service.repo.keeper }
+        ensures valid { AreValid self.service.repo.documents }
     {
-        let ended = serve_connection(&mut self.service, console, &mut self.intake);
         // Its documents are valid, whether it has stopped or not.
         let _stopped = self.service.repo.stopped();
-        ended
-    }
-
-    /// Serves so many connections of the wire.
-    pub fn serve_wire<W: Wire>(&mut self, wire: &mut W, count: u32) -> WireEnded
-        requires { self.old.service.repo ≡ begun }
-        ensures served { (c : Connections) (sent : List ℕ) →
-            (W.surroundings wire.old).connections ≡ Some c → W.sent wire.old ≡ Some sent → IsServed count result c sent
-            (wire_of W.left W.sent W.faults W.surroundings wire.old) (wire_of W.left W.sent W.faults W.surroundings wire.new) }
-        ensures fault { result ≡ WireEnded.WireFault →
-            Rose (W.surroundings wire.old).faults (W.surroundings wire.new).faults }
-    {
-        let ended = serve(&mut self.service, wire, &mut self.intake, count);
-        // Its documents are valid, whether it has stopped or not.
-        let _stopped = self.service.repo.stopped();
-        ended
+        self.service.repo.into_keeper().into_disk()
     }
 }

@@ -12,10 +12,16 @@ pub enum Status {
     NotACommand = 2,
     /// The console failed, or the wire couldn't listen or begin a connection.
     LinkFault = 3,
-    /// The keeper failed.
-    KeeperFault = 4,
+    /// The disk failed.
+    DiskFault = 4,
+    /// There is no journal on the disk.
+    NotInitialised = 5,
+    /// The journal on the disk is damaged.
+    Damaged = 6,
     /// The input was refused.
     Refused = 7,
+    /// A journal is to be made where something is.
+    AlreadyThere = 8,
     /// Memory was refused.
     NoMemory = 10,
 }
@@ -41,7 +47,7 @@ impl From<Ended> for Status {
         match ended {
             Ended::Closed => Status::Done,
             Ended::LinkFault => Status::LinkFault,
-            Ended::KeeperFault => Status::KeeperFault,
+            Ended::KeeperFault => Status::DiskFault,
             Ended::NoMemory => Status::NoMemory,
         }
     }
@@ -57,7 +63,7 @@ impl From<WireEnded> for Status {
         match ended {
             WireEnded::Done => Status::Done,
             WireEnded::WireFault => Status::LinkFault,
-            WireEnded::KeeperFault => Status::KeeperFault,
+            WireEnded::KeeperFault => Status::DiskFault,
         }
     }
 }

@@ -1,10 +1,11 @@
 // That a run succeeds where there is memory, that a console which fails in mid-stream ends it, and that what one
-// connection made is there on the next.
+// connection made is there on the next, in the same run and in the next one.
 ghost use Rattle.std.specs.Prelude.{◌≤◌};
 
-use crate::run;
+use crate::{Ran, run};
 use aas_model::{Many, Text};
 use aas_outside::{MemLink, MemWire};
+use aas_outside_disk::MemDisk;
 use std::alloc::Global;
 use std::test::Fail;
 
@@ -30,32 +31,33 @@ fn words(alloc: Global, texts: &[&str]) -> Result<Many<Text>, Fail> {
     Ok(words)
 }
 
-fn both(alloc: Global, first: &[u8], second: &[u8]) -> Result<Vec<u8>, Fail> {
-    let mut text = Vec::from_slice(alloc, first)?;
-    text.extend_from_slice(second)?;
-    Ok(text)
+fn disk_with(alloc: Global, main: &[u8]) -> Result<MemDisk, Fail> {
+    Ok(MemDisk::new(alloc, main, b"", b"", 4096, &[], 0)?)
 }
 
-/// The status and what the console got, where it has this input and moves so many bytes a call, of which one fails.
+/// How the run ended and what the console got, where it has this input and moves so many bytes a call, of which one fails.
 fn run_on_console(
     alloc: Global,
     word: &str,
     input: &[u8],
     piece: usize,
     fails: u64,
-) -> Result<(u8, Vec<u8>), Fail>
+    disk: MemDisk,
+) -> Result<(Ran<MemDisk>, Vec<u8>), Fail>
     requires { 1 ≤ piece }
 {
     let mut console = MemLink::new(alloc, input, piece, 1000, &[fails])?;
     let mut wire = MemWire::new(alloc, 1, 0, &[])?;
-    let status = run(alloc, &words(alloc, &[word])?, &mut console, &mut wire);
-    Ok((status, Vec::from_slice(alloc, console.sent())?))
+    let words = words(alloc, &[word])?;
+    let ran = run(alloc, &words, &mut console, &mut wire, disk);
+    Ok((ran, Vec::from_slice(alloc, console.sent())?))
 }
 
 #[test]
 fn an_element_in_pieces(rt: HostRuntime) -> Result<(), Fail> {
-    let (status, sent) = run_on_console(rt.alloc(), "value", MOTOR, 7, 0)?;
-    assert_eq!(rt; status, 0);
+    let alloc = rt.alloc();
+    let (ran, sent) = run_on_console(alloc, "value", MOTOR, 7, 0, disk_with(alloc, b"")?)?;
+    assert_eq!(rt; ran.status, 0);
     assert_eq!(rt; sent.as_slice(), b"{\"Maker\":\"Acme\"}\n".as_slice());
     Ok(())
 }
@@ -63,25 +65,29 @@ fn an_element_in_pieces(rt: HostRuntime) -> Result<(), Fail> {
 // A byte a call: two takes of the input, one of its end, then the gives of the line.
 #[test]
 fn a_console_that_fails(rt: HostRuntime) -> Result<(), Fail> {
+    let alloc = rt.alloc();
     for (call, want) in [(1, ""), (3, ""), (10, "aasd: ")] {
-        let (status, sent) = run_on_console(rt.alloc(), "value", b"[]", 1, call)?;
-        assert_eq!(rt; status, 3);
+        let (ran, sent) = run_on_console(alloc, "value", b"[]", 1, call, disk_with(alloc, b"")?)?;
+        assert_eq!(rt; ran.status, 3);
         assert_eq!(rt; sent.as_slice(), want.as_bytes());
     }
     Ok(())
 }
 
 #[test]
-fn a_session_in_pieces(rt: HostRuntime) -> Result<(), Fail> {
+fn sessions_in_pieces(rt: HostRuntime) -> Result<(), Fail> {
     let alloc = rt.alloc();
-    let input = both(alloc, CREATE, CREATE)?;
-    let want = both(alloc, CREATED, ALREADY_THERE)?;
-    let (status, sent) = run_on_console(alloc, "pipe", &input, 1, 0)?;
-    assert_eq!(rt; status, 0);
-    assert_eq!(rt; sent.as_slice(), want.as_slice());
-    let (status, sent) = run_on_console(alloc, "pipe", &input, 4096, 0)?;
-    assert_eq!(rt; status, 0);
-    assert_eq!(rt; sent.as_slice(), want.as_slice());
+    for piece in [1, 4096] {
+        let (made, sent) = run_on_console(alloc, "init", b"", piece, 0, disk_with(alloc, b"")?)?;
+        assert_eq!(rt; made.status, 0);
+        assert_eq!(rt; sent.as_slice(), b"initialised\n".as_slice());
+        let (first, sent) = run_on_console(alloc, "pipe", CREATE, piece, 0, made.disk)?;
+        assert_eq!(rt; first.status, 0);
+        assert_eq!(rt; sent.as_slice(), CREATED);
+        let (second, sent) = run_on_console(alloc, "pipe", CREATE, piece, 0, first.disk)?;
+        assert_eq!(rt; second.status, 0);
+        assert_eq!(rt; sent.as_slice(), ALREADY_THERE);
+    }
     Ok(())
 }
 
@@ -93,7 +99,14 @@ fn connections_in_order(rt: HostRuntime) -> Result<(), Fail> {
     wire.add(CREATE)?;
     wire.add(CREATE)?;
     let words = words(alloc, &["serve", "127.0.0.1:80", "2"])?;
-    assert_eq!(rt; run(alloc, &words, &mut console, &mut wire), 0);
+    let ran = run(
+        alloc,
+        &words,
+        &mut console,
+        &mut wire,
+        disk_with(alloc, b"AASJ0002\0")?,
+    );
+    assert_eq!(rt; ran.status, 0);
     assert_eq!(rt; wire.sent(0), Some(CREATED));
     assert_eq!(rt; wire.sent(1), Some(ALREADY_THERE));
     Ok(())

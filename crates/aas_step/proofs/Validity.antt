@@ -1,6 +1,6 @@
 -- What a command that is accepted makes of valid documents is valid.
 use Rattle.std.proofs.Common.{◌≡◌, Bool, true, false, cond, List, [], ◌∷◌, ◌++◌, Option, Some, None, refl, sym, ap, ◌∙◌, subst, Ordering, Less, Equal, Greater}
-use Rattle.std.specs.Prelude.{ℕ, ◌&&◌, flat_map, option_map}
+use Rattle.std.specs.Prelude.{◌&&◌, flat_map, length, option_map}
 use Rattle.std.specs.FinMap as map
 use Rattle.std.specs.FinMap.{get-empty, get-insert, get-remove, slice_cmp-IsAntisymmetric, nat_cmp-IsAntisymmetric}
 use Rattle.std.specs.List.{AllByRecursion, list_all}
@@ -12,23 +12,34 @@ use Rattle.std.proofs.lemmas.Bool.{and_parts}
 use Rattle.aas_json_table.specs.TooDeep.{limits}
 use Rattle.aas_reference.specs.Rules.{first}
 use Rattle.aas_reference.specs.Whole.{is_whole, whole_if_there}
-use Rattle.aas_json_mapping.specs.Whole.{is_whole_shell, whole_asset_information, whole_head}
+use Rattle.aas_json_mapping.specs.Whole.{is_whole_element, is_whole_shell, is_whole_submodel, whole_asset_information, whole_head}
 use Rattle.aas_model.specs.declared.asset.AssetInformation.{AssetInformation}
 use Rattle.aas_model.specs.declared.documents.Shell.{Shell}
+use Rattle.aas_model.specs.declared.documents.Submodel.{Submodel}
+use Rattle.aas_model.specs.declared.element.Element.{Element}
 use Rattle.aas_model.specs.declared.path.Fault.{Fault}
-use Rattle.aas_model_names.specs.declared.collection.Collection.TheVariants.{Shells, Submodels, Concepts}
+use Rattle.aas_model.specs.declared.path.PathStep.{PathStep}
+use Rattle.aas_path_trees.specs.Children.{role_of, with_role}
+use Rattle.aas_path_trees.specs.Edits.{fits_role, inserted, removed, replaced}
+use Rattle.aas_path_trees.specs.ElementAt.{element_at}
+use Rattle.aas_path_trees.specs.WithElement.{with_element}
+use Rattle.aas_edit_laws.specs.Laws.{at_level}
+use Rattle.aas_edit_laws.proofs.Edits.{insert_keeps_whole, remove_keeps_whole, replace_keeps_whole}
+use Rattle.aas_model_names.specs.declared.collection.Collection.TheVariants.{Submodels}
 use Rattle.aas_constraint_laws.specs.Valid as valid
 use Rattle.aas_constraint_rules.specs.Faults.{Document, shell, submodel, concept, faults_of}
 use Rattle.aas_command.specs.Commands.{IsWellFormed}
 use Rattle.aas_command.specs.Refusals.{refusal_of_fault}
 use Rattle.aas_command.specs.declared.command.Command.{Command}
-use Rattle.aas_command.specs.declared.command.Command.TheVariants.{CreateShell, CreateSubmodel, CreateConcept, ReplaceShell, ReplaceSubmodel, ReplaceConcept, DeleteShell, DeleteSubmodel, DeleteConcept, SetAsset}
-use Rattle.aas_command.specs.declared.refusal.Refusal.TheVariants.{TooMany}
-use Rattle.aas_store.specs.Documents.{Documents, Identifier, Map, empty, without}
-use Rattle.aas_step.specs.Causes.{Cause, causes, document_causes, first_of, has_too_many, when}
+use Rattle.aas_command.specs.declared.command.Command.TheVariants.{CreateShell, CreateSubmodel, CreateConcept, ReplaceShell, ReplaceSubmodel, ReplaceConcept, DeleteShell, DeleteSubmodel, DeleteConcept, SetAsset, InsertElement, ReplaceElement, DeleteElement, UpdateValue}
+use Rattle.aas_command.specs.declared.refusal.Refusal.TheVariants.{NotAContainer, TooMany}
+use Rattle.aas_command.specs.declared.refusal.Refusal.{Refusal}
+use Rattle.aas_value_update.proofs.WholeSubmodel.{update_stays_whole}
+use Rattle.aas_store.specs.Documents.{Documents, Identifier, Map, empty}
+use Rattle.aas_step.specs.Causes.{Cause, causes, document_causes, first_of, has_too_many, is_absent, is_lost, replace_causes, unless, when}
 use Rattle.aas_step.specs.Laws.{StaysValid}
-use Rattle.aas_step.specs.Made.{IsMade, changed_shell, id_of, left, with_document, with_documents}
-use Rattle.aas_step.specs.Step.{Result, accepted, result_of, later_causes, ComesBy, ComesTo}
+use Rattle.aas_step.specs.Made.{IsMade, id_of, left, with_document, with_documents}
+use Rattle.aas_step.specs.Step.{accepted, result_of, later_causes, ComesBy, ComesTo}
 use Rattle.aas_step.specs.Valid.{AreValid, IsValidAt}
 
 -- ---- causes
@@ -120,19 +131,65 @@ changed_whole : (d : Documents) (id : Identifier) (a : AssetInformation) (found 
 changed_whole d id a None all whole is = tt
 changed_whole d id a (Some s) all whole is = (whole_with_asset s a (all.shells id s is).valid.whole whole, tt)
 
-new_whole : (d : Documents) (c : Command) (new : List Document) → IsWellFormed c → AreValid d → IsMade d c new → AllByRecursion IsWhole new
+-- ---- edits of a submodel
+
+edited_whole : (d : Documents) (id : Identifier) (change : Submodel → Submodel) (found : Option Submodel) → AreValid d → map.get d.submodels id ≡ found
+    → ((s : Submodel) → found ≡ Some s → is_whole_submodel limits s ≡ true → is_whole_submodel limits (change s) ≡ true)
+    → AllByRecursion IsWhole (option_map_or (λ s. submodel (change s) ∷ []) found [])
+edited_whole d id change None all is keeps = tt
+edited_whole d id change (Some s) all is keeps = (keeps s refl (all.submodels id s is).valid.whole, tt)
+
+-- no cause in the submodel, where there is none at all
+none_in : (absent : Cause) (causes_in : Submodel → List Cause) (s : Submodel) (found : Option Submodel) → found ≡ Some s
+    → first_of (absent ∷ option_map_or causes_in found []) ≡ None → first_of (causes_in s) ≡ None
+none_in absent causes_in s found is none =
+    subst (λ (f : Option Submodel). first_of (option_map_or causes_in f []) ≡ None) is
+    (none_in_second (absent ∷ []) (option_map_or causes_in found []) none)
+
+clears : (b : Bool) (why : Refusal) → first_of (unless b why ∷ []) ≡ None → b ≡ true
+clears true why none = refl
+clears false why none = absurd (cc)
+
+pub replaced_whole : (s : Submodel) (p : List PathStep) (e : Element) (found : Option Element) → element_at s p ≡ found
+    → first_of (replace_causes p e s) ≡ None → is_whole_submodel limits s ≡ true → is_whole_element (at_level (length p)) e ≡ true
+    → is_whole_submodel limits (replaced s p e) ≡ true
+replaced_whole s p e None is none whole new =
+    subst (λ (d : Submodel). is_whole_submodel limits d ≡ true) (sym (ap (λ (f : Option Element). option_map_or (λ o. with_element s p (with_role e (role_of o))) f s) is)) whole
+replaced_whole s p e (Some o) is none whole new =
+    let fits = clears (option_map_or (λ o. fits_role e (role_of o)) (element_at s p) false) NotAContainer (none_in_second (is_lost s p ∷ []) _ none) in
+    replace_keeps_whole s p e o whole new is (sym (ap (λ (f : Option Element). option_map_or (λ o. fits_role e (role_of o)) f false) is) ∙ fits)
+
+-- ---- the new documents
+
+new_whole : (d : Documents) (c : Command) (new : List Document) → IsWellFormed c → AreValid d → first_of (causes d c) ≡ None → IsMade d c new → AllByRecursion IsWhole new
 unfolding IsWellFormed
-new_whole d (CreateShell s) new whole all made = subst (AllByRecursion IsWhole) (sym made) (whole, tt)
-new_whole d (CreateSubmodel s) new whole all made = subst (AllByRecursion IsWhole) (sym made) (whole, tt)
-new_whole d (CreateConcept c) new whole all made = subst (AllByRecursion IsWhole) (sym made) (whole, tt)
-new_whole d (ReplaceShell s) new whole all made = subst (AllByRecursion IsWhole) (sym made) (whole, tt)
-new_whole d (ReplaceSubmodel s) new whole all made = subst (AllByRecursion IsWhole) (sym made) (whole, tt)
-new_whole d (ReplaceConcept c) new whole all made = subst (AllByRecursion IsWhole) (sym made) (whole, tt)
-new_whole d (DeleteShell id) new whole all made = subst (AllByRecursion IsWhole) (sym made) tt
-new_whole d (DeleteSubmodel id) new whole all made = subst (AllByRecursion IsWhole) (sym made) tt
-new_whole d (DeleteConcept id) new whole all made = subst (AllByRecursion IsWhole) (sym made) tt
-new_whole d (SetAsset id a) new whole all made =
+new_whole d (CreateShell s) new whole all none made = subst (AllByRecursion IsWhole) (sym made) (whole, tt)
+new_whole d (CreateSubmodel s) new whole all none made = subst (AllByRecursion IsWhole) (sym made) (whole, tt)
+new_whole d (CreateConcept c) new whole all none made = subst (AllByRecursion IsWhole) (sym made) (whole, tt)
+new_whole d (ReplaceShell s) new whole all none made = subst (AllByRecursion IsWhole) (sym made) (whole, tt)
+new_whole d (ReplaceSubmodel s) new whole all none made = subst (AllByRecursion IsWhole) (sym made) (whole, tt)
+new_whole d (ReplaceConcept c) new whole all none made = subst (AllByRecursion IsWhole) (sym made) (whole, tt)
+new_whole d (DeleteShell id) new whole all none made = subst (AllByRecursion IsWhole) (sym made) tt
+new_whole d (DeleteSubmodel id) new whole all none made = subst (AllByRecursion IsWhole) (sym made) tt
+new_whole d (DeleteConcept id) new whole all none made = subst (AllByRecursion IsWhole) (sym made) tt
+new_whole d (SetAsset id a) new whole all none made =
     subst (AllByRecursion IsWhole) (sym made) (changed_whole d (encode_utf8_all id) a (map.get d.shells (encode_utf8_all id)) all whole refl)
+new_whole d (InsertElement id p e) new whole all none made =
+    subst (AllByRecursion IsWhole) (sym made)
+    (edited_whole d (encode_utf8_all id) (λ s. inserted s p.steps e) (map.get d.submodels (encode_utf8_all id)) all refl
+    (λ s is old. insert_keeps_whole s p.steps e old whole.1))
+new_whole d (ReplaceElement id p e) new whole all none made =
+    subst (AllByRecursion IsWhole) (sym made)
+    (edited_whole d (encode_utf8_all id) (λ s. replaced s p.steps e) (map.get d.submodels (encode_utf8_all id)) all refl
+    (λ s is old. replaced_whole s p.steps e (element_at s p.steps) refl
+    (none_in (is_absent Submodels id d) (replace_causes p.steps e) s (map.get d.submodels (encode_utf8_all id)) is none) old whole.1))
+new_whole d (DeleteElement id p) new whole all none made =
+    subst (AllByRecursion IsWhole) (sym made)
+    (edited_whole d (encode_utf8_all id) (λ s. removed s p.steps) (map.get d.submodels (encode_utf8_all id)) all refl
+    (λ s is old. remove_keeps_whole s p.steps old))
+new_whole d (UpdateValue id p v) new whole all none made =
+    let valid = (all.submodels (encode_utf8_all id) made.old made.there).valid in
+    subst (AllByRecursion IsWhole) (sym made.made) (update_stays_whole made.old made.updated p.steps v valid whole.1.order made.update, tt)
 
 -- ---- the law
 
@@ -140,13 +197,14 @@ by_result : (o : Cause) (d new : Documents) → accepted new ≡ result_of o d �
 by_result None d new e = (refl, cc)
 by_result (Some why) d new e = absurd (cc)
 
-by_cause : (o : Cause) (has_room : Bool) (d new : Documents) (c : Command) → IsWellFormed c → AreValid d → ComesBy o has_room d c (accepted new) → AreValid new
-by_cause (Some why) has_room d new c whole all comes = absurd (cc)
-by_cause None has_room d new c whole all comes =
+by_cause : (o : Cause) (has_room : Bool) (d new : Documents) (c : Command) → first_of (causes d c) ≡ o → IsWellFormed c → AreValid d
+    → ComesBy o has_room d c (accepted new) → AreValid new
+by_cause (Some why) has_room d new c is whole all comes = absurd (cc)
+by_cause None has_room d new c is whole all comes =
     let made = comes.0 in
     let result = by_result (first_of (later_causes has_room made)) (with_documents (left d c) made) new comes.2 in
-    subst AreValid result.1 (puts_valid made (left d c) (left_valid d c all) (new_whole d c made whole all comes.1) (none_in_first (flat_map document_causes made) _ result.0))
+    subst AreValid result.1 (puts_valid made (left d c) (left_valid d c all) (new_whole d c made whole all is comes.1) (none_in_first (flat_map document_causes made) _ result.0))
 
 pub stays_valid : StaysValid
 unfolding ComesTo
-stays_valid has_room d new c whole all comes = by_cause (first_of (causes d c)) has_room d new c whole all comes
+stays_valid has_room d new c whole all comes = by_cause (first_of (causes d c)) has_room d new c refl whole all comes

@@ -1,18 +1,31 @@
 -- Why a command is refused: for each command what of it isn't there or is there already, and then the faults of the documents that it makes. Causes are tried from
 -- the left, and the first that applies is the refusal. This profile's own rule.
-use Rattle.std.specs.Prelude.{ℕ, nat_lt, Bool, false, List, [], ◌∷◌, Option, Some, None, option_map, if◌then◌else◌}
+use Rattle.std.specs.Prelude.{ℕ, nat_lt, Bool, true, false, ◌&&◌, is_some, List, [], ◌∷◌, ◌++◌, take, Option, Some, None, option_and_then, option_map, if◌then◌else◌}
+use Rattle.std.specs.FinMap as map
+use Rattle.std.specs.Option.{option_map_or}
 use Rattle.std.specs.Str.{encode_utf8_all}
+use Rattle.serde_json.specs.Data.{Data}
+use Rattle.aas_model.specs.declared.documents.Submodel.{Submodel}
+use Rattle.aas_model.specs.declared.element.Element.{Element, out-Element}
+use Rattle.aas_model.specs.declared.path.PathStep.{PathStep}
+use Rattle.aas_model_names.specs.declared.modifiers.Extent.TheVariants as extent
 use Rattle.aas_model_names.specs.declared.collection.Collection.{Collection}
 use Rattle.aas_model_names.specs.declared.collection.Collection.TheVariants.{Shells, Submodels, Concepts}
-use Rattle.aas_constraint_rules.specs.Faults.{Document, shell, submodel, concept, faults_of}
+use Rattle.aas_constraint_rules.specs.Faults.{Document, submodel, faults_of}
 use Rattle.aas_reference.specs.Rules.{first}
 use Rattle.aas_command.specs.Refusals.{refusal_of_fault}
 use Rattle.aas_command.specs.declared.command.Command.{Command}
-use Rattle.aas_command.specs.declared.command.Command.TheVariants.{CreateShell, CreateSubmodel, CreateConcept, ReplaceShell, ReplaceSubmodel, ReplaceConcept, DeleteShell, DeleteSubmodel, DeleteConcept, SetAsset}
+use Rattle.aas_command.specs.declared.command.Command.TheVariants.{CreateShell, CreateSubmodel, CreateConcept, ReplaceShell, ReplaceSubmodel, ReplaceConcept, DeleteShell, DeleteSubmodel, DeleteConcept, SetAsset, InsertElement, ReplaceElement, DeleteElement, UpdateValue}
 use Rattle.aas_command.specs.declared.refusal.Absent.{Absent}
 use Rattle.aas_command.specs.declared.refusal.Absent.TheVariants as absent
 use Rattle.aas_command.specs.declared.refusal.Refusal.{Refusal}
-use Rattle.aas_command.specs.declared.refusal.Refusal.TheVariants.{NotFound, Conflict, TooMany}
+use Rattle.aas_command.specs.declared.refusal.Refusal.TheVariants.{NotFound, Conflict, NotAContainer, NoValueForm, Shape, TooMany}
+use Rattle.aas_path_trees.specs.Children.{id_short_of, kids_of, role_of}
+use Rattle.aas_path_trees.specs.Edits.{fits_role, role_at, role_within}
+use Rattle.aas_path_trees.specs.ElementAt.{depth_found, element_at, place_named}
+use Rattle.aas_value.specs.ValueForm.{value_form}
+use Rattle.aas_value_update.specs.Shape.{first_misshapen}
+use Rattle.aas_value_update.specs.Update.{body}
 use Rattle.aas_store.specs.Documents.{Documents, has}
 use Rattle.aas_store.specs.Storable.{element_count}
 
@@ -47,7 +60,67 @@ absent_of Concepts = absent.Concept
 abbrev pub is_absent : Collection → List ℕ → Documents → Cause
 is_absent c id d = unless (has c (encode_utf8_all id) d) (NotFound (absent_of c))
 
--- one row a command
+-- ---- by what is in a submodel
+
+-- a path leads to an element, or is empty and leads to the submodel
+abbrev pub leads : Submodel → List PathStep → Bool
+leads s [] = true
+leads s (step ∷ p) = is_some (element_at s (step ∷ p))
+
+-- it leads to nothing: the longest part of it that leads somewhere
+abbrev pub is_lost : Submodel → List PathStep → Cause
+is_lost s p = unless (leads s p) (NotFound (absent.Element (record { steps = take (depth_found s p) p })))
+
+-- what a path leads to takes children
+abbrev pub is_container : Submodel → List PathStep → Bool
+is_container s [] = true
+is_container s (step ∷ p) = option_map_or (λ o. is_some (role_within (out-Element o).payload)) (element_at s (step ∷ p)) false
+
+abbrev pub children_at : Submodel → List PathStep → List Element
+children_at s [] = s.kids
+children_at s (step ∷ p) = option_map_or kids_of (element_at s (step ∷ p)) []
+
+-- one of the elements has this idShort
+abbrev pub is_named_among : Option (List ℕ) → List Element → Bool
+is_named_among None es = false
+is_named_among (Some n) es = is_some (place_named n es)
+
+abbrev pub insert_causes : List PathStep → Element → Submodel → List Cause
+insert_causes p e s =
+    is_lost s p
+    ∷ when (is_container s p && is_named_among (id_short_of e) (children_at s p)) Conflict
+    ∷ unless (is_some (role_at s p e)) NotAContainer
+    ∷ []
+
+-- an annotation stays a data element
+abbrev pub replace_causes : List PathStep → Element → Submodel → List Cause
+replace_causes p e s = is_lost s p ∷ unless (option_map_or (λ o. fits_role e (role_of o)) (element_at s p) false) NotAContainer ∷ []
+
+abbrev pub delete_causes : List PathStep → Submodel → List Cause
+delete_causes p s = is_lost s p ∷ []
+
+-- what a path leads to, where the empty one leads to the submodel as an object of its children
+abbrev pub valued_at : Submodel → List PathStep → Option Element
+valued_at s [] = Some (body s)
+valued_at s (step ∷ p) = element_at s (step ∷ p)
+
+-- the first misshapen element, its path behind p
+abbrev pub is_misshapen : Submodel → List PathStep → Data → Cause
+is_misshapen s p v = option_map (λ q. Shape (record { steps = p ++ q })) (option_and_then (λ e. first_misshapen e v) (valued_at s p))
+
+abbrev pub update_causes : List PathStep → Data → Submodel → List Cause
+update_causes p v s =
+    is_lost s p
+    ∷ unless (is_some (option_and_then (value_form extent.WithBlobValue) (valued_at s p))) NoValueForm
+    ∷ is_misshapen s p v
+    ∷ []
+
+-- the submodel isn't there; and then the causes in it
+abbrev pub in_submodel : Documents → List ℕ → (Submodel → List Cause) → List Cause
+in_submodel d id causes_in = is_absent Submodels id d ∷ option_map_or causes_in (map.get d.submodels (encode_utf8_all id)) []
+
+-- ---- one row a command
+
 abbrev pub causes : Documents → Command → List Cause
 causes d (CreateShell s) = is_there Shells s.head.id d ∷ []
 causes d (CreateSubmodel s) = is_there Submodels s.head.id d ∷ []
@@ -59,6 +132,10 @@ causes d (DeleteShell id) = is_absent Shells id d ∷ []
 causes d (DeleteSubmodel id) = is_absent Submodels id d ∷ []
 causes d (DeleteConcept id) = is_absent Concepts id d ∷ []
 causes d (SetAsset id asset) = is_absent Shells id d ∷ []
+causes d (InsertElement id p e) = in_submodel d id (insert_causes p.steps e)
+causes d (ReplaceElement id p e) = in_submodel d id (replace_causes p.steps e)
+causes d (DeleteElement id p) = in_submodel d id (delete_causes p.steps)
+causes d (UpdateValue id p v) = in_submodel d id (update_causes p.steps v)
 
 -- ---- by the documents that it makes
 

@@ -1,5 +1,5 @@
 -- Laws of commands.
-use Rattle.std.specs.Prelude.{◌≡◌, ◌⊎◌, Bool, false}
+use Rattle.std.specs.Prelude.{◌≡◌, Bool, false}
 use Rattle.aas_model.specs.declared.documents.Submodel.{Submodel}
 use Rattle.aas_constraint_laws.specs.Valid.{IsValid}
 use Rattle.aas_constraint_rules.specs.Faults.{submodel}
@@ -12,8 +12,9 @@ use Rattle.aas_step.specs.Causes.{has_too_many}
 use Rattle.aas_step.specs.Step.{Result, accepted, ComesTo, Steps}
 use Rattle.aas_step.specs.Valid.{AreValid}
 
+-- in valid documents a command comes to one result
 abbrev pub OneResult : Type 0
-OneResult = (room : Room) (r : Repository Documents) (c : Command) (x y : Result) → Steps room r c x → Steps room r c y → x ≡ y
+OneResult = (room : Room) (r : Repository Documents) (c : Command) (x y : Result) → AreValid r.documents → Steps room r c x → Steps room r c y → x ≡ y
 
 -- an accepted command leaves every constraint true
 abbrev pub StaysValid : Type 0

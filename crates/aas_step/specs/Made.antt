@@ -1,18 +1,35 @@
 -- What a command makes of the documents, where it isn't refused. This profile's own rule.
-use Rattle.std.specs.Prelude.{◌≡◌, ℕ, List, [], ◌∷◌}
+use Rattle.std.specs.Prelude.{◌≡◌, ℕ, List, [], ◌∷◌, Some}
 use Rattle.std.specs.Str.{encode_utf8_all}
 use Rattle.std.specs.Option.{option_map_or}
 use Rattle.std.specs.FinMap as map
+use Rattle.serde_json.specs.Data.{Data}
 use Rattle.aas_model_names.specs.declared.collection.Collection.TheVariants.{Shells, Submodels, Concepts}
 use Rattle.aas_model.specs.declared.documents.Shell.{Shell}
+use Rattle.aas_model.specs.declared.documents.Submodel.{Submodel}
+use Rattle.aas_model.specs.declared.path.PathStep.{PathStep}
+use Rattle.aas_value_update.specs.Update.{IsValueUpdate}
+use Rattle.aas_path_trees.specs.Edits.{inserted, removed, replaced}
 use Rattle.aas_constraint_rules.specs.Faults.{Document, shell, submodel, concept}
 use Rattle.aas_command.specs.declared.command.Command.{Command}
-use Rattle.aas_command.specs.declared.command.Command.TheVariants.{CreateShell, CreateSubmodel, CreateConcept, ReplaceShell, ReplaceSubmodel, ReplaceConcept, DeleteShell, DeleteSubmodel, DeleteConcept, SetAsset}
+use Rattle.aas_command.specs.declared.command.Command.TheVariants.{CreateShell, CreateSubmodel, CreateConcept, ReplaceShell, ReplaceSubmodel, ReplaceConcept, DeleteShell, DeleteSubmodel, DeleteConcept, SetAsset, InsertElement, ReplaceElement, DeleteElement, UpdateValue}
 use Rattle.aas_store.specs.Documents.{Documents, without, with_shell, with_submodel, with_concept}
 
 -- the shell of an identifier, changed
 abbrev pub changed_shell : Documents → List ℕ → (Shell → Shell) → List Document
 changed_shell d id change = option_map_or (λ s. shell (change s) ∷ []) (map.get d.shells (encode_utf8_all id)) []
+
+-- the submodel of an identifier, changed
+abbrev pub changed_submodel : Documents → List ℕ → (Submodel → Submodel) → List Document
+changed_submodel d id change = option_map_or (λ s. submodel (change s) ∷ []) (map.get d.submodels (encode_utf8_all id)) []
+
+-- the submodel of an identifier, after an update of its values
+pub record IsUpdatedSubmodel (d : Documents) (id : List ℕ) (p : List PathStep) (v : Data) (new : List Document) : Type 0 where
+  pub old : Submodel
+  pub there : map.get d.submodels (encode_utf8_all id) ≡ Some old
+  pub updated : Submodel
+  pub update : IsValueUpdate old p v updated
+  pub made : new ≡ submodel updated ∷ []
 
 -- these are the new documents, in their order
 abbrev pub IsMade : Documents → Command → List Document → Type 0
@@ -26,6 +43,10 @@ IsMade d (DeleteShell id) new = new ≡ []
 IsMade d (DeleteSubmodel id) new = new ≡ []
 IsMade d (DeleteConcept id) new = new ≡ []
 IsMade d (SetAsset id asset) new = new ≡ changed_shell d id (λ s. record s { asset = asset })
+IsMade d (InsertElement id p e) new = new ≡ changed_submodel d id (λ s. inserted s p.steps e)
+IsMade d (ReplaceElement id p e) new = new ≡ changed_submodel d id (λ s. replaced s p.steps e)
+IsMade d (DeleteElement id p) new = new ≡ changed_submodel d id (λ s. removed s p.steps)
+IsMade d (UpdateValue id p v) new = IsUpdatedSubmodel d id p.steps v new
 
 -- the documents without the one that it takes away
 abbrev pub left : Documents → Command → Documents

@@ -1,5 +1,5 @@
 -- What a command comes to: the first of its causes, or the documents that it makes. This profile's own rule.
-use Rattle.std.specs.Prelude.{◌≡◌, ℕ, Bool, List, [], ◌∷◌, ◌++◌, length, flat_map, Some, None}
+use Rattle.std.specs.Prelude.{◌≡◌, Bool, List, [], ◌∷◌, ◌++◌, length, flat_map, Some, None}
 use Rattle.aas_constraint_rules.specs.Faults.{Document}
 use Rattle.aas_command.specs.Commands.{payload_of}
 use Rattle.aas_command.specs.declared.command.Command.{Command}

@@ -1,5 +1,5 @@
 -- Documents that keep every constraint.
-use Rattle.std.specs.Prelude.{◌≡◌, ℕ, Bool, false, List, Some}
+use Rattle.std.specs.Prelude.{◌≡◌, false, Some}
 use Rattle.std.specs.Str.{encode_utf8_all}
 use Rattle.std.specs.FinMap as map
 use Rattle.aas_model.specs.declared.documents.Concept.{Concept}

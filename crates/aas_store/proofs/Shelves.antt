@@ -1,10 +1,12 @@
 -- What the places of a shelf's entries say of its map.
-use Rattle.std.proofs.Common.{◌≡◌, ℕ, zero, suc, ◌<◌, ◌≤◌, ◌⊎◌, inl, inr, Bool, true, false, not, T, List, [], ◌∷◌, map, length, get_or, slice_get, slice_set, Some, None, option_map, Result, Ok, Err, MatchResult, OnOk, OnErr, refl, sym, ap, ◌∙◌, subst, arith, cond}
+use borrow.Follows.Closed.{read_of}
+use Rattle.std.proofs.Common.{◌≡◌, ℕ, zero, suc, ◌<◌, ◌≤◌, ◌⊎◌, inl, inr, Bool, true, false, not, T, List, [], ◌∷◌, map, length, get_or, slice_get, slice_set, Box, Global, MutBor, Option, Some, None, option_map, Result, Ok, Err, MatchResult, OnOk, OnErr, refl, sym, ap, ◌∙◌, subst, arith, cond}
 use Rattle.std.specs.Str.{encode_utf8_all}
 use Rattle.std.specs.List.{insert, remove, find}
 use Rattle.std.specs.List.Sorted.{IsBinarySearchResult, IsNonDecreasingBy, IsPartitionPoint, IsPartitionedBy, IsSearchInRange}
 use Rattle.std.specs.FinMap as fin
-use Rattle.std.specs.FinMap.{FinMap, entries-from_sorted, entries_sorted, entries-insert, get-entries, get-from_sorted, get-remove, len-entries, same_entries_map, same_map}
+use Rattle.std.specs.FinMap.{FinMap, entries-from_sorted, entries_sorted, entries-insert, get-entries, get-from_sorted, get-insert, get-remove, len-entries, same_entries_map, same_map}
+use Rattle.std.specs.Option.{option_map_or, ghost_name_of}
 use Rattle.std.specs.Ordering.{is_eq, is_le, is_lt, eq_by_cmp, ordering_index, ordering_reverse}
 use Rattle.std.specs.declared.cmp.Ordering.{Ordering}
 use Rattle.std.specs.declared.cmp.Ordering.TheVariants.{Less, Equal, Greater}
@@ -15,6 +17,7 @@ use Rattle.std.proofs.lemmas.Option.{slice_get-map, slice_get_within, slice_get-
 use Rattle.std.proofs.lemmas.Simd.{map-map}
 use Rattle.aas_store.specs.declared.shelf.Entry.{Entry}
 use Rattle.aas_store.specs.Documents.{first_above, is_above}
+use Rattle.aas_store.specs.Lent.{with_document, with_document_at}
 use Rattle.aas_store.specs.Places.{IsAt, IsGapFor}
 use Rattle.aas_store.specs.Shelf.{pairs}
 use Rattle.aas_store.proofs.Ordered.{order, same_some, same_id, greater, comparisons_rise, rising, sorted_removed, found_none, found_at, put_at, put_between, found_removed}
@@ -78,8 +81,22 @@ removed_absent {D = D} m id none = same_map nat_list_cmp_total same_id m (fin.re
     by q Equal is = ap (fin.get m) (same_id q id is) ∙ none ∙ sym (ap (λ r. cond (is_eq r) None (fin.get m q)) is)
     by q Greater is = sym (ap (λ r. cond (is_eq r) None (fin.get m q)) is)
 
+-- a document in its own place
+pub inserted_same : {D : Type 0} (m : FinMap order D) (id : List ℕ) (d : D) → fin.get m id ≡ Some d → fin.insert m id d ≡ m
+inserted_same {D = D} m id d is = same_map nat_list_cmp_total same_id (fin.insert m id d) m (λ q. get-insert nat_list_cmp_total m id d q ∙ by q (order q id) refl)
+  where
+    by : (q : List ℕ) (r : Ordering) → order q id ≡ r → cond (is_eq (order q id)) (Some d) (fin.get m q) ≡ fin.get m q
+    by q Less same = ap (λ r. cond (is_eq r) (Some d) (fin.get m q)) same
+    by q Equal same = ap (λ r. cond (is_eq r) (Some d) (fin.get m q)) same ∙ sym (ap (fin.get m) (same_id q id same) ∙ is)
+    by q Greater same = ap (λ r. cond (is_eq r) (Some d) (fin.get m q)) same
+
 pub first_of_all : {D : Type 0} (m : FinMap order D) → first_above None (fin.keys m) ≡ slice_get (fin.keys m) 0
 first_of_all m = find_at_point (is_above None) (fin.keys m) 0 (λ j x lt at. absurd (omega arith)) (λ x at. refl)
+
+-- two lenders that end alike whatever is left of what they lend, and where nothing is lent
+pub same_read : {X R : Type 0} (r : Option (MutBor X)) (F G : X → R) (u v : R) → ((w : X) → F w ≡ G w) → u ≡ v → read_of (ghost_name_of r) F u ≡ read_of (ghost_name_of r) G v
+same_read None F G u v h e = λ i. inr (e i)
+same_read (Some x) F G u v h e = λ i. inl (x.ghost_name, λ w. h w i)
 
 -- ---- a shelf's entries and its map
 
@@ -93,10 +110,10 @@ module _ {D : Type 0} (entries : List (Entry D)) (sorted : T (fin.is_sorted orde
   pub count_is : length entries ≡ fin.len m
   count_is = length_is ∙ sym (len-entries m)
 
-  pub pair_at : (i : ℕ) (e : Entry D) → slice_get entries i ≡ Some e → slice_get (fin.entries m) i ≡ Some (encode_utf8_all e.id, e.document)
+  pub pair_at : (i : ℕ) (e : Entry D) → slice_get entries i ≡ Some e → slice_get (fin.entries m) i ≡ Some (encode_utf8_all e.id, e.document.value)
   pair_at i e at = ap (λ es. slice_get es i) entries_are ∙ slice_get-map _ entries i ∙ ap (option_map _) at
 
-  pub entry_at : (i : ℕ) (p : List ℕ × D) → slice_get (fin.entries m) i ≡ Some p → (e : Entry D) × (slice_get entries i ≡ Some e) × (◌≡◌ {A = List ℕ × D} (encode_utf8_all e.id, e.document) p)
+  pub entry_at : (i : ℕ) (p : List ℕ × D) → slice_get (fin.entries m) i ≡ Some p → (e : Entry D) × (slice_get entries i ≡ Some e) × (◌≡◌ {A = List ℕ × D} (encode_utf8_all e.id, e.document.value) p)
   entry_at i p at = mapped_at _ entries i p (ap (λ es. slice_get es i) (sym entries_are) ∙ at)
 
   pub is_within : (id : List ℕ) (place : ℕ) → IsAt m id place → place < length entries
@@ -107,7 +124,7 @@ module _ {D : Type 0} (entries : List (Entry D)) (sorted : T (fin.is_sorted orde
   read : (i : ℕ) (d : Entry D) → i < length entries → slice_get entries i ≡ Some (get_or entries i d)
   read i d lt = slice_get-get_or entries i d lt
 
-  pair_read : (i : ℕ) (d : Entry D) → i < length entries → slice_get (pairs entries) i ≡ Some (encode_utf8_all (get_or entries i d).id, (get_or entries i d).document)
+  pair_read : (i : ℕ) (d : Entry D) → i < length entries → slice_get (pairs entries) i ≡ Some (encode_utf8_all (get_or entries i d).id, (get_or entries i d).document.value)
   pair_read i d lt = slice_get-map _ entries i ∙ ap (option_map _) (read i d lt)
 
   pub rises : (id : List ℕ) → IsNonDecreasingBy (λ e. ordering_index (order (encode_utf8_all e.id) id)) entries
@@ -128,7 +145,7 @@ module _ {D : Type 0} (entries : List (Entry D)) (sorted : T (fin.is_sorted orde
   searched id (Ok place) within at =
       let e = some_at entries place within in
       let tied : encode_utf8_all e.0.id ≡ id = ap (λ (e : Entry D). encode_utf8_all e.id) (sym (get_or_from_slice_get entries place e.0 e.0 e.1)) ∙ same_id _ id (at e.0) in
-      (e.0.document, pair_at place e.0 e.1 ∙ ap (λ k. Some (k, e.0.document)) tied)
+      (e.0.document.value, pair_at place e.0 e.1 ∙ ap (λ k. Some (k, e.0.document.value)) tied)
   searched id (Err place) within parted = record {
     within = subst (λ n. place ≤ n) length_is within;
     below = λ i p lt at. sym (compared i p id at) ∙ (parted (rises id)).0 i (entry_at i p at).0 (omega arith) lt;
@@ -138,7 +155,7 @@ module _ {D : Type 0} (entries : List (Entry D)) (sorted : T (fin.is_sorted orde
 
   -- ---- what is read
 
-  pub document_at : (id : List ℕ) (place : ℕ) (e : Entry D) → IsAt m id place → slice_get entries place ≡ Some e → fin.get m id ≡ Some e.document
+  pub document_at : (id : List ℕ) (place : ℕ) (e : Entry D) → IsAt m id place → slice_get entries place ≡ Some e → fin.get m id ≡ Some e.document.value
   document_at id place e at is =
       found_there m id place at.0 at.1 ∙ ap (option_map (λ (p : List ℕ × D). p.1)) (sym at.1 ∙ pair_at place e is)
 
@@ -180,24 +197,38 @@ module _ {D : Type 0} (entries : List (Entry D)) (sorted : T (fin.is_sorted orde
 
   -- ---- what is changed
 
-  pub replaced : (id : List ℕ) (place : ℕ) (e : Entry D) (d : D) → IsAt m id place → slice_get entries place ≡ Some e → pairs (slice_set entries place (record e { document = d })) ≡ fin.entries (fin.insert m id d)
+  pub replaced : (id : List ℕ) (place : ℕ) (e : Entry D) (d : Box D Global) → IsAt m id place → slice_get entries place ≡ Some e → pairs (slice_set entries place (record e { document = d })) ≡ fin.entries (fin.insert m id d.value)
   replaced id place e d at is =
       let same : encode_utf8_all e.id ≡ id = ap (λ (p : List ℕ × D). p.0) (same_some _ _ (sym (pair_at place e is) ∙ at.1)) in
-      map-set _ entries place _ ∙ ap (λ k. slice_set (pairs entries) place (k, d)) same
-      ∙ sym (entries-insert nat_list_cmp_total m id d ∙ put_at (fin.entries m) place id d at.0 (entries_sorted m) at.1 ∙ ap (λ es. slice_set es place (id, d)) entries_are)
+      map-set _ entries place _ ∙ ap (λ k. slice_set (pairs entries) place (k, d.value)) same
+      ∙ sym (entries-insert nat_list_cmp_total m id d.value ∙ put_at (fin.entries m) place id d.value at.0 (entries_sorted m) at.1 ∙ ap (λ es. slice_set es place (id, d.value)) entries_are)
 
-  pub inserted : (e : Entry D) (place : ℕ) → IsGapFor m (encode_utf8_all e.id) place → pairs (insert entries place e) ≡ fin.entries (fin.insert m (encode_utf8_all e.id) e.document)
+  -- what a loan of the document in a place leaves
+  pub lent : (id : List ℕ) (place : ℕ) (w : D) → IsAt m id place → T (fin.is_sorted order (pairs (with_document_at entries place w))) × (fin.from_sorted (pairs (with_document_at entries place w)) ≡ fin.insert m id w)
+  lent id place w at =
+      let e = entry_at place _ at.1 in
+      subst
+      (λ (o : Option (Entry D)). T (fin.is_sorted order (pairs (option_map_or (λ e. slice_set entries place (with_document e w)) o entries)))
+      × (fin.from_sorted (pairs (option_map_or (λ e. slice_set entries place (with_document e w)) o entries)) ≡ fin.insert m id w))
+      (sym e.1) (stands_for _ _ (replaced id place e.0 (record e.0.document { value = w }) at e.1))
+
+  pub lent_value : (id : List ℕ) (place : ℕ) → IsAt m id place → option_map (λ (e : Entry D). e.document.value) (slice_get entries place) ≡ fin.get m id
+  lent_value id place at =
+      let e = entry_at place _ at.1 in
+      ap (option_map (λ (e : Entry D). e.document.value)) e.1 ∙ sym (document_at id place e.0 at e.1)
+
+  pub inserted : (e : Entry D) (place : ℕ) → IsGapFor m (encode_utf8_all e.id) place → pairs (insert entries place e) ≡ fin.entries (fin.insert m (encode_utf8_all e.id) e.document.value)
   inserted e place gap =
       map-insert _ entries place e (subst (λ n. place ≤ n) (sym length_is) gap.within)
-      ∙ sym (entries-insert nat_list_cmp_total m (encode_utf8_all e.id) e.document ∙ put_between (fin.entries m) place (encode_utf8_all e.id) e.document gap.within gap.below gap.above
-      ∙ ap (λ es. insert es place (encode_utf8_all e.id, e.document)) entries_are)
+      ∙ sym (entries-insert nat_list_cmp_total m (encode_utf8_all e.id) e.document.value ∙ put_between (fin.entries m) place (encode_utf8_all e.id) e.document.value gap.within gap.below gap.above
+      ∙ ap (λ es. insert es place (encode_utf8_all e.id, e.document.value)) entries_are)
 
   pub sorted_after_insert : {A B : Type 0} (r : Result A B) (new : List (Entry D)) (e : Entry D) (place : ℕ) → IsGapFor m (encode_utf8_all e.id) place → OnOk r (new ≡ insert entries place e) → OnErr r (new ≡ entries)
       → T (fin.is_sorted order (pairs new))
   sorted_after_insert (Ok a) new e place gap ok err = (stands_for (pairs new) _ (ap pairs ok ∙ inserted e place gap)).0
   sorted_after_insert (Err b) new e place gap ok err = subst (λ es. T (fin.is_sorted order (pairs es))) (sym err) sorted
 
-  pub stands_after_insert : {A B : Type 0} (r : Result A B) (new : List (Entry D)) (e : Entry D) (place : ℕ) (d : D) → IsGapFor m (encode_utf8_all e.id) place → e.document ≡ d → OnOk r (new ≡ insert entries place e)
+  pub stands_after_insert : {A B : Type 0} (r : Result A B) (new : List (Entry D)) (e : Entry D) (place : ℕ) (d : D) → IsGapFor m (encode_utf8_all e.id) place → e.document.value ≡ d → OnOk r (new ≡ insert entries place e)
       → OnOk r (fin.from_sorted (pairs new) ≡ fin.insert m (encode_utf8_all e.id) d)
   stands_after_insert (Ok a) new e place d gap same ok = (stands_for (pairs new) _ (ap pairs ok ∙ inserted e place gap)).1 ∙ ap (fin.insert m (encode_utf8_all e.id)) same
   stands_after_insert (Err b) new e place d gap same ok = tt

@@ -1,5 +1,9 @@
 pub mod Documents
+pub mod Edited
+pub mod Lent
 pub mod Places
+pub mod Ranked
 pub mod Shelf
+pub mod Spots
 pub mod Storable
 pub mod TreeStore

@@ -5,4 +5,4 @@ use Rattle.aas_store.specs.declared.shelf.Entry.{Entry}
 
 -- identifiers as their UTF-8 bytes, each with its document
 abbrev pub pairs : {D : Type 0} → List (Entry D) → List (List ℕ × D)
-pairs entries = map (λ e. (encode_utf8_all e.id, e.document)) entries
+pairs entries = map (λ e. (encode_utf8_all e.id, e.document.value)) entries

@@ -6,10 +6,16 @@
 
 #![tactic(auto)]
 
+mod elements;
+mod lack;
 mod shelf;
+mod spot;
+mod spots;
 mod store;
 mod tree_store;
 
+pub use lack::Lack;
+pub use spot::{Spot, StepRef};
 pub use store::Store;
 pub use tree_store::TreeStore;
 

@@ -1,13 +1,15 @@
-ghost use Rattle.std.specs.Prelude.{◌≡◌, slice_get, MatchResult, OnErr, OnOk};
+ghost use Rattle.std.specs.Prelude.{◌≡◌, option_map, slice_get, IfOk, MatchResult, OnErr, OnOk};
+ghost use Rattle.std.specs.Borrow.{Lends, LendsIf, sem};
 ghost use Rattle.std.specs.Str.{encode_utf8_all};
 ghost use Rattle.std.specs.FinMap as map;
-ghost use Rattle.std.specs.Option.{option_copied};
+ghost use Rattle.std.specs.Option.{option_copied, option_copied_mut};
 ghost use Rattle.std.specs.Ordering.{nat_cmp};
 ghost use Rattle.std.specs.Cmp.Lexicographic.{slice_cmp};
 ghost use Rattle.aas_store.specs.Documents.{first_above};
+ghost use Rattle.aas_store.specs.Lent.{entries_type, entry_type, with_document, with_document_at};
 ghost use Rattle.aas_store.specs.Places.{IsAt, IsGapFor};
 
-use aas_model::{Boxed, Many, NoMemory, Text};
+use aas_model::{Many, NoMemory, Text};
 use std::alloc::Global;
 use std::cmp::Ordering;
 use std::marker::Model;
@@ -16,7 +18,7 @@ use std::marker::Model;
 #[derive(Drop)]
 struct Entry<D> {
     id: Text,
-    document: Boxed<D>,
+    document: Box<D>,
 }
 
 impl<D> Entry<D> {
@@ -25,6 +27,34 @@ impl<D> Entry<D> {
         ensures { result ≡ slice_cmp nat_cmp (encode_utf8_all self.now.id) id.now }
     {
         self.id.as_str().cmp(id)
+    }
+}
+
+/// The document of an entry, to be written in place.
+fn document_of<D>(entry: &mut Entry<D>) -> &mut D
+    ensures* writes_back { sem 𝓛 (Lends (entry_type D.row) D.row entry.entry result (with_document entry.old)) }
+    ensures value { result.now ≡ entry.old.document.value }
+{
+    &mut entry.document
+}
+
+/// The document of the entry in a place, to be written in place.
+fn document_mut<D>(entries: &mut Many<Entry<D>>, place: usize) -> Option<&mut D>
+    ensures* writes_back { sem 𝓛 (LendsIf (entries_type D.row) D.row entries.entry result (with_document_at entries.old place) entries.old) }
+    ensures value { option_copied_mut result ≡ option_map (λ e. e.document.value) (slice_get entries.old place) }
+{
+    match entries.get_mut(place) {
+        Some(entry) => Some(document_of(entry)),
+        None => None,
+    }
+}
+
+fn boxed<D: Drop>(alloc: Global, document: D) -> Result<Box<D>, NoMemory>
+    ensures { IfOk result (λ boxed. boxed.value ≡ document) }
+{
+    match Box::new(alloc, document) {
+        Ok(boxed) => Ok(boxed),
+        Err(_) => Err(NoMemory),
     }
 }
 
@@ -82,7 +112,7 @@ impl<D> Shelf<D> {
         ensures { option_copied result ≡ map.get self.now id.now }
     {
         match self.place(id) {
-            Ok(place) => Some(self.entries.as_slice()[place].document.get()),
+            Ok(place) => Some(&self.entries.as_slice()[place].document),
             Err(_) => None,
         }
     }
@@ -112,13 +142,28 @@ impl<D> Shelf<D> {
     }
 }
 
+impl<D> Shelf<D> {
+    ghost use Rattle.aas_store.specs.contracts.shelf.Shelf.{the_row};
+
+    /// The document of the identifier, to be written in place.
+    pub fn get_mut(&mut self, id: &str) -> Option<&mut D>
+        ensures* writes_back { sem 𝓛 (LendsIf (the_row D.row) D.row self.entry result (map.insert self.old id.now) self.old) }
+        ensures value { option_copied_mut result ≡ map.get self.old id.now }
+    {
+        match self.place(id) {
+            Ok(place) => document_mut(&mut self.entries, place),
+            Err(_) => None,
+        }
+    }
+}
+
 impl<D: Drop> Shelf<D> {
     /// Puts the document under the identifier, in the place of one that is there.
     pub fn put(&mut self, id: Text, document: D) -> Result<(), NoMemory>
         ensures ok { OnOk result (self.new ≡ map.insert self.old (encode_utf8_all id) document) }
         ensures err { OnErr result (self.new ≡ self.old) }
     {
-        let document = Boxed::new(self.entries.alloc(), document)?;
+        let document = boxed(self.entries.alloc(), document)?;
         match self.place(id.as_str()) {
             Ok(place) => {
                 if let Some(entry) = self.entries.get_mut(place) {

@@ -1,15 +1,22 @@
-ghost use Rattle.std.specs.Prelude.{◌≡◌, true, IfOk, OnErr, OnOk};
+ghost use Rattle.std.specs.Prelude.{◌≡◌, ◌↔◌, ◌≤◌, true, Some, None, Err, option_and_then, IfOk, IfSome, IsSome, OnErr, OnOk};
 ghost use Rattle.std.specs.FinMap as map;
 ghost use Rattle.std.specs.Option.{option_copied};
+ghost use Rattle.aas_model.specs.declared.path.Missing.{Missing};
+ghost use Rattle.aas_path_trees.specs.Edits.{inserted, removed, replaced, role_at};
+ghost use Rattle.aas_path_trees.specs.ElementAt.{element_at};
 ghost use Rattle.aas_store.specs.Documents.{Documents, count, first_above, has, ids, with_concept, with_shell, with_submodel, without};
-ghost use Rattle.aas_store.specs.Storable.{IsStorable};
+ghost use Rattle.aas_store.specs.Edited.{CanReplace, FitsAt, Holds, LeadsNowhere, patched_at, with_changed};
+ghost use Rattle.aas_store.specs.Spots.{spot_below, step_of};
+ghost use Rattle.aas_store.specs.Storable.{IsStorable, element_count};
 
-use aas_model::{Collection, Concept, NoMemory, Shell, Submodel};
+use crate::lack::Lack;
+use crate::spot::{Spot, StepRef};
+use aas_model::{Collection, Concept, Element, NoMemory, Patch, Path, Shell, Submodel};
 
 /// Documents in three collections, each under its own identifier.
 ///
-/// IDTA-01002-3-0, the repository interfaces. Identifiers are in the order of their UTF-8 bytes. Only `submodel` and
-/// the calls that put a document take memory; where one of these is refused it, the documents stay as they were.
+/// IDTA-01002-3-0, the repository interfaces. Identifiers are in the order of their UTF-8 bytes. Only the calls that
+/// answer a `Result` take memory; where one of these is refused it, the documents stay as they were.
 pub trait Store {
     /// What the store holds.
     ghost documents: { Self → Documents };
@@ -38,6 +45,19 @@ pub trait Store {
     fn submodel(&self, id: &str) -> Result<Option<Submodel>, NoMemory>
         ensures { IfOk result (λ submodel. submodel ≡ map.get (documents self.now).submodels id.now) };
 
+    /// A copy of the element to which the path leads in the submodel of the identifier; the empty path leads to none.
+    fn element(&self, id: &str, path: &Path) -> Result<Element, Lack>
+        ensures found { IfOk result (λ e. Holds (documents self.now) id.now (λ s. element_at s path.now.steps ≡ Some e)) }
+        ensures no_submodel { (result ≡ Err Lack.NoSubmodel) ↔ (map.get (documents self.now).submodels id.now ≡ None) }
+        ensures no_element { (m : Missing) → (result ≡ Err (Lack.NoElement m)) ↔ Holds (documents self.now) id.now (λ s. LeadsNowhere s path.now.steps m) };
+
+    /// The child to which the step leads from the element of the rank in the submodel of the identifier, or from the submodel
+    /// itself where there is no rank. `None` exactly where the submodel, the rank or the child isn't there.
+    /// That a submodel has at most 65,536 elements bounds the ranks.
+    fn child(&self, id: &str, parent: Option<u64>, step: StepRef<'_>) -> Option<Spot>
+        requires { IfSome (map.get (documents self.now).submodels id.now) (λ s. element_count s ≤ 65536) }
+        ensures { result ≡ option_and_then (λ s. spot_below s parent (step_of step.entry)) (map.get (documents self.now).submodels id.now) };
+
     /// Puts the shell under its identifier, in the place of one that is there.
     fn put_shell(&mut self, shell: Shell) -> Result<(), NoMemory>
         ensures ok { OnOk result (documents self.new ≡ with_shell (documents self.old) shell) }
@@ -58,4 +78,30 @@ pub trait Store {
     fn delete(&mut self, collection: Collection, id: &str)
         requires { has collection id.now (documents self.old) ≡ true }
         ensures { documents self.new ≡ without collection id.now (documents self.old) };
+
+    /// Adds the element as the last child of what is at the path in the submodel of the identifier, the submodel itself at
+    /// the empty path. It has the role that its new parent gives it.
+    fn insert_element(&mut self, id: &str, path: &Path, element: Element) -> Result<(), NoMemory>
+        requires takes { Holds (documents self.old) id.now (λ s. IsSome (role_at s path.now.steps element)) }
+        requires storable { Holds (documents self.old) id.now (λ s. IsStorable (inserted s path.now.steps element)) }
+        ensures ok { OnOk result (documents self.new ≡ with_changed (documents self.old) id.now (λ s. inserted s path.now.steps element)) }
+        ensures err { OnErr result (documents self.new ≡ documents self.old) };
+
+    /// Puts the element in the place and the role of the one at the path in the submodel of the identifier.
+    fn replace_element(&mut self, id: &str, path: &Path, element: Element) -> Result<(), NoMemory>
+        requires fits { Holds (documents self.old) id.now (λ s. CanReplace s path.now.steps element) }
+        requires storable { Holds (documents self.old) id.now (λ s. IsStorable (replaced s path.now.steps element)) }
+        ensures ok { OnOk result (documents self.new ≡ with_changed (documents self.old) id.now (λ s. replaced s path.now.steps element)) }
+        ensures err { OnErr result (documents self.new ≡ documents self.old) };
+
+    /// Takes the element at the path, which is there, out of the submodel of the identifier.
+    fn delete_element(&mut self, id: &str, path: &Path) -> Result<(), NoMemory>
+        requires { Holds (documents self.old) id.now (λ s. IsSome (element_at s path.now.steps)) }
+        ensures ok { OnOk result (documents self.new ≡ with_changed (documents self.old) id.now (λ s. removed s path.now.steps)) }
+        ensures err { OnErr result (documents self.new ≡ documents self.old) };
+
+    /// Patches the element at the path in the submodel of the identifier, the submodel itself at the empty path.
+    fn update(&mut self, id: &str, path: &Path, patch: Patch)
+        requires { Holds (documents self.old) id.now (λ s. FitsAt s path.now.steps patch.rows) }
+        ensures { documents self.new ≡ with_changed (documents self.old) id.now (λ s. patched_at s path.now.steps patch.rows) };
 }

@@ -2,15 +2,20 @@ ghost use Rattle.std.specs.Prelude.{◌≡◌};
 ghost use Rattle.aas_store.specs.Documents.{empty};
 ghost use Rattle.aas_store.specs.TreeStore.{documents};
 
+use crate::elements::{copy_at, insert_at, patch_at, remove_at, replace_at};
+use crate::lack::Lack;
 use crate::shelf::Shelf;
+use crate::spot::{Spot, StepRef};
+use crate::spots::spot_below;
 use crate::store::Store;
-use aas_model::{Collection, Concept, Duplicate, NoMemory, Shell, Submodel};
+use aas_model::{Collection, Concept, Duplicate, Element, NoMemory, Patch, Path, Shell, Submodel};
 use std::alloc::Global;
 
 /// A store that keeps each document as its tree.
 ///
 /// A look-up costs the logarithm of the collection's size. A put and a delete also move 32 bytes for each document
-/// behind the one that they meet.
+/// behind the one that they meet. A step of a path by name costs the siblings that it passes, `child` the
+/// elements before the one that it looks for. Only puts, `insert_element` and copies take memory.
 #[derive(Drop)]
 pub struct TreeStore {
     shells: Shelf<Shell>,
@@ -74,6 +79,20 @@ impl Store for TreeStore {
         }
     }
 
+    fn element(&self, id: &str, path: &Path) -> Result<Element, Lack> {
+        match self.submodels.get(id) {
+            Some(submodel) => copy_at(submodel, path),
+            None => Err(Lack::NoSubmodel),
+        }
+    }
+
+    fn child(&self, id: &str, parent: Option<u64>, step: StepRef<'_>) -> Option<Spot> {
+        match self.submodels.get(id) {
+            Some(submodel) => spot_below(submodel, parent, step),
+            None => None,
+        }
+    }
+
     fn put_shell(&mut self, shell: Shell) -> Result<(), NoMemory> {
         let id = shell.head.id.copy()?;
         self.shells.put(id, shell)
@@ -94,6 +113,33 @@ impl Store for TreeStore {
             Collection::Shells => self.shells.remove(id),
             Collection::Submodels => self.submodels.remove(id),
             Collection::Concepts => self.concepts.remove(id),
+        }
+    }
+
+    fn insert_element(&mut self, id: &str, path: &Path, element: Element) -> Result<(), NoMemory> {
+        match self.submodels.get_mut(id) {
+            Some(submodel) => insert_at(submodel, path, element),
+            None => Ok(()),
+        }
+    }
+
+    fn replace_element(&mut self, id: &str, path: &Path, element: Element) -> Result<(), NoMemory> {
+        if let Some(submodel) = self.submodels.get_mut(id) {
+            replace_at(submodel, path, element);
+        }
+        Ok(())
+    }
+
+    fn delete_element(&mut self, id: &str, path: &Path) -> Result<(), NoMemory> {
+        if let Some(submodel) = self.submodels.get_mut(id) {
+            remove_at(submodel, path);
+        }
+        Ok(())
+    }
+
+    fn update(&mut self, id: &str, path: &Path, patch: Patch) {
+        if let Some(submodel) = self.submodels.get_mut(id) {
+            patch_at(submodel, path, patch);
         }
     }
 }

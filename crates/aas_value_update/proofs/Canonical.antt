@@ -47,7 +47,7 @@ members_rise [] g e = tt
 members_rise (r ∷ rs) g e =
     add_rises r.name (g r.name r.member_type) (members_by rs g) (members_above r.name rs g (and_left _ _ e)) (members_rise rs g (and_right _ _ e))
 
-order_rises : (ms : Members) → HasOrder ms → Rises ms
+pub order_rises : (ms : Members) → HasOrder ms → Rises ms
 order_rises no_members h = tt
 order_rises (member k d ms) h = (h.0, order_rises ms h.2)
 

@@ -20,9 +20,10 @@ use Rattle.aas_json_spelling.specs.Lists.{Each}
 use Rattle.aas_value.specs.ValueForm.{Child, put_children, forms_of, annotation_value}
 use Rattle.aas_value_update.specs.Parts.{Part, Form, nothing, whole, object_of, list_of, entries_of, value, children, is_called, by_name, later, over, laid, laid_item, laid_items, laid_entries, put_entry, entry, lay_form}
 use Rattle.aas_value_update.specs.Kinds.{form_of, child_part, part_of}
+use Rattle.aas_value_update.specs.Took.{AreNamed, NamedIn}
 use Rattle.aas_value_update.specs.Laws.{NamesDiffer, OwnFormStays, NoMembersChangeNothing}
 use Rattle.aas_value_update.proofs.Elements.{part_at, child_is}
-use Rattle.aas_value_update.proofs.Laid.{form, get_children, get_laid, children_rise, laid_rises, AreNamed, NamedIn, entry_before, entry_own}
+use Rattle.aas_value_update.proofs.Laid.{form, get_children, get_laid, children_rise, laid_rises, entry_before, entry_own}
 use Rattle.aas_value_update.proofs.Members.{known}
 use Rattle.aas_value_update.proofs.Named.{Apart}
 use Rattle.aas_value_update.proofs.OneForm.{apart_of, one_form}
@@ -113,11 +114,11 @@ owns p.Operation xs each names = tt
 owns p.SubmodelElementCollection xs each names = each
 owns (p.SubmodelElementList o s t v) xs each names = each
 
-names_of : (ks : List Element) → Apart (children (map part_of ks)) → AreNamed (map part_of ks)
+pub names_of : (ks : List Element) → Apart (children (map part_of ks)) → AreNamed (map part_of ks)
 names_of [] a = tt
 names_of (k ∷ ks) a = ((a.0.0, a.0.1), names_of ks a.1)
 
-named_in : (x : Payload) (ks : List Element) → (is_list_payload x ≡ false → Differ ks) → NamedIn x (map part_of ks)
+pub named_in : (x : Payload) (ks : List Element) → (is_list_payload x ≡ false → Differ ks) → NamedIn x (map part_of ks)
 named_in (p.AnnotatedRelationshipElement a b) ks d = names_of ks (apart_of ks (d refl))
 named_in p.Capability ks d = tt
 named_in _ ks d = tt
@@ -175,7 +176,7 @@ nothing_laid p.Operation xs ms other e = absurd (cc)
 nothing_laid p.SubmodelElementCollection xs ms other e = refl
 nothing_laid (p.SubmodelElementList o s t v) xs ms other e = absurd (cc)
 
-part_out : (e : Element) → part_of e ≡ child_part (out-Element e).common.id_short (form_of (out-Element e).payload (map part_of (kids_of e)))
+pub part_out : (e : Element) → part_of e ≡ child_part (out-Element e).common.id_short (form_of (out-Element e).payload (map part_of (kids_of e)))
 part_out e = let x = out-Element e in ap part_of (sym (made_out e)) ∙ part_at x.role x.common x.payload x.kids
 
 pub no_members_change_nothing : NoMembersChangeNothing

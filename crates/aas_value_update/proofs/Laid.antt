@@ -8,21 +8,11 @@ use Rattle.serde_json.specs.Find.{get_member}
 use Rattle.serde_json.proofs.Views.{get_member-put, get_member-put_other}
 use Rattle.aas_lemmas.proofs.Truth.{and_left, and_right}
 use Rattle.aas_json_table.specs.Spelled.{onto}
-use Rattle.aas_model.specs.declared.payload.Payload.{Payload}
-use Rattle.aas_model.specs.declared.payload.Payload.TheVariants as p
 use Rattle.aas_value.specs.ValueForm.{Child, put_child, put_children, named, forms_of, annotation_value}
 use Rattle.aas_value_update.specs.Parts.{Part, name_is, is_called, by_name, children, later, over, over_one, laid, laid_items, laid_entries, laid_item, entry, put_entry, members_fit, item_fits, items_fit, entries_fit}
 use Rattle.aas_value_update.specs.Shape.{under_name, next_item, in_turn, by_entries}
+use Rattle.aas_value_update.specs.Took.{TookOne, Took, AreNamed}
 use Rattle.aas_value_update.proofs.Members.{Rises, put_rises, same_name, name_itself, get_here, get_past, known}
-
--- y is x with what was sent laid over its value
-abbrev pub TookOne : Part → Option Data → Part → Type 0
-TookOne x s y = y.child ≡ record x.child { form = over x.lay x.child.form s }
-
-abbrev pub Took : List Part → List (Option Data) → List Part → Type 0
-Took [] [] [] = Unit {0}
-Took (x ∷ xs) (s ∷ ss) (y ∷ ys) = TookOne x s y × Took xs ss ys
-Took xs ss ys = ⊥
 
 -- ---- under a name
 
@@ -176,7 +166,7 @@ settled_is : (t : Data → Bool) (f : Data → Data → Data) (o new : Option Da
 settled_is t f o new d passes (is_laid h) = h
 settled_is t f o new d passes (is_refused h) = absurd (true≢false (sym passes ∙ h))
 
-over_none : (f : Data → Data → Data) (o : Option Data) → o ≡ over f o None
+pub over_none : (f : Data → Data → Data) (o : Option Data) → o ≡ over f o None
 over_none f None = refl
 over_none f (Some w) = refl
 
@@ -227,11 +217,6 @@ items_laid (x ∷ xs) ys ds fits took =
 
 -- ---- entries
 
--- each part has a name
-abbrev pub AreNamed : List Part → Type 0
-AreNamed [] = Unit {0}
-AreNamed (x ∷ xs) = ((n : List ℕ) × (x.child.name ≡ Some n)) × AreNamed xs
-
 entry_items : List Part → Items
 entry_items xs = onto (forms_of (map annotation_value (children xs))) no_items
 
@@ -281,8 +266,3 @@ entries_laid (x ∷ xs) (y ∷ ys) ds names fits took =
     ∙ renamed x.child (over x.lay x.child.form e.0) new
     ∙ ap (put_entry x.child (over x.lay x.child.form e.0)) (entries_laid xs ys e.1 names.1 (and_right _ _ fits) took.1)
     ∙ sym (ap (λ (w : Option Data × Items). put_entry x.child (over x.lay w.0 e.0) (laid_entries xs w.1 e.1)) mine)
-
--- the annotations of a relationship need names
-abbrev pub NamedIn : Payload → List Part → Type 0
-NamedIn (p.AnnotatedRelationshipElement first second) xs = AreNamed xs
-NamedIn _ xs = Unit {0}

@@ -11,3 +11,7 @@ pub mod Order
 pub mod Own
 pub mod Rest
 pub mod Slots
+pub mod WholeOwn
+pub mod TakenKids
+pub mod WholeParts
+pub mod WholeSubmodel

@@ -41,7 +41,7 @@ put_rises k d (member m e ms) h = put_at (slice_cmp nat_cmp k m) k m d e ms (put
 
 -- ---- what stands under a name
 
-absent : (k : List ℕ) (ms : Members) → AreAbove k ms → get_member k ms ≡ None
+pub absent : (k : List ℕ) (ms : Members) → AreAbove k ms → get_member k ms ≡ None
 absent k no_members a = refl
 absent k (member l e ms) a = ap (λ o. match_ordering o (get_member k ms) (Some e) (get_member k ms)) a.0 ∙ absent k ms a.1
 

@@ -101,7 +101,7 @@ same_kids (u ∷ us) (k ∷ ks) each names h e =
     let rest : children (map part_of us) ≡ children (map part_of ks) = cc in
     ap₂ (λ z zs. z ∷ zs) (each.0 u (names zero k refl) head (ap (λ (c : Child). c.form) first)) (same_kids us ks each.1 (λ i m. names (suc i) m) tail rest)
 
-apart_in : (x : Payload) (ks : List Element) → (is_list_payload x ≡ false → Differ ks) → ApartIn x (children (map part_of ks))
+pub apart_in : (x : Payload) (ks : List Element) → (is_list_payload x ≡ false → Differ ks) → ApartIn x (children (map part_of ks))
 apart_in (p.SubmodelElementList o s t v) ks d = tt
 apart_in p.Capability ks d = apart_of ks (d refl)
 apart_in _ ks d = apart_of ks (d refl)

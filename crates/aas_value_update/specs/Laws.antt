@@ -1,5 +1,5 @@
 -- Laws of updates of values.
-use Rattle.std.specs.Prelude.{◌≡◌, ℕ, true, false, List, Some}
+use Rattle.std.specs.Prelude.{◌≡◌, ℕ, true, false, List, Some, IsTrue}
 use Rattle.serde_json.specs.Data.{Data, object, Members, no_members}
 use Rattle.aas_model_names.specs.declared.modifiers.Extent.TheVariants as extent
 use Rattle.aas_model_names.specs.declared.kind.Kind.TheVariants as kind
@@ -14,7 +14,7 @@ use Rattle.aas_json_mapping.specs.Whole.{is_placed}
 use Rattle.aas_constraint_rules.specs.Faults.{submodel}
 use Rattle.aas_path_trees.specs.Children.{kids_of, is_list}
 use Rattle.aas_path_trees.specs.Places.{element_in, Differ}
-use Rattle.aas_constraint_laws.specs.Valid.{IsValid}
+use Rattle.aas_constraint_laws.specs.Valid.{IsValid, is_whole}
 use Rattle.aas_constraint_laws.specs.Values.{DifferInValues}
 use Rattle.aas_value.specs.ValueForm.{child_of, value_form}
 use Rattle.aas_value_update.specs.Json.{is_part}
@@ -48,6 +48,11 @@ OneElementUpdate = (e u w : Element) (v : Data) → IsInOrder e → IsElementUpd
 abbrev pub OneValueUpdate : Type 0
 OneValueUpdate = (d u w : Submodel) (p : List PathStep) (v : Data) → IsValid (submodel d)
     → IsValueUpdate d p v u → IsValueUpdate d p v w → u ≡ w
+
+-- A valid submodel stays whole: what is sent is within the limits where it fits. The names of what is sent rise.
+abbrev pub UpdateStaysWhole : Type 0
+UpdateStaysWhole = (d u : Submodel) (p : List PathStep) (v : Data) → IsValid (submodel d) → IsOrdered v
+    → IsValueUpdate d p v u → IsTrue (is_whole (submodel u))
 
 -- an element that is updated by its own value form stays as it is
 abbrev pub OwnFormStays : Type 0

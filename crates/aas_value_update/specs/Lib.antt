@@ -4,4 +4,5 @@ pub mod Laws
 pub mod LeftAlone
 pub mod Parts
 pub mod Shape
+pub mod Took
 pub mod Update

@@ -5,7 +5,8 @@
 #![tactic(auto)]
 
 ghost use Rattle.aas_value_update.specs.Laws.{PartsMakeForm, OneForm, OneElementUpdate, OneValueUpdate};
-ghost use Rattle.aas_value_update.specs.Laws.{OwnFormStays, NoMembersChangeNothing, SentIsCanonical};
+ghost use Rattle.aas_value_update.specs.Laws.{UpdateStaysWhole, OwnFormStays, NoMembersChangeNothing};
+ghost use Rattle.aas_value_update.specs.Laws.{SentIsCanonical};
 
 /// What the parts of each kind make is the value form.
 pub fn parts_make_value_form()
@@ -21,6 +22,11 @@ pub fn one_form()
 pub fn one_update()
     ensures element { OneElementUpdate }
     ensures submodel { OneValueUpdate }
+{}
+
+/// A valid submodel is whole after an update by a value.
+pub fn updates_stay_whole()
+    ensures { UpdateStaysWhole }
 {}
 
 /// An element that is updated by its own value form stays as it is.

@@ -1,8 +1,9 @@
 // The count of an end's faults.
-ghost use Rattle.std.specs.Prelude.{◌≡◌, ◌≤◌};
-ghost use Rattle.aas_outside.specs.Faults.{one_more};
+ghost use Rattle.std.specs.Prelude.{◌≡◌, ◌≤◌, Ok, IfOk, OnErr, IsErr};
+ghost use Rattle.aas_outside.specs.Faults.{HasCause, one_more};
 
 use aas_outside::Failed;
+use std::io;
 
 /// How many calls have failed. It stands still at 2^64 - 1.
 #[derive(Drop)]
@@ -24,5 +25,17 @@ impl FaultCount {
     {
         self.count = self.count.saturating_add(1);
         Failed
+    }
+
+    /// What a call answered, which is counted where it failed.
+    pub fn counted<T: Drop>(&mut self, answer: io::Result<T>) -> Result<T, Failed>
+        ensures ok { IfOk answer (λ value. result ≡ Ok value) }
+        ensures err { OnErr answer (IsErr result) }
+        ensures cause { HasCause self.old.count self.new.count result }
+    {
+        match answer {
+            Ok(value) => Ok(value),
+            Err(_) => Err(self.failed()),
+        }
     }
 }

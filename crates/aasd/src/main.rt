@@ -1,4 +1,4 @@
-//! `aasd`: the commands of `aas_server` on the console and over TCP.
+//! `aasd`: the commands of `aas_server` on the console, over TCP and over files.
 //!
 //! Nothing is decided here: the real ends stand here, and what they tell is trusted.
 #![tactic(auto)]
@@ -7,12 +7,15 @@ mod arrivals;
 mod calls;
 mod console;
 mod faults;
+mod file_disk;
+mod folder;
 mod patience;
 mod tcp_wire;
 
 use aas_model_text::{Many, NoMemory, Text};
 use aas_server::{Status, run};
 use console::ConsoleLink;
+use file_disk::FileDisk;
 use std::env;
 use std::io::ErrorKind;
 use std::process::ExitCode;
@@ -27,12 +30,13 @@ fn main(rt: HostRuntime) -> ExitCode {
     ExitCode::from(status)
 }
 
-/// Runs the words of the command line on the real console and the real wire.
+/// Runs the words of the command line on the real console, the real wire and the real disk.
 fn run_on(rt: &HostRuntime) -> Result<u8, NoMemory> {
     let words = words(rt)?;
     let mut console = ConsoleLink::new(rt.stdin(), rt.stdout());
     let mut wire = TcpWire::new(rt.clone()?);
-    Ok(run(rt.alloc(), &words, &mut console, &mut wire))
+    let disk = FileDisk::new(rt);
+    Ok(run(rt.alloc(), &words, &mut console, &mut wire, disk).status)
 }
 
 /// The words of the command line, without the program's name. Where one of them isn't UTF-8 they

@@ -1,11 +1,15 @@
-// The console over a reader and a writer that are interrupted and take little; the wire over sockets.
+// The console over a reader and a writer that are interrupted and take little; the wire over sockets; the disk in a folder of
+// its own.
 use crate::console::ConsoleLink;
+use crate::file_disk::FileDisk;
 use crate::tcp_wire::TcpWire;
 use aas_outside::{Failed, Link, Wire};
-use std::io;
+use aas_outside_disk::{Disk, Part};
+use std::fs::{File, Files};
 use std::io::{ErrorKind, Read, Write};
 use std::net::{Net, TcpStream};
 use std::test::Fail;
+use std::{env, fs, io, process};
 
 #[derive(Drop)]
 struct Peer {
@@ -99,5 +103,46 @@ fn a_wire_whose_first_peer_is_silent(rt: HostRuntime) -> Result<(), Fail> {
     let mut first = TcpStream::connect(&rt, address)?;
     let mut second = TcpStream::connect(&rt, address)?;
     assert!(rt; serves_second(&mut wire, &mut first, &mut second)?);
+    Ok(())
+}
+
+/// Whether bytes are found again, and none behind the end.
+fn finds_bytes<F: Files<File = File>>(disk: &mut FileDisk<F>) -> Result<bool, Failed> {
+    let mut buf = [b'.'; 4];
+    disk.write_at(Part::Spare, 0, b"abcd")?;
+    disk.write_at(Part::Spare, 3, b"xy")?;
+    disk.sync(Part::Spare)?;
+    disk.read_at(Part::Spare, 2, &mut buf[..3])?;
+    Ok(buf == *b"cxy." && disk.read_at(Part::Spare, 2, &mut buf).is_err())
+}
+
+fn lengths<F: Files<File = File>>(disk: &mut FileDisk<F>) -> Result<[u64; 3], Failed> {
+    Ok([
+        disk.length(Part::Main)?,
+        disk.length(Part::Spare)?,
+        disk.length(Part::Selector)?,
+    ])
+}
+
+/// Whether a disk finds its bytes, and a second one finds the folder locked until the first one ends.
+fn holds_folder<F: Files<File = File> + Drop>(
+    mut disk: FileDisk<F>,
+    mut second: FileDisk<F>,
+) -> bool {
+    let found = finds_bytes(&mut disk) == Ok(true);
+    let locked = lengths(&mut second) == Err(Failed) && lengths(&mut disk) == Ok([0, 5, 0]);
+    drop(disk);
+    found && locked && lengths(&mut second) == Ok([0, 5, 0])
+}
+
+#[test]
+fn a_disk_of_files(rt: HostRuntime) -> Result<(), Fail> {
+    let name = format!(in rt.alloc(); "aasd-test-{}", process::id(rt.process()))?;
+    let folder = env::temp_dir(&rt)?.join(rt.alloc(), name.as_str())?;
+    fs::create_dir(&rt, folder.as_path())?;
+    env::set_current_dir(&rt, folder.as_path())?;
+    let holds = holds_folder(FileDisk::new(&rt), FileDisk::new(&rt));
+    fs::remove_dir_all(&rt, folder.as_path())?;
+    assert!(rt; holds);
     Ok(())
 }

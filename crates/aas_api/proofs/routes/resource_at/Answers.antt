@@ -4,9 +4,9 @@ use Rattle.aas_api.proofs.Paths.{no_front, no_slash}
 use Rattle.aas_api.proofs.routes.resource_at.Goals as goal
 
 pub returns-then-not-is_empty : goal.returns-then-not-is_empty
-returns-then-not-is_empty c = sym (no_front c.args.target.now c.cut.result.0.now c.cut-2.result.0.now _ _ c.cut.ensures c.cut-2.ensures (search rules))
+returns-then-not-is_empty c = sym (no_front c.args.path.now c.cut.result.0.now _ c.cut.ensures (search rules))
 
 pub returns-in-None : goal.returns-in-None
 returns-in-None c =
-    let front : split 47 c.cut.result.0.now ≡ c.cut-2.result.0.now ∷ [] = search rules in
-    sym (no_slash c.args.target.now c.cut.result.0.now c.cut-2.result.0.now _ c.cut.ensures front)
+    let front : split 47 c.args.path.now ≡ c.cut.result.0.now ∷ [] = search rules in
+    sym (no_slash c.args.path.now c.cut.result.0.now front)

@@ -13,11 +13,11 @@ use Rattle.aas_constraints.proofs.check.+check.Goals as goal
 
 pub check_in-returns-in-Some : goal.check_in-returns-in-Some
 check_in-returns-in-Some t c = λ b knows.
-    ap Some c.fault_here.ensures ∙ found_here c.args.in_template (above_of c.args.above) b c.args.e.now c.in-Some.number (sym c.in-Some.is ∙ c.in_ok-number.ensures b knows)
+    ap Some c.fault_here.ensures ∙ found_here c.args.scope c.args.in_template (above_of c.args.above) b c.args.e.now c.in-Some.number (sym c.in-Some.is ∙ c.in_ok-number.ensures b knows)
 
 pub check_in-returns-in_ok-check_among-in-None : goal.check_in-returns-in_ok-check_among-in-None
 check_in-returns-in_ok-check_among-in-None t c = λ b knows.
-    c.in_ok-check_among-in-None.ensures ∙ found_below c.args.in_template (above_of c.args.above) b c.args.e.now (sym c.in-None.is ∙ c.in_ok-number.ensures b knows)
+    c.in_ok-check_among-in-None.ensures ∙ found_below c.args.scope c.args.in_template (above_of c.args.above) b c.args.e.now (sym c.in-None.is ∙ c.in_ok-number.ensures b knows)
 
 pub check_among-returns-in-Some : goal.check_among-returns-in-Some
 check_among-returns-in-Some t c =
@@ -29,17 +29,17 @@ check_among-returns-in-Some t c =
     let at : k ≡ get_or ks i k = ap (λ (x : Element). x) c.kid-item.is in
     let knows : Knows b (out-Element k).common.id_short c.in_ok-is_repeat.is_repeat (option_copied c.loop-place.lead) =
     record { names = c.in_ok-is_repeat.ensures.again b c.loop-place.invariant.names; semantics = c.loop-place.invariant.lead } in
-    let found : Some c.in-Some.fault ≡ found_in c.args.in_template a b k = sym c.in-Some.is ∙ c.in_ok-fault.ensures b knows in
-    let all = turn c.args.in_template a (found_among c.args.in_template a [] ks) ks i k (omega arith) at c.loop-place.invariant.rest in
+    let found : Some c.in-Some.fault ≡ found_in c.args.scope c.args.in_template a b k = sym c.in-Some.is ∙ c.in_ok-fault.ensures b knows in
+    let all = turn c.args.scope c.args.in_template a (found_among c.args.scope c.args.in_template a [] ks) ks i k (omega arith) at c.loop-place.invariant.rest in
     ap (λ p. Some (fault p c.in-Some.fault.number)) (c.in_ok-insert.ensures.ok ∙ ap (λ s. s ∷ c.in-Some.fault.path.steps) c.in_ok-step_to.ensures)
-    ∙ found_child _ _ _ (step_to a i (own_of k)) c.in-Some.fault all found ∙ ap (found_among c.args.in_template a []) c.as_slice-kid-items.ensures
+    ∙ found_child _ _ _ (step_to a i (own_of k)) c.in-Some.fault all found ∙ ap (found_among c.args.scope c.args.in_template a []) c.as_slice-kid-items.ensures
 
 pub check_among-returns : goal.check_among-returns
 check_among-returns t c =
     let ks = c.as_slice-kid-items.result.now in
     let a = above_of c.args.above in
-    ended c.args.in_template a (found_among c.args.in_template a [] ks) (map own_of (take c.loop-place.place ks)) ks c.loop-place.place c.loop-place-test.false c.loop-place.invariant.rest
-    ∙ ap (found_among c.args.in_template a []) c.as_slice-kid-items.ensures
+    ended c.args.scope c.args.in_template a (found_among c.args.scope c.args.in_template a [] ks) (map own_of (take c.loop-place.place ks)) ks c.loop-place.place c.loop-place-test.false c.loop-place.invariant.rest
+    ∙ ap (found_among c.args.scope c.args.in_template a []) c.as_slice-kid-items.ensures
 
 pub check_among-loop-place-preserved : goal.check_among-loop-place-preserved
 check_among-loop-place-preserved t c =
@@ -52,9 +52,9 @@ check_among-loop-place-preserved t c =
     let at : k ≡ get_or ks i k = ap (λ (x : Element). x) c.kid-item.is in
     let knows : Knows b (out-Element k).common.id_short c.in_ok-is_repeat.is_repeat (option_copied c.loop-place.lead) =
     record { names = c.in_ok-is_repeat.ensures.again b c.loop-place.invariant.names; semantics = c.loop-place.invariant.lead } in
-    let found : None ≡ found_in c.args.in_template a b k = sym c.in_default.is ∙ c.in_ok-fault.ensures b knows in
+    let found : None ≡ found_in c.args.scope c.args.in_template a b k = sym c.in_default.is ∙ c.in_ok-fault.ensures b knows in
     record {
       names = subst (λ bs. HasTexts c.meet_name.new.set (filter_map name_of bs)) (sym (taken_map own_of ks i k lt at)) (c.in_ok-is_repeat.ensures.has b (own_of k) refl c.loop-place.invariant.names);
       lead = c.first_semantics-lead.ensures ∙ lead_next ks i k (option_copied c.loop-place.lead) lt at c.loop-place.invariant.lead;
-      rest = none_in_child _ _ _ (step_to a i (own_of k)) (turn c.args.in_template a (found_among c.args.in_template a [] ks) ks i k lt at c.loop-place.invariant.rest) found;
+      rest = none_in_child _ _ _ (step_to a i (own_of k)) (turn c.args.scope c.args.in_template a (found_among c.args.scope c.args.in_template a [] ks) ks i k lt at c.loop-place.invariant.rest) found;
     }

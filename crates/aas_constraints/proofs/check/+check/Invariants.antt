@@ -10,5 +10,5 @@ abbrev pub invariant-check_among-loop-place : goal.invariant-check_among-loop-pl
 invariant-check_among-loop-place l = record {
   names : HasTexts l.names (filter_map name_of (map own_of (take l.place l.kid-items)));
   lead : option_copied l.lead ≡ first_some (map semantics_of (map own_of (take l.place l.kid-items)));
-  rest : found_among l.in_template (above_of l.above) [] l.kid-items ≡ found_among l.in_template (above_of l.above) (map own_of (take l.place l.kid-items)) (drop l.place l.kid-items);
+  rest : found_among l.scope l.in_template (above_of l.above) [] l.kid-items ≡ found_among l.scope l.in_template (above_of l.above) (map own_of (take l.place l.kid-items)) (drop l.place l.kid-items);
 }

@@ -1,4 +1,5 @@
-use Rattle.std.proofs.Common.{refl, [], ◌∷◌, arith}
+use Rattle.std.proofs.Common.{refl, subst, ℕ, [], ◌∷◌, arith}
+use Rattle.std.specs.List.{IsFirstAndRest}
 use Rattle.std.proofs.lemmas.Bool.Decides.{nat_tests}
 use Rattle.aas_command.specs.Commands.{IsWellFormed}
 use Rattle.aas_record.specs.Forms.{asset_information, concept, identifier, shell, submodel}
@@ -92,3 +93,17 @@ returns-in_err-shell-in-10 c =
 pub returns-in_err-last_field-in-10 : goal.returns-in_err-last_field-in-10
 returns-in_err-last_field-in-10 c = let first = c.in_ok-shell-in-10.ensures in
     wrong_second _ _ _ 10 _ _ c.in-Some.ensures.cases c.in-10.is c.from_residual-in_err-last_field-in-10.ensures _ _ _ identifier asset_information refl first.begins first.form refl c.in_err-last_field-in-10.ensures
+
+-- ---- the commands on elements
+
+pub insertion-requires : goal.insertion-requires
+insertion-requires c = subst (λ (t : ℕ). IsFirstAndRest c.args.payload.now t c.in-Some.fields.now) c.in-13.is c.in-Some.ensures.cases
+
+pub replacement-requires : goal.replacement-requires
+replacement-requires c = subst (λ (t : ℕ). IsFirstAndRest c.args.payload.now t c.in-Some.fields.now) c.in-14.is c.in-Some.ensures.cases
+
+pub deletion-requires : goal.deletion-requires
+deletion-requires c = subst (λ (t : ℕ). IsFirstAndRest c.args.payload.now t c.in-Some.fields.now) c.in-15.is c.in-Some.ensures.cases
+
+pub update-requires : goal.update-requires
+update-requires c = subst (λ (t : ℕ). IsFirstAndRest c.args.payload.now t c.in-Some.fields.now) c.in-16.is c.in-Some.ensures.cases

@@ -10,7 +10,7 @@ returns-in-Made-clause-plan g c =
     let k = c.args.keeper.now in
     plan_made (K.has_room k) (K.kept k) (K.room_behind k) (g.met.K.Keeper.room_by_payloads k) _ _
     c.args.command c.in-Ok.frame c.len.result c.room-has_room.result
-    c.in-Ok.ensures.payload c.len.ensures.value c.room-has_room.ensures.value c.in-Made.ensures.decision
+    c.in-Ok.ensures.payload c.len.ensures.value c.room-has_room.ensures.value c.in-Ok.ensures.fields c.in-Made.ensures.decision
 
 pub returns-in-Refused-clause-plan : goal.returns-in-Refused-clause-plan
 returns-in-Refused-clause-plan g c =
@@ -20,11 +20,11 @@ returns-in-Refused-clause-plan g c =
     c.args.command c.in-Ok.frame c.len.result c.room-has_room.result
     c.in-Refused.refusal c.in-Ok.ensures.payload c.len.ensures.value c.room-has_room.ensures.value c.in-Refused.ensures.decision
 
-pub returns-in-Refused-make-clause-plan : goal.returns-in-Refused-make-clause-plan
-returns-in-Refused-make-clause-plan g c =
+pub returns-in-Refused-change-clause-plan : goal.returns-in-Refused-change-clause-plan
+returns-in-Refused-change-clause-plan g c =
     let K = g.K.Keeper in
     let k = c.args.keeper.now in
     plan_refused_too_long (K.has_room k) (K.kept k) (K.room_behind k) (g.met.K.Keeper.room_by_payloads k) _ _
-    c.args.command c.in-Refused-make.refusal
+    c.args.command c.in-Refused-change.refusal
     (g.met.K.Keeper.room_limit k) (subst (IsFaultOf (payload_of c.args.command)) c.in-Err-TooLong.field-0-is c.in-Err-TooLong.ensures.payload)
-    c.in-Refused-make.ensures.decision
+    c.in-Refused-change.ensures.decision

@@ -1,7 +1,6 @@
-use Rattle.std.proofs.Common.{◌≡◌, ℕ, ◌<◌, ◌≤◌, List, decimal, Result, Ok, sym, ap, ◌∙◌, arith, rules}
+use Rattle.std.proofs.Common.{◌≡◌, decimal, Ok, sym, ap, ◌∙◌, arith, rules}
 use Rattle.std.specs.Str.{chars}
 use Rattle.std.proofs.lemmas.Str.{chars-IsAscii}
-use Rattle.aas_server.specs.CommandLine.{IsCount}
 use Rattle.aas_server.proofs.Words.{parsed}
 use Rattle.aas_server.proofs.command_line.count_of.Goals as goal
 use Rattle.aas_server.proofs.command_line.count_of.Goals.{then-count-eq0-via-then-count-eq0, then-count-eq0-via-else-count-eq0+then-count-gt-MOST_CONNECTIONS}

@@ -1,4 +1,4 @@
-use Rattle.std.proofs.Common.{◌≡◌, codes, refl, sym, ap, ◌∙◌}
+use Rattle.std.proofs.Common.{codes, refl, sym, ap, ◌∙◌}
 use Rattle.std.specs.Str.{chars}
 use Rattle.aas_server.proofs.Words.{lone_word}
 use Rattle.aas_server.proofs.command_line.lone.Goals as goal
@@ -10,3 +10,7 @@ returns-in-value c = lone_word c.args.word.now (codes "value") (sym c.as_str.ens
 pub returns-in-pipe : goal.returns-in-pipe
 unfolding chars
 returns-in-pipe c = lone_word c.args.word.now (codes "pipe") (sym c.as_str.ensures.characters ∙ ap chars c.in-pipe.is) refl
+
+pub returns-in-init : goal.returns-in-init
+unfolding chars
+returns-in-init c = lone_word c.args.word.now (codes "init") (sym c.as_str.ensures.characters ∙ ap chars c.in-init.is) refl

@@ -1,4 +1,4 @@
-use Rattle.std.proofs.Common.{◌≡◌, false, List, ℕ, [], ◌∷◌, codes, decimal, refl, sym, ap, ◌∙◌, rules}
+use Rattle.std.proofs.Common.{◌≡◌, false, [], ◌∷◌, codes, decimal, sym, ap, ◌∙◌, rules}
 use Rattle.std.specs.Str.{chars}
 use Rattle.aas_server.specs.CommandLine.{begins_with_dash}
 use Rattle.aas_server.proofs.Words.{no_options}

@@ -1,4 +1,4 @@
-use Rattle.std.proofs.Common.{◌≡◌, ◌≤◌, ◌∙◌, refl, inr, arith, rules}
+use Rattle.std.proofs.Common.{◌≡◌, ◌∙◌, refl, inr, arith, rules}
 use Rattle.std.specs.Io.KnownBytes.{append_known}
 use Rattle.aas_server.specs.Answer.{done, refused}
 use Rattle.aas_server.specs.Status.{exit_code}

@@ -15,7 +15,7 @@ pub returns-in-Ok : goal.returns-in-Ok
 returns-in-Ok g c =
     let within = is_within c.self.inside.entries c.self.invariant c.args.self.now c.self.view_is c.args.id.now c.in-Ok.place c.in-Ok.ensures in
     let at = slice_get_read c.self.inside.entries _ c.in-Ok.place c.index-as_slice-place.result refl within (rw c.as_slice.ensures at c.index-as_slice-place.is) in
-    ap (λ d. Some d) c.get.ensures ∙ ap (λ e. Some e.document) (sym c.index-as_slice-place.is)
+    ap (λ d. Some d) c.deref.ensures ∙ ap (λ e. Some e.document.value) (sym c.index-as_slice-place.is)
     ∙ sym (document_at c.self.inside.entries c.self.invariant c.args.self.now c.self.view_is c.args.id.now c.in-Ok.place c.index-as_slice-place.result c.in-Ok.ensures at)
 
 pub returns-in-Err : goal.returns-in-Err

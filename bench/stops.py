@@ -1,0 +1,362 @@
+#!/usr/bin/env python3
+"""Kills `aasd` at random moments, opens its files again, and compares what opens with what was acknowledged.
+
+The commands create, replace and delete small submodels, at random. They are sent to a run of `aasd pipe`, many at once, or of `aasd serve`, one after
+another, and the run is killed (signal 9) some time later, in its start, in a command or behind the last one. Every command that was answered must be
+there then, and at most one more. The next run goes on with the same files.
+
+Besides that, while a run has the folder, a second one must end with status 4 and change nothing. A journal that is cut off anywhere, or in which a byte
+is another, must be opened, or be found not initialised or damaged, with the right line, and stay as it is; where a record passes the end of the file,
+the place of its gate must be named.
+
+Nothing is built. Printed is how many of each were tried; the script ends with status 1 where one failed. What a power failure leaves of a disk isn't
+tried: that the system writes what it says it has written is trusted.
+"""
+import argparse
+import base64
+import os
+import random
+import re
+import select
+import socket
+import subprocess
+import sys
+import tempfile
+import time
+
+HERE = os.path.dirname(os.path.abspath(__file__))
+PROGRAM = os.path.join(HERE, '..', 'crates', 'aasd', 'out', 'aasd')
+FILES = ('aas.journal', 'aas.spare', 'aas.selector')
+HEADERS = (b'AASJ0001', b'AASJ0002')
+IDENTIFIERS = 12
+BATCH = 40
+LARGEST = 268_435_456
+# How long a reply, the start and the end of the program may take, in seconds.
+PATIENCE = 60
+
+
+class Wrong(Exception):
+    """Something isn't as it must be."""
+
+
+def identifier(number):
+    return f'urn:stops:{number}'
+
+
+def submodel(number, version):
+    """The canonical text of a small submodel."""
+    return f'{{"id":"{identifier(number)}","idShort":"V{version}","modelType":"Submodel"}}'
+
+
+def path(number):
+    return '/submodels/' + base64.urlsafe_b64encode(identifier(number).encode()).decode().rstrip('=')
+
+
+def request(line, body=''):
+    length = f'Content-Length: {len(body)}\r\n' if body else ''
+    return f'{line} HTTP/1.1\r\nHost: localhost\r\n{length}\r\n{body}'.encode()
+
+
+def reply(status, body=''):
+    fields = f'Content-Type: application/json\r\nContent-Length: {len(body)}\r\n' if body else ''
+    return f'HTTP/1.1 {status}\r\n{fields}\r\n{body}'.encode()
+
+
+def refusal(code, text):
+    return f'{{"messages":[{{"code":"{code}","messageType":"Error","text":"{text}"}}]}}'
+
+
+def commands(documents, version):
+    """Commands that a repository with these documents accepts, one after another: each with its reply and the documents after it."""
+    while True:
+        version += 1
+        documents = dict(documents)
+        number = random.randrange(IDENTIFIERS)
+        text = submodel(number, version)
+        if number not in documents:
+            call = request('POST /submodels', text), reply('201 Created', text)
+        elif random.random() < 0.6:
+            call = request('PUT ' + path(number), text), reply('204 No Content')
+        else:
+            call, text = (request('DELETE ' + path(number)), reply('204 No Content')), None
+        documents[number] = text
+        if text is None:
+            del documents[number]
+        yield (*call, documents)
+
+
+def questions(documents):
+    """A request for each submodel, and what they are answered together."""
+    replies = [reply('200 OK', documents[number]) if number in documents else reply('404 Not Found', refusal(13, 'not found: submodel'))
+               for number in range(IDENTIFIERS)]
+    return b''.join(request('GET ' + path(number)) for number in range(IDENTIFIERS)), b''.join(replies)
+
+
+class Folder:
+    """The program in a folder of its own."""
+
+    def __init__(self, program, folder):
+        self.program, self.folder = program, folder
+
+    def start(self, *words):
+        return subprocess.Popen([self.program, *words], cwd=self.folder, stdin=subprocess.PIPE, stdout=subprocess.PIPE, stderr=subprocess.PIPE)
+
+    def run(self, *words, given=b''):
+        """The status of a run, and what it writes."""
+        done = subprocess.run([self.program, *words], cwd=self.folder, input=given, stdout=subprocess.PIPE, stderr=subprocess.PIPE, timeout=PATIENCE,
+                              check=False)
+        if done.stderr:
+            raise Wrong(f'{words} writes to standard error: {done.stderr[:200]!r}')
+        return done.returncode, done.stdout
+
+    def expect(self, words, given, status, text):
+        got = self.run(*words, given=given)
+        if got != (status, text):
+            raise Wrong(f'{words}: got {got[0]}, {got[1][:300]!r}; wanted {status}, {text[:300]!r}')
+
+    def init(self):
+        self.expect(['init'], b'', 0, b'initialised\n')
+
+    def contents(self):
+        """What the three files hold, with `None` for one that isn't there."""
+        return [self.content(name) for name in FILES]
+
+    def content(self, name):
+        try:
+            with open(os.path.join(self.folder, name), 'rb') as file:
+                return file.read()
+        except FileNotFoundError:
+            return None
+
+    def write(self, journal):
+        with open(os.path.join(self.folder, FILES[0]), 'wb') as file:
+            file.write(journal)
+
+
+def answered(got, calls):
+    """How many of the calls were answered. What is behind their replies is the front of the next one."""
+    count = 0
+    for _, wanted, _ in calls:
+        if not got.startswith(wanted):
+            if not wanted.startswith(got):
+                raise Wrong(f'got {got[:300]!r}; wanted {wanted[:300]!r}')
+            return count
+        got, count = got[len(wanted):], count + 1
+    if got:
+        raise Wrong(f'got {got[:300]!r} behind the last reply')
+    return count
+
+
+def kill_pipe(folder, calls, seconds):
+    """Sends the calls to `pipe` at once and kills it so many seconds later."""
+    run = folder.start('pipe')
+    try:
+        os.write(run.stdin.fileno(), b''.join(call for call, _, _ in calls))
+        time.sleep(seconds)
+    finally:
+        run.kill()
+    # What it wrote is still in the pipe.
+    return answered(run.communicate(timeout=PATIENCE)[0], calls)
+
+
+def free_port():
+    with socket.socket() as chosen:
+        chosen.bind(('127.0.0.1', 0))
+        return chosen.getsockname()[1]
+
+
+def connect(port, run):
+    begun = time.monotonic()
+    while time.monotonic() - begun < PATIENCE and run.poll() is None:
+        try:
+            return socket.create_connection(('127.0.0.1', port), timeout=PATIENCE)
+        except ConnectionRefusedError:
+            time.sleep(0.001)
+    raise Wrong(f'serve: no connection; status {run.poll()}')
+
+
+def kill_serve(folder, calls, seconds):
+    """Sends the calls to `serve` one after another and kills it so many seconds after the first."""
+    port = free_port()
+    run = folder.start('serve', f'127.0.0.1:{port}', '1000')
+    try:
+        with connect(port, run) as link:
+            end = time.monotonic() + seconds
+            return sum(1 for call in calls if is_answered(link, call, end, run))
+    finally:
+        run.kill()
+        run.communicate(timeout=PATIENCE)
+
+
+def is_answered(link, call, end, run):
+    """Sends a call and awaits its reply. At the end of the time the run is killed; what it gave before is still taken."""
+    sent, wanted, _ = call
+    if run.poll() is not None:
+        return False
+    link.sendall(sent)
+    got, killed = b'', False
+    while len(got) < len(wanted):
+        left = end - time.monotonic()
+        if left <= 0 and not killed:
+            run.kill()
+            run.wait(PATIENCE)
+            killed = True
+        ready, _, _ = select.select([link], [], [], PATIENCE if killed else left)
+        if not ready and not killed:
+            continue
+        try:
+            piece = link.recv(1 << 16)
+        except ConnectionResetError:
+            piece = b''
+        if not piece:
+            break
+        got += piece
+    if not wanted.startswith(got):
+        raise Wrong(f'serve: got {got[:300]!r}; wanted {wanted[:300]!r}')
+    return got == wanted
+
+
+def opens_as(folder, before, calls, count):
+    """The documents that the files open as: those after so many calls, or after one more."""
+    possible = [before] + [documents for _, _, documents in calls]
+    got = None
+    for documents in possible[count:count + 2]:
+        given, wanted = questions(documents)
+        got = got or folder.run('pipe', given=given)
+        if got == (0, wanted):
+            return documents
+    raise Wrong(f'{count} commands were answered; then the files open with status {got[0]}, {got[1][:400]!r}')
+
+
+def stops(program, where, kills):
+    """Kills the program so many times, and says what came of it."""
+    documents, version, told, more, seconds = {}, 0, 0, 0, {kill_pipe: 0.05, kill_serve: 0.05}
+    with tempfile.TemporaryDirectory(dir=where) as name:
+        folder = Folder(program, name)
+        folder.init()
+        for turn in range(kills):
+            kill = (kill_pipe, kill_serve)[turn % 2]
+            calls = [call for call, _ in zip(commands(documents, version), range(BATCH))]
+            version += BATCH
+            count = kill(folder, calls, random.random() * seconds[kill])
+            after = opens_as(folder, documents, calls, count)
+            told += count
+            more += after is not ([documents] + [call[2] for call in calls])[count]
+            # The time is such that about half of a batch is done on average.
+            seconds[kill] *= 1.1 if count < BATCH // 2 else 0.9
+            documents = after
+        size = len(folder.content(FILES[0]))
+    print(f'{kills} kills: {told} commands were answered and found; {more} times one more was found; the journal has {size} bytes')
+
+
+def second_program(program, where):
+    """While a run has the folder, others end with status 4 and change nothing."""
+    with tempfile.TemporaryDirectory(dir=where) as name:
+        folder = Folder(program, name)
+        folder.init()
+        calls = [call for call, _ in zip(commands({}, 0), range(2))]
+        run = folder.start('pipe')
+        try:
+            exchange(run, calls[0])
+            before = folder.contents()
+            for words in (['pipe'], ['init'], ['serve', f'127.0.0.1:{free_port()}', '1']):
+                folder.expect(words, calls[1][0], 4, b'aasd: disk fault\n')
+            if folder.contents() != before:
+                raise Wrong('a second program changed the files')
+            exchange(run, calls[1])
+            run.stdin.close()
+            if run.wait(PATIENCE) != 0:
+                raise Wrong(f'the first program ended with status {run.returncode}')
+        finally:
+            run.kill()
+            run.wait(PATIENCE)
+        given, wanted = questions(calls[1][2])
+        folder.expect(['pipe'], given, 0, wanted)
+    print('second programs in the folder: 3, each with status 4')
+
+
+def exchange(run, call):
+    sent, wanted, _ = call
+    os.write(run.stdin.fileno(), sent)
+    got = b''
+    while len(got) < len(wanted):
+        ready, _, _ = select.select([run.stdout], [], [], PATIENCE)
+        piece = os.read(run.stdout.fileno(), len(wanted)) if ready else b''
+        if not piece:
+            break
+        got += piece
+    if got != wanted:
+        raise Wrong(f'got {got[:300]!r}; wanted {wanted[:300]!r}')
+
+
+def gates(journal):
+    """The places of the open gates, and that of the one whose record passes the end, or `None`."""
+    found, at = [], 8
+    while at < len(journal) and journal[at] == 1:
+        found.append(at)
+        following = at + 5 + int.from_bytes(journal[at + 1:at + 5], 'big')
+        if following >= len(journal):
+            return found, at
+        at = following
+    return found, None
+
+
+def opened(folder, journal):
+    """The status with which a journal is opened, which must be one that it can have."""
+    folder.write(journal)
+    before = folder.contents()
+    status, text = folder.run('pipe')
+    if folder.contents()[0] != before[0]:
+        raise Wrong('opening changed the journal')
+    if len(journal) < 9 or journal[:8] not in HEADERS:
+        right = (status, text) == (5, b'aasd: not initialised\n')
+    else:
+        found, past = gates(journal)
+        place = re.fullmatch(rb'aasd: damaged at (0|[1-9][0-9]*)\n', text)
+        damaged = status == 6 and place is not None and int(place[1]) in (found if past is None else [past])
+        right = damaged or past is None and (status, text) == (0, b'')
+    if not right:
+        raise Wrong(f'a journal of {len(journal)} bytes, {journal[:200]!r}: got {status}, {text[:200]!r}')
+    return status
+
+
+def hostile(program, where):
+    """Journals that are cut off, of which a byte is another, or which are full of ones."""
+    counts = {0: 0, 5: 0, 6: 0}
+    with tempfile.TemporaryDirectory(dir=where) as name:
+        folder = Folder(program, name)
+        folder.init()
+        calls = [call for call, _ in zip(commands({}, 0), range(5))]
+        folder.expect(['pipe'], b''.join(call[0] for call in calls), 0, b''.join(call[1] for call in calls))
+        journal = folder.content(FILES[0])
+        tried = [journal[:length] for length in range(len(journal) + 1)]
+        for place, byte in enumerate(journal):
+            tried += [journal[:place] + bytes([other]) + journal[place + 1:] for other in sorted({0, 1, byte ^ 1, 255} - {byte})]
+        tried.append(bytes([1]) * LARGEST)
+        tried.append(HEADERS[1] + bytes([1]) * (LARGEST - len(HEADERS[1])))
+        for other in tried:
+            counts[opened(folder, other)] += 1
+    print(f'{sum(counts.values())} journals: ' + ', '.join(f'{count} with status {status}' for status, count in counts.items()))
+
+
+def main():
+    parser = argparse.ArgumentParser(description=__doc__, formatter_class=argparse.RawDescriptionHelpFormatter)
+    parser.add_argument('--program', default=PROGRAM, help='the program (as the script aasd has built it)')
+    parser.add_argument('--kills', type=int, default=300, help='how many times it is killed (300)')
+    parser.add_argument('--folder', help='where the folders are made (the system\'s temporary folder)')
+    parser.add_argument('--seed', type=int, help='of the random numbers; it is printed')
+    options = parser.parse_args()
+    program = os.path.abspath(options.program)
+    seed = random.randrange(1 << 32) if options.seed is None else options.seed
+    random.seed(seed)
+    print(f'seed {seed}')
+    try:
+        second_program(program, options.folder)
+        stops(program, options.folder, options.kills)
+        hostile(program, options.folder)
+    except (Wrong, subprocess.TimeoutExpired) as fault:
+        sys.exit(f'wrong: {fault}')
+
+
+if __name__ == '__main__':
+    main()

@@ -1,0 +1,45 @@
+//! What inserting, replacing and removing an element leaves of a submodel: it stays whole, so that it can be written and
+//! stored; it keeps its own attributes, and so its identifier; and other paths lead where they led. It has nothing to run:
+//! a law stands on a function that does nothing.
+
+#![tactic(auto)]
+
+ghost use Rattle.std.specs.Prelude.{List};
+ghost use Rattle.aas_model.specs.declared.documents.Submodel.{Submodel};
+ghost use Rattle.aas_model.specs.declared.element.Element.{Element};
+ghost use Rattle.aas_model.specs.declared.path.PathStep.{PathStep};
+ghost use Rattle.aas_path_trees.specs.Edits.{inserted, replaced, removed};
+ghost use Rattle.aas_path_trees.specs.WithElement.{with_element};
+ghost use Rattle.aas_edit_laws.specs.Laws.{InsertKeepsWhole, ReplaceKeepsWhole, RemoveKeepsWhole, HasAttributesOf};
+ghost use Rattle.aas_edit_laws.specs.Others.{InsertLeavesOthers, ReplaceLeavesOthers, RemoveLeavesOthers};
+
+/// A whole submodel stays whole where an element is inserted that is whole at the level at which it comes to stand.
+pub fn inserting_keeps_whole()
+    ensures { InsertKeepsWhole }
+{}
+
+/// A whole submodel stays whole where an element is replaced by one that is whole at its level, and that fits its role.
+pub fn replacing_keeps_whole()
+    ensures { ReplaceKeepsWhole }
+{}
+
+/// A whole submodel stays whole where an element is removed.
+pub fn removing_keeps_whole()
+    ensures { RemoveKeepsWhole }
+{}
+
+/// No edit changes an attribute of the submodel itself, and so not its identifier; nor does a changed element.
+pub fn edits_keep_attributes()
+    ensures inserted { (d : Submodel) (p : List PathStep) (e : Element) → HasAttributesOf d (inserted d p e) }
+    ensures replaced { (d : Submodel) (p : List PathStep) (e : Element) → HasAttributesOf d (replaced d p e) }
+    ensures removed { (d : Submodel) (p : List PathStep) → HasAttributesOf d (removed d p) }
+    ensures changed { (d : Submodel) (p : List PathStep) (e : Element) → HasAttributesOf d (with_element d p e) }
+{}
+
+/// Where two paths part, an edit at one changes nothing at the other: it leads to the element that it led to, and nowhere
+/// where it led nowhere. Behind an element that is taken out of a list the places move up.
+pub fn edits_leave_others()
+    ensures inserted { InsertLeavesOthers }
+    ensures replaced { ReplaceLeavesOthers }
+    ensures removed { RemoveLeavesOthers }
+{}

@@ -1,0 +1,122 @@
+// The disk of an example. Its columns are `NAME=VALUE`, with tabs between them:
+//
+// - `files`: what the three files hold before the run. Without it, what `init` leaves. `empty`: nothing. `left`: what the example before left.
+//   `old`, `new`, `ones`: what such a crash leaves after the example before; then several examples may begin with what the same one left.
+// - `main`, `spare`, `selector`: what this file holds, in hexadecimal.
+// - `fails`: the numbers of the disk's calls that fail, with commas between them. `stop`: that of the call from which on all fail.
+// - `leaves`: what the main file holds after the run, in hexadecimal.
+use crate::not_run::NotRun;
+use aas_model::NoMemory;
+use aas_outside_disk::{Crash, MemDisk, Part};
+use std::alloc::Global;
+
+/// The most bytes that a file holds.
+const CAPACITY: usize = 65_536;
+
+/// What a column may be named.
+const NAMES: [&str; 7] = [
+    "files", "main", "spare", "selector", "fails", "stop", "leaves",
+];
+
+/// Whether each column has one of the names.
+pub(crate) fn are_columns(columns: &str) -> bool {
+    columns.is_empty() || columns.split('\t').all(is_column)
+}
+
+fn is_column(column: &str) -> bool {
+    match column.split_once('=') {
+        Some((name, _)) => NAMES.iter().any(|known| *known == name),
+        None => false,
+    }
+}
+
+/// A disk with what `init` leaves.
+pub(crate) fn initialised(alloc: Global) -> Result<MemDisk, NoMemory> {
+    holding(alloc, b"AASJ0002\0")
+}
+
+/// A disk with this main file alone.
+fn holding(alloc: Global, main: &[u8]) -> Result<MemDisk, NoMemory> {
+    MemDisk::new(alloc, main, b"", b"", CAPACITY, &[], 0)
+}
+
+/// The disk with which the run begins, behind an example that left another.
+pub(crate) fn beginning(alloc: Global, columns: &str, left: &MemDisk) -> Result<MemDisk, NotRun> {
+    let files = files(alloc, columns, left)?;
+    disk_over(alloc, columns, &files)
+}
+
+/// A disk with these files, but for those that the columns give.
+fn disk_over(alloc: Global, columns: &str, files: &MemDisk) -> Result<MemDisk, NotRun> {
+    let stop = number(column(columns, "stop").unwrap_or("0"))?;
+    let fails = fails(alloc, columns)?;
+    let main = file(alloc, columns, "main", files.contents(Part::Main))?;
+    let spare = file(alloc, columns, "spare", files.contents(Part::Spare))?;
+    let selector = file(alloc, columns, "selector", files.contents(Part::Selector))?;
+    Ok(MemDisk::new(alloc, &main, &spare, &selector, CAPACITY, &fails, stop)?)
+}
+
+/// Whether examples behind this one begin with what the one before it left.
+pub(crate) fn is_after_crash(columns: &str) -> bool {
+    matches!(column(columns, "files"), Some("old" | "new" | "ones"))
+}
+
+/// What the main file holds, in hexadecimal, where that isn't what is expected.
+pub(crate) fn unexpected(
+    alloc: Global,
+    columns: &str,
+    disk: &MemDisk,
+) -> Result<Option<String>, NotRun> {
+    let main = disk.contents(Part::Main);
+    let expected = file(alloc, columns, "leaves", main)?;
+    if *expected == *main {
+        return Ok(None);
+    }
+    Ok(Some(hex::encode(alloc, main)?))
+}
+
+/// The files, without those that other columns give.
+fn files(alloc: Global, columns: &str, left: &MemDisk) -> Result<MemDisk, NotRun> {
+    match column(columns, "files") {
+        None => Ok(initialised(alloc)?),
+        Some("empty") => Ok(holding(alloc, b"")?),
+        Some("old") => Ok(left.crash(alloc, Crash::Old)?),
+        Some("new" | "left") => Ok(left.crash(alloc, Crash::New)?),
+        Some("ones") => Ok(left.crash(alloc, Crash::Ones)?),
+        Some(_) => Err(NotRun::Unreadable),
+    }
+}
+
+/// What a column spells in hexadecimal, or what stands there without it.
+fn file(alloc: Global, columns: &str, name: &str, otherwise: &[u8]) -> Result<Vec<u8>, NotRun> {
+    match column(columns, name) {
+        Some(text) => Ok(hex::decode(alloc, text)?),
+        None => Ok(otherwise.to_vec(alloc)?),
+    }
+}
+
+fn fails(alloc: Global, columns: &str) -> Result<Vec<u64>, NotRun> {
+    let mut fails = Vec::new(alloc);
+    if let Some(numbers) = column(columns, "fails") {
+        for text in numbers.split(',') {
+            fails.push(number(text)?)?;
+        }
+    }
+    Ok(fails)
+}
+
+fn number(text: &str) -> Result<u64, NotRun> {
+    text.parse().map_err(|_| NotRun::Unreadable)
+}
+
+/// What a column says, where it is there.
+fn column<'a>(columns: &'a str, name: &str) -> Option<&'a str> {
+    for column in columns.split('\t') {
+        if let Some((found, value)) = column.split_once('=') {
+            if found == name {
+                return Some(value);
+            }
+        }
+    }
+    None
+}

@@ -1,0 +1,6 @@
+pub mod InPlace
+pub mod Keys
+pub mod NotFound
+pub mod Orders
+pub mod Places
+pub mod Stripped

@@ -1,0 +1,151 @@
+// How the payloads of a journal are replayed in a store.
+ghost use Rattle.std.specs.Prelude.{◌≡◌, ◌≢◌, ◌<◌, ◌≤◌, ◌⊎◌, List, ℕ, true, Err, Ok};
+ghost use Rattle.std.specs.Prelude.{IfOk, IfSome, IsErrAnd, MatchBool, MatchResult};
+ghost use Rattle.aas_command.specs.Commands.{IsWellFormed};
+ghost use Rattle.aas_journal.specs.Image.{gate_of};
+ghost use Rattle.aas_journal.specs.Reads.{OnlyReads};
+ghost use Rattle.aas_journal.specs.Shown.{disk_of};
+ghost use Rattle.aas_journal.specs.declared.fault.OpenFault.TheVariants.{Damaged, Failed, NoMemory as OutOfMemory, NotInitialised};
+ghost use Rattle.aas_outside.specs.Faults.{Rose};
+ghost use Rattle.aas_record.specs.Records.{IsRecord};
+ghost use Rattle.aas_step.specs.Valid.{AreValid};
+ghost use Rattle.aas_store.specs.Documents.{Documents, empty};
+ghost use Rattle.aas_repo_replay.specs.Replay.{Adds, AddsNothing, Replays, StopsAt};
+ghost use Rattle.aas_repo_replay.specs.Replaying.{HasDone, HasDoneNext, IsReplayFault};
+
+use crate::laws::payloads_stop_at_one_place;
+use aas_command::Command;
+use aas_journal::{Journal, OpenFault};
+use aas_model::NoMemory;
+use aas_outside::Keeper;
+use aas_outside_disk::Disk;
+use aas_record::{RecordFault, decode, records_are_of_one_command, records_are_right};
+use aas_repo::{Decision, change};
+use aas_step::{commands_come_to_one_result, no_documents_are_valid};
+use aas_store::Store;
+use std::alloc::Global;
+
+/// The place of the first gate of a journal, in bytes from the front of its file.
+const FIRST_GATE: u64 = 8;
+
+/// Makes the documents of a journal's commands in an empty store. This profile's own rule.
+///
+/// # Errors
+///
+/// `Damaged` with the place of the gate of the first payload that is that of no command, or of one that is refused; `Failed`,
+/// where the disk's count of faults rises too; `NoMemory`. The store then has the documents of the commands before it.
+/// `NotInitialised` never comes.
+pub fn replay<S: Store, D: Disk>(
+    alloc: Global,
+    store: &mut S,
+    journal: &mut Journal<D>,
+) -> Result<(), OpenFault>
+    requires empty { S.documents store.old ≡ empty }
+
+    // Where the disk tells its files, the journal keeps some payloads, as one that was opened does.
+    requires told { IfSome (D.seen (disk_of journal.old)) (λ _. (payloads : List (List ℕ)) ×
+        ⟦<Journal<D> as Keeper>⟧.kept journal.old payloads) }
+
+    ensures replayed { (payloads : List (List ℕ)) → ⟦<Journal<D> as Keeper>⟧.kept journal.old payloads →
+        MatchResult result (λ _. Replays payloads (S.documents store.new))
+        (λ fault. IsReplayFault payloads fault (S.documents store.new)) }
+    ensures damaged { (payloads : List (List ℕ)) (n : ℕ) (d : Documents) →
+        ⟦<Journal<D> as Keeper>⟧.kept journal.old payloads → StopsAt payloads n d →
+        IsErrAnd result (λ fault. (fault ≡ Damaged (gate_of payloads n)) ⊎ (fault ≡ Failed) ⊎ (fault ≡ OutOfMemory)) }
+    ensures initialised { result ≢ Err NotInitialised }
+    ensures valid { AreValid (S.documents store.new) }
+
+    ensures failed { result ≡ Err Failed → Rose (D.faults (disk_of journal.old)) (D.faults (disk_of journal.new)) }
+    ensures later { D.faults (disk_of journal.old) ≤ D.faults (disk_of journal.new) }
+    ensures reads { OnlyReads D.seen D.moment D.left_at (disk_of journal.old) (disk_of journal.new) }
+    ensures kept { (payloads : List (List ℕ)) → ⟦<Journal<D> as Keeper>⟧.kept journal.old payloads →
+        ⟦<Journal<D> as Keeper>⟧.kept journal.new payloads }
+    ensures room { ⟦<Journal<D> as Keeper>⟧.has_room journal.new ≡ ⟦<Journal<D> as Keeper>⟧.has_room journal.old }
+    ensures room_behind { ⟦<Journal<D> as Keeper>⟧.room_behind journal.new
+        ≡ ⟦<Journal<D> as Keeper>⟧.room_behind journal.old }
+{
+    no_documents_are_valid();
+    payloads_stop_at_one_place();
+    let mut payload = Vec::new(alloc);
+    let mut gate = FIRST_GATE;
+    'gates: while let Some(next) = add_at(alloc, store, journal, gate, &mut payload)? {
+        gate = next;
+    }
+    Ok(())
+}
+
+/// Adds the payload behind the gate at this place, and answers the place of the next gate, or `None` at the closed one. The
+/// vector is used to read the payload.
+fn add_at<S: Store, D: Disk>(
+    alloc: Global,
+    store: &mut S,
+    journal: &mut Journal<D>,
+    gate: u64,
+    payload: &mut Vec<u8>,
+) -> Result<Option<u64>, OpenFault>
+    requires valid { AreValid (S.documents store.old) }
+    requires told { IfSome (D.seen (disk_of journal.old)) (λ _. (payloads : List (List ℕ)) ×
+        ⟦<Journal<D> as Keeper>⟧.kept journal.old payloads × HasDone payloads gate (S.documents store.old)) }
+    ensures done { (payloads : List (List ℕ)) → ⟦<Journal<D> as Keeper>⟧.kept journal.old payloads →
+        HasDone payloads gate (S.documents store.old) →
+        MatchResult result (HasDoneNext payloads (S.documents store.new))
+        (λ fault. IsReplayFault payloads fault (S.documents store.new)) }
+    ensures on { IfOk result (λ next. IfSome next (λ place. gate < place)) }
+    ensures initialised { result ≢ Err NotInitialised }
+    ensures valid { AreValid (S.documents store.new) }
+    ensures failed { result ≡ Err Failed → Rose (D.faults (disk_of journal.old)) (D.faults (disk_of journal.new)) }
+    ensures later { D.faults (disk_of journal.old) ≤ D.faults (disk_of journal.new) }
+    ensures reads { OnlyReads D.seen D.moment D.left_at (disk_of journal.old) (disk_of journal.new) }
+    ensures kept { (payloads : List (List ℕ)) → ⟦<Journal<D> as Keeper>⟧.kept journal.old payloads →
+        ⟦<Journal<D> as Keeper>⟧.kept journal.new payloads }
+    ensures room { ⟦<Journal<D> as Keeper>⟧.has_room journal.new ≡ ⟦<Journal<D> as Keeper>⟧.has_room journal.old }
+{
+    payload.clear();
+    let Some(next) = journal.payload_at(gate, payload)? else {
+        return Ok(None);
+    };
+    match add(alloc, store, payload.as_slice()) {
+        Ok(true) => Ok(Some(next)),
+        Ok(false) => Err(OpenFault::Damaged { at: gate }),
+        Err(NoMemory) => Err(OpenFault::NoMemory),
+    }
+}
+
+/// Adds a payload to the documents of a store, and answers whether it adds something.
+fn add<S: Store>(alloc: Global, store: &mut S, payload: &[u8]) -> Result<bool, NoMemory>
+    requires valid { AreValid (S.documents store.old) }
+    ensures added { IfOk result (λ adds. MatchBool adds
+        (Adds (S.documents store.old) payload.now (S.documents store.new))
+        (AddsNothing (S.documents store.old) payload.now)) }
+    ensures unchanged { result ≢ Ok true → S.documents store.new ≡ S.documents store.old }
+    ensures valid { AreValid (S.documents store.new) }
+{
+    records_are_right();
+    match decode(alloc, payload) {
+        Ok(command) => add_command(alloc, store, command),
+        Err(RecordFault::NotARecord { .. }) => Ok(false),
+        Err(RecordFault::NoMemory) => Err(NoMemory),
+    }
+}
+
+/// Makes what a command makes, and answers whether it is accepted.
+fn add_command<S: Store>(alloc: Global, store: &mut S, command: Command) -> Result<bool, NoMemory>
+    requires valid { AreValid (S.documents store.old) }
+    requires well_formed { IsWellFormed command }
+    ensures added { (payload : List ℕ) → IsRecord payload command → IfOk result (λ adds. MatchBool adds
+        (Adds (S.documents store.old) payload (S.documents store.new))
+        (AddsNothing (S.documents store.old) payload)) }
+    ensures unchanged { result ≢ Ok true → S.documents store.new ≡ S.documents store.old }
+    ensures valid { AreValid (S.documents store.new) }
+{
+    records_are_of_one_command();
+    commands_come_to_one_result();
+    match change(alloc, store, command, true) {
+        Decision::Made => Ok(true),
+        Decision::Refused(refusal) => {
+            drop(refusal);
+            Ok(false)
+        }
+        Decision::NoMemory => Err(NoMemory),
+    }
+}

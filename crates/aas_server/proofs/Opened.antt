@@ -1,0 +1,148 @@
+-- What serving the repository that was opened on a disk comes to.
+use Rattle.std.proofs.Common.{◌≡◌, ◌≤◌, ℕ, List, [], ◌∷◌, Option, Some, refl, sym, subst, ◌∙◌, inl, inr, arith, lit<}
+use Rattle.std.specs.Prelude.{Contains, IfSome}
+use Rattle.std.proofs.lemmas.Option.{IfSome_then}
+use Rattle.aas_journal.specs.Bank.{IsBankImage}
+use Rattle.aas_journal.specs.Kept.{has_room_behind}
+use Rattle.aas_journal.specs.Laws.{HaveOneList}
+use Rattle.aas_outside.specs.Faults.{Rose}
+use Rattle.aas_outside.specs.Moments.{Passes}
+use Rattle.aas_outside.specs.Surroundings.{Connections, sent_on_all}
+use Rattle.aas_outside_disk.specs.Disk.{AddsNone, Meanwhile}
+use Rattle.aas_outside_disk.specs.Files.{Files}
+use Rattle.aas_repo_replay.specs.Laws.{OneReplay}
+use Rattle.aas_rule.specs.Rule.{Repository}
+use Rattle.aas_rule.specs.State.{State, IsSettledState, repository_of}
+use Rattle.aas_session.specs.Connections.{ServesAll}
+use Rattle.aas_session.specs.Served.{Served}
+use Rattle.aas_session.specs.declared.connection.Ended.{Ended}
+use Rattle.aas_session.specs.declared.connection.Ended.TheVariants as ended
+use Rattle.aas_session.specs.declared.wire.WireEnded.{WireEnded}
+use Rattle.aas_session.specs.declared.wire.WireEnded.TheVariants as wire
+use Rattle.aas_step.specs.Valid.{AreValid}
+use Rattle.aas_store.specs.Documents.{Documents}
+use Rattle.aas_api_service.specs.Turns.{Turns}
+use Rattle.aas_server.specs.Ends.{ConsoleState, DiskState, WireState}
+use Rattle.aas_server.specs.OnDisk.{StandsFor, state_on}
+use Rattle.aas_server.specs.Opening.{HasBegun, Opens, OpensAs, begun}
+use Rattle.aas_server.specs.Pipe.{IsConsoleServed, IsPiped, pipe_status}
+use Rattle.aas_server.specs.Serve.{IsServed, IsWireServed, serve_status}
+use Rattle.aas_server.proofs.OneWay.{same_repository}
+use Rattle.aas_server.proofs.Since.{all_since, served_since}
+
+-- the files open as the repository of this state, which is settled
+abbrev pub IsOpened : State Documents Files → Files → Type 0
+IsOpened state files = (payloads : List (List ℕ)) × Opens files (begun (repository_of state payloads)) × IsSettledState IsBankImage state payloads
+
+pub has_begun : (start : DiskState) (state : State Documents Files) → IfSome start.seen (IsOpened state) → HasBegun start
+has_begun start state opened = IfSome_then start.seen opened (λ files is. (repository_of state is.0, is.1))
+
+-- the disk at the start and at the end, what the journal held when it was opened, and the documents at the end
+module _ (one_list : HaveOneList) (one_replay : OneReplay) (start last : DiskState) (opened : State Documents Files) (d : Documents)
+    (kept : List (List ℕ) → Type 0)
+    (told : (payloads : List (List ℕ)) → kept payloads → (files : Files) × (last.seen ≡ Some files) × IsBankImage files payloads)
+    (is_opened : IfSome start.seen (IsOpened opened)) (read : Passes start.moment start.left_at opened.moment opened.left_at)
+    (images : Meanwhile start.moment opened.moment start.left_at opened.left_at AddsNone)
+    (passed : Passes opened.moment opened.left_at last.moment last.left_at) (valid : AreValid d) where
+  abbrev now : State Documents Files
+  now = record { documents = d; kept = kept; moment = last.moment; left_at = last.left_at }
+
+  -- ---- what is served, told from the opening on
+
+  abbrev Session : Repository Documents → List ℕ → Ended → ConsoleState → ConsoleState → Type 0
+  Session r input end old new =
+      Served (Turns has_room_behind) IsBankImage r input opened.moment now old.sent new.sent (Rose old.faults new.faults) end
+
+  abbrev ServesConsole : Ended → ConsoleState → ConsoleState → Type 0
+  ServesConsole end old new = (input : List ℕ) (records : List (List ℕ)) → old.left ≡ Some input → IsSettledState IsBankImage opened records
+      → Session (repository_of opened records) input end old new
+
+  abbrev Sessions : Repository Documents → Connections → List ℕ → ℕ → WireEnded → WireState → WireState → Type 0
+  Sessions r c sent count end old new =
+      ServesAll (Turns has_room_behind) IsBankImage r c.coming (sent_on_all c sent) count opened.moment now
+      new.connections new.sent (Rose old.faults new.faults) end
+
+  abbrev ServesWire : ℕ → WireEnded → WireState → WireState → Type 0
+  ServesWire count end old new = (c : Connections) (sent : List ℕ) (records : List (List ℕ)) → old.connections ≡ Some c → old.sent ≡ Some sent
+      → IsSettledState IsBankImage opened records → Sessions (repository_of opened records) c sent count end old new
+
+  -- ---- from the start on
+
+  module _ (r : Repository Documents) (opens : OpensAs start r) where
+    here : IsOpened opened opens.0
+    here = subst (λ (seen : Option Files). IfSome seen (IsOpened opened)) opens.1 is_opened
+
+    same : repository_of opened here.0 ≡ r
+    same = same_repository one_list one_replay opens.0 (repository_of opened here.0) r here.1 opens.2
+
+    weaker : (image : Files) (payloads : List (List ℕ)) → IsBankImage image payloads → StandsFor start r.records image payloads
+    weaker image payloads is = inl is
+
+    before : (t : ℕ) → start.moment ≤ t → t ≤ opened.moment → (image : Files) → last.left_at t image → StandsFor start r.records image r.records
+    before t since until image left = inr (refl, images t since until image ((passed.past t until image).0 left))
+
+    piped : (end : Ended) (old new : ConsoleState) → ServesConsole end old new → (input : List ℕ) → old.left ≡ Some input
+        → IsPiped end input r old new start last
+    piped end old new serves input left = record {
+      documents = d;
+      served = served_since (Turns has_room_behind) IsBankImage (StandsFor start r.records) weaker d last.moment last.left_at kept _ told
+          start.moment opened.moment r read.later before input old.sent new.sent (Rose old.faults new.faults) end
+          (subst (λ (x : Repository Documents). Session x input end old new) same (serves input here.0 left here.2));
+      valid = valid;
+    }
+
+    served : (count : ℕ) (end : WireEnded) (old new : WireState) → ServesWire count end old new → (c : Connections) (sent : List ℕ)
+        → old.connections ≡ Some c → old.sent ≡ Some sent → IsServed count end c sent r old new start last
+    served count end old new serves c sent known known_sent = record {
+      documents = d;
+      served = all_since (Turns has_room_behind) IsBankImage (StandsFor start r.records) weaker d last.moment last.left_at kept _ told
+          start.moment opened.moment r read.later before c.coming (sent_on_all c sent) count new.connections new.sent
+          (Rose old.faults new.faults) end
+          (subst (λ (x : Repository Documents). Sessions x c sent count end old new) same (serves c sent here.0 known known_sent here.2));
+      valid = valid;
+    }
+
+  pub console_served : (status : ℕ) (end : Ended) (old new : ConsoleState) → status ≡ pipe_status end → ServesConsole end old new
+      → (end ≡ ended.LinkFault → Rose old.faults new.faults) → (end ≡ ended.KeeperFault → Rose start.faults last.faults)
+      → IsConsoleServed status old new start last
+  console_served status end old new is serves link_fault keeper_fault = record {
+    ended = end;
+    status_is = is;
+    has_begun = has_begun start opened is_opened;
+    piped = λ input r left opens. piped r opens end old new serves input left;
+    link_fault = link_fault;
+    keeper_fault = keeper_fault;
+  }
+
+  -- the wire served is as it was before it listened
+  pub wire_served : (count status : ℕ) (end : WireEnded) (old mid new : WireState) → mid.connections ≡ old.connections → mid.sent ≡ old.sent
+      → mid.faults ≡ old.faults → old.wire_faults ≤ mid.wire_faults → status ≡ serve_status end → ServesWire count end mid new
+      → (end ≡ wire.WireFault → Rose mid.wire_faults new.wire_faults) → (end ≡ wire.KeeperFault → Rose start.faults last.faults)
+      → IsWireServed count status old new start last
+  wire_served count status end old mid new connections sent faults later is serves wire_fault keeper_fault = record {
+    ended = end;
+    status_is = is;
+    has_begun = has_begun start opened is_opened;
+    served = λ c bytes r known known_sent opens.
+        let s = served r opens count end mid new serves c bytes (connections ∙ known) (sent ∙ known_sent) in record {
+          documents = s.documents;
+          served = subst (λ (n : ℕ). ServesAll (Turns has_room_behind) (StandsFor start r.records) r c.coming (sent_on_all c bytes) count
+              start.moment (state_on last s.documents) new.connections new.sent (Rose n new.faults) end) faults s.served;
+          valid = s.valid;
+        };
+    wire_fault = λ failed. omega (arith, later, wire_fault failed);
+    keeper_fault = keeper_fault;
+  }
+
+-- ---- statuses
+
+pub pipe_statuses : (e : Ended) (status : ℕ) → status ≡ pipe_status e → Contains (0 ∷ 3 ∷ 4 ∷ 5 ∷ 6 ∷ 10 ∷ []) status
+pipe_statuses ended.Closed status is = (0, lit< tt, sym is)
+pipe_statuses ended.LinkFault status is = (1, lit< tt, sym is)
+pipe_statuses ended.KeeperFault status is = (2, lit< tt, sym is)
+pipe_statuses ended.NoMemory status is = (5, lit< tt, sym is)
+
+pub serve_statuses : (e : WireEnded) (status : ℕ) → status ≡ serve_status e → Contains (0 ∷ 3 ∷ 4 ∷ 5 ∷ 6 ∷ 10 ∷ []) status
+serve_statuses wire.Done status is = (0, lit< tt, sym is)
+serve_statuses wire.WireFault status is = (1, lit< tt, sym is)
+serve_statuses wire.KeeperFault status is = (2, lit< tt, sym is)

@@ -1,0 +1,114 @@
+-- An element that takes a value, one level at a time.
+use Rattle.std.proofs.Common.{◌≡◌, ◌&&◌, Bool, true, false, List, [], ◌∷◌, map, Option, Some, None, refl, sym, ap, ap₂, ◌∙◌}
+use Rattle.std.proofs.lemmas.Bool.{and_from}
+use Rattle.std.specs.Prelude.{if◌then◌else◌}
+use Rattle.std.specs.List.{list_all}
+use Rattle.serde_json.specs.Data.{Data}
+use Rattle.aas_model.specs.declared.common.Common.{Common}
+use Rattle.aas_model.specs.declared.element.Element.{Element}
+use Rattle.aas_model.specs.declared.element.Role.{Role}
+use Rattle.aas_model.specs.declared.payload.Payload.{Payload}
+use Rattle.aas_model.specs.declared.payload.Payload.TheVariants as p
+use Rattle.aas_json_mapping.specs.Whole.{whole_common, whole_payload, has_whole_parts}
+use Rattle.aas_json_mapping.proofs.Elements.{made, parts_at}
+use Rattle.aas_json_table.specs.TooDeep.{limits}
+use Rattle.aas_lemmas.proofs.Truth.{and_left, and_right}
+use Rattle.aas_value_update.specs.Kinds.{form_of, part_of}
+use Rattle.aas_value_update.specs.LeftAlone.{shows_children, left_alone}
+use Rattle.aas_value_update.specs.Parts.{Part, children, over, fits_form}
+use Rattle.aas_value_update.specs.Shape.{nothing_sent, sent}
+use Rattle.aas_value_update.specs.Took.{TookOne, Took, NamedIn}
+use Rattle.aas_value_update.proofs.Alone.{shows_bare}
+use Rattle.aas_value_update.proofs.Elements.{part_at, kids_alone, alone_at}
+use Rattle.aas_value_update.proofs.Laid.{over_none}
+use Rattle.aas_value_patch.specs.Gathered.{HasTaken, IsTaken, AreTaken}
+use Rattle.aas_value_patch.specs.Takes.{Takes}
+
+-- ---- children
+
+pub took_kids : (ks : List Element) (ss : List (Option Data)) (us : List Element) → AreTaken ks ss us → Took (map part_of ks) ss (map part_of us)
+took_kids [] [] [] t = tt
+took_kids [] [] (u ∷ us) t = absurd t
+took_kids [] (s ∷ ss) us t = absurd t
+took_kids (k ∷ ks) [] us t = absurd t
+took_kids (k ∷ ks) (s ∷ ss) [] t = absurd t
+took_kids (k ∷ ks) (s ∷ ss) (u ∷ us) t = (one s t.0, took_kids ks ss us t.1)
+  where
+    one : (s : Option Data) → IsTaken k s u → TookOne (part_of k) s (part_of u)
+    one None e =
+        ap (λ z. (part_of z).child) e
+        ∙ ap (λ (f : Option Data). record (part_of k).child { form = f }) (over_none (part_of k).lay (part_of k).child.form)
+    one (Some v) h = h.form
+
+pub alone_kids : (ks : List Element) (ss : List (Option Data)) (us : List Element) → AreTaken ks ss us → map left_alone us ≡ map left_alone ks
+alone_kids [] [] [] t = refl
+alone_kids [] [] (u ∷ us) t = absurd t
+alone_kids [] (s ∷ ss) us t = absurd t
+alone_kids (k ∷ ks) [] us t = absurd t
+alone_kids (k ∷ ks) (s ∷ ss) [] t = absurd t
+alone_kids (k ∷ ks) (s ∷ ss) (u ∷ us) t = ap₂ (λ z zs. z ∷ zs) (one s t.0) (alone_kids ks ss us t.1)
+  where
+    one : (s : Option Data) → IsTaken k s u → left_alone u ≡ left_alone k
+    one None e = ap left_alone e
+    one (Some v) h = h.rest
+
+same_kids : (ks us : List Element) → AreTaken ks (nothing_sent (children (map part_of ks))) us → us ≡ ks
+same_kids [] [] t = refl
+same_kids [] (u ∷ us) t = absurd t
+same_kids (k ∷ ks) [] t = absurd t
+same_kids (k ∷ ks) (u ∷ us) t = ap₂ (λ z zs. z ∷ zs) t.0 (same_kids ks us t.1)
+
+whole_kids : (ks : List Element) (ss : List (Option Data)) (us : List Element) → AreTaken ks ss us → list_all (λ b. b) (map (has_whole_parts limits) ks) ≡ true
+    → list_all (λ b. b) (map (has_whole_parts limits) us) ≡ true
+whole_kids [] [] [] t e = refl
+whole_kids [] [] (u ∷ us) t e = absurd t
+whole_kids [] (s ∷ ss) us t e = absurd t
+whole_kids (k ∷ ks) [] us t e = absurd t
+whole_kids (k ∷ ks) (s ∷ ss) [] t e = absurd t
+whole_kids (k ∷ ks) (s ∷ ss) (u ∷ us) t e =
+    and_from (has_whole_parts limits u) (list_all (λ b. b) (map (has_whole_parts limits) us)) (one s t.0 (and_left (has_whole_parts limits k) _ e))
+    (whole_kids ks ss us t.1 (and_right (has_whole_parts limits k) _ e))
+  where
+    one : (s : Option Data) → IsTaken k s u → has_whole_parts limits k ≡ true → has_whole_parts limits u ≡ true
+    one None is w = ap (has_whole_parts limits) is ∙ w
+    one (Some v) h w = h.whole w
+
+-- ---- a level
+
+-- where no children are shown, nothing is sent to them
+hides : (x : Payload) (ks us : List Element) (v : Data) → shows_children x ≡ false → AreTaken ks (sent x (children (map part_of ks)) v) us → us ≡ ks
+hides (p.AnnotatedRelationshipElement a b) ks us v s t = absurd (cc)
+hides (p.Entity e g ids) ks us v s t = absurd (cc)
+hides p.SubmodelElementCollection ks us v s t = absurd (cc)
+hides (p.SubmodelElementList a b c d) ks us v s t = absurd (cc)
+hides p.Capability ks us v s t = same_kids ks us t
+hides _ ks us v s t = same_kids ks us t
+
+kids_rest : (x y : Payload) (ks us : List Element) (v : Data) → shows_children y ≡ shows_children x → AreTaken ks (sent x (children (map part_of ks)) v) us
+    → kids_alone y us ≡ kids_alone x ks
+kids_rest x y ks us v same t = ap (λ b. if b then map left_alone us else us) same ∙ by_shows (shows_children x) refl
+  where
+    by_shows : (b : Bool) → shows_children x ≡ b → (if b then map left_alone us else us) ≡ (if b then map left_alone ks else ks)
+    by_shows true e = alone_kids ks (sent x (children (map part_of ks)) v) us t
+    by_shows false e = hides x ks us v e t
+
+pub level_taken : (r : Role) (c : Common) (x y : Payload) (ks us : List Element) (v : Data) → fits_form (form_of x (map part_of ks)) v ≡ true
+    → NamedIn x (map part_of ks)
+    → Takes x v y → AreTaken ks (sent x (children (map part_of ks)) v) us → HasTaken (made r c x ks) v (made r c y us)
+level_taken r c x y ks us v fits named takes t =
+    let shows : shows_children y ≡ shows_children x = sym (shows_bare y) ∙ ap shows_children takes.rest ∙ shows_bare x in record {
+      rest = alone_at r c y us ∙ ap₂ (made r c) takes.rest (kids_rest x y ks us v shows t) ∙ sym (alone_at r c x ks);
+      form =
+          ap (λ (z : Part). z.child) (part_at r c y us)
+          ∙ ap (λ (f : Option Data). record { name = c.id_short; form = f })
+          (takes.form (map part_of ks) (map part_of us) fits named (took_kids ks (sent x (children (map part_of ks)) v) us t))
+          ∙ sym (ap (λ (z : Part). record z.child { form = over z.lay z.child.form (Some v) }) (part_at r c x ks));
+      whole = λ w.
+          let all = sym (parts_at limits r c x ks) ∙ w in
+          let own = and_left (whole_common limits c && whole_payload limits x) _ all in
+          parts_at limits r c y us
+          ∙ and_from (whole_common limits c && whole_payload limits y) (list_all (λ b. b) (map (has_whole_parts limits) us))
+          (and_from (whole_common limits c) (whole_payload limits y) (and_left (whole_common limits c) _ own)
+          (takes.whole (and_right (whole_common limits c) _ own)))
+          (whole_kids ks (sent x (children (map part_of ks)) v) us t (and_right (whole_common limits c && whole_payload limits x) _ all));
+    }

@@ -1,0 +1,15 @@
+pub mod Attributes
+pub mod Counted
+pub mod Preorder
+pub mod Items
+pub mod Level
+pub mod Rows
+pub mod Natives
+pub mod Parts
+pub mod Ordered
+pub mod Languages
+pub mod Words
+pub mod Children
+pub mod Walk
+pub mod Updated
+pub mod Faultless

@@ -1,0 +1,157 @@
+-- What a whole walk has made.
+use Rattle.std.proofs.Common.{◌≡◌, ℕ, true, false, List, [], ◌++◌, length, map, Option, Some, None, IsSome, is_some, option_map, Result, Ok, Err, slice_get}
+use Rattle.std.proofs.Common.{refl, sym, ap, ◌∙◌, subst, true≢false}
+use Rattle.std.specs.Prelude.{if◌then◌else◌}
+use Rattle.std.specs.Result.{IsErr, IsErrAnd, IfErr}
+use Rattle.serde_json.specs.Data.{Data}
+use Rattle.aas_json_spelling.specs.Values.{IsOrdered}
+use Rattle.aas_model.specs.declared.documents.Submodel.{Submodel}
+use Rattle.aas_model.specs.declared.element.Element.{Element, out-roll-Element}
+use Rattle.aas_model.specs.declared.element.Role.TheVariants as role
+use Rattle.aas_model.specs.declared.patch.Patch.{Patch}
+use Rattle.aas_model.specs.declared.patch.PatchRow.{PatchRow}
+use Rattle.aas_model.specs.declared.payload.Payload.TheVariants as payload
+use Rattle.aas_model_names.specs.declared.kind.Kind.{Kind}
+use Rattle.aas_model_names.specs.declared.modifiers.Extent.TheVariants as extent
+use Rattle.aas_path_trees.specs.Children.{kids_of, is_list_payload}
+use Rattle.aas_path_trees.specs.Patched.{Fits, kinds, kinds_of_all, patched, patched_all, patched_submodel}
+use Rattle.aas_path_trees.specs.Places.{Differ}
+use Rattle.aas_value.specs.ValueForm.{Child, value_form}
+use Rattle.aas_value_update.specs.Kinds.{part_of, lay}
+use Rattle.aas_value_update.specs.Laws.{IsInOrder}
+use Rattle.aas_value_update.specs.Parts.{Part, children, object_of, over, fits_form}
+use Rattle.aas_value_update.specs.Shape.{HasShape, first_misshapen, sendable, among, by_names}
+use Rattle.aas_value_update.specs.Update.{IsElementUpdate, no_attributes, body}
+use Rattle.aas_value_update.proofs.Alone.{kids_made}
+use Rattle.aas_value_update.proofs.Elements.{child_is, part_at}
+use Rattle.aas_value_update.proofs.Order.{order_below}
+use Rattle.aas_value_update.proofs.Rest.{differ_in_values, unshown_stays}
+use Rattle.aas_constraint_rules.specs.Sites.{Own}
+use Rattle.aas_value_patch.specs.Faults.{IsPatchFault, Shapes, fault_of}
+use Rattle.aas_value_patch.specs.declared.fault.PatchFault.{PatchFault}
+use Rattle.aas_value_patch.specs.declared.fault.Stop.{Stop}
+use Rattle.aas_value_patch.specs.declared.fault.Stop.TheVariants as stop
+use Rattle.aas_value_patch.specs.Gathered.{HasTaken, AreTaken, SoFar, Gathered, GatheredAll, AllInOrder, AllOrdered}
+use Rattle.aas_value_patch.proofs.Attributes.{body_takes}
+use Rattle.aas_value_patch.proofs.Level.{level_taken}
+use Rattle.aas_value_patch.proofs.Ordered.{sent_ordered}
+use Rattle.aas_value_patch.proofs.Rows.{fits}
+use Rattle.aas_value_patch.proofs.Walk.{kids_differ, misshapen_made}
+
+-- what has taken a value that fits is updated by it
+pub updated : (e u : Element) (v : Data) → is_some (part_of e).child.form ≡ true → HasShape e v → HasTaken e v u → IsElementUpdate e v u
+updated e u v there shape taken = record {
+  metadata = differ_in_values e u taken.rest;
+  operations = unshown_stays e u taken.rest;
+  shape = shape;
+  form =
+      sym (ap (λ (c : Child). c.form) (child_is u)) ∙ ap (λ (c : Child). c.form) taken.form ∙ laid (part_of e).child.form there
+      ∙ ap (λ (c : Child). option_map (λ w. lay e w v) c.form) (child_is e);
+}
+  where
+    laid : (f : Option Data) → is_some f ≡ true → over (part_of e).lay f (Some v) ≡ option_map (λ w. lay e w v) f
+    laid None there = absurd (true≢false (sym there))
+    laid (Some w) there = refl
+
+none_seen : SoFar [] []
+none_seen = record { rising = tt; kinds_agree = tt }
+
+-- ---- an element
+
+pub record Whole (e : Element) (v : Data) (rows : List PatchRow) : Type 0 where
+  pub fit : Fits (kinds e) rows
+  pub taken : HasTaken e v (patched rows e 0).0
+
+pub whole_walk : (e : Element) (v : Data) (old rows : List PatchRow) (after : ℕ) → old ≡ [] → IsInOrder e → IsOrdered v
+    → (IsInOrder e → IsOrdered v → (seen : List Kind) → length seen ≡ 0 → SoFar seen old
+    → (after ≡ length (seen ++ kinds e)) × Gathered e (Some v) seen old rows)
+    → Whole e v rows
+whole_walk e v old rows after empty order ordered walk =
+    let done = (walk order ordered [] refl (subst (SoFar []) (sym empty) none_seen)).1 in
+    record { fit = fits (kinds e) rows done.fit; taken = done.taken rows (λ j own le lt. refl) }
+
+-- ---- faults
+
+pub formless : (e : Element) → is_some (part_of e).child.form ≡ false → value_form extent.WithBlobValue e ≡ None
+formless e there = sym (ap (λ (c : Child). c.form) (child_is e)) ∙ none (part_of e).child.form there
+  where
+    none : (f : Option Data) → is_some f ≡ false → f ≡ None
+    none None e = refl
+    none (Some d) e = absurd (true≢false e)
+
+form_some : (e : Element) → is_some (part_of e).child.form ≡ true → IsSome (value_form extent.WithBlobValue e)
+form_some e there = subst IsSome (ap (λ (c : Child). c.form) (child_is e)) (some (part_of e).child.form there)
+  where
+    some : (f : Option Data) → is_some f ≡ true → IsSome f
+    some None e = absurd (true≢false (sym e))
+    some (Some d) e = refl
+
+pub stop_fault : (m : Stop) (e : Element) (v : Data) → is_some (part_of e).child.form ≡ true → Shapes {A = ℕ} (Err m) (first_misshapen e v)
+    → IsPatchFault e v (fault_of m)
+stop_fault (stop.Shape path) e v there h = (form_some e there, h)
+stop_fault stop.NoMemory e v there h = tt
+
+pub patch_fault : (r : Result Patch PatchFault) (m : Stop) (e : Element) (v : Data) → is_some (part_of e).child.form ≡ true → IsErr r
+    → IsErrAnd r (λ f. f ≡ fault_of m)
+    → Shapes {A = ℕ} (Err m) (first_misshapen e v) → IfErr r (λ f. IsPatchFault e v f)
+patch_fault (Ok s) m e v there err and shown = absurd (cc)
+patch_fault (Err f) m e v there err and shown = subst (IsPatchFault e v) (sym and) (stop_fault m e v there shown)
+
+-- ---- a submodel
+
+body_kids : (d : Submodel) → kids_of (body d) ≡ d.kids
+body_kids d = kids_made role.Member no_attributes payload.SubmodelElementCollection d.kids
+
+pub body_all : (d : Submodel) → IsInOrder (body d) → AllInOrder d.kids
+body_all d order i k there = order_below (body d) order i k (ap (λ l. slice_get l i) (body_kids d) ∙ there)
+
+pub body_differ : (d : Submodel) → IsInOrder (body d) → Differ d.kids
+body_differ d order =
+    let out = out-roll-Element (record { common = no_attributes; payload = payload.SubmodelElementCollection; role = role.Member; kids = d.kids }) in
+    subst Differ (body_kids d) (kids_differ (body d) order (ap (λ x. is_list_payload x.payload) out))
+
+pub body_form : (d : Submodel) → is_some (part_of (body d)).child.form ≡ true
+body_form d = ap (λ (x : Part). is_some x.child.form) (part_at role.Member no_attributes payload.SubmodelElementCollection d.kids)
+
+abbrev pub own : Own
+own = record { common = no_attributes; payload = payload.SubmodelElementCollection; role = role.Member }
+
+pub body_shape : (d : Submodel) (v : Data) → first_misshapen (body d) v
+    ≡ (if fits_form (object_of (map part_of d.kids)) v then among own 0 (map sendable d.kids) (by_names (children (map part_of d.kids)) v) else Some [])
+body_shape d v = misshapen_made role.Member no_attributes payload.SubmodelElementCollection d.kids v
+
+pub record WholeBody (d : Submodel) (v : Data) (rows : List PatchRow) : Type 0 where
+  pub fit : Fits (kinds_of_all d.kids) rows
+  pub taken : HasTaken (body d) v (body (patched_submodel rows d))
+
+pub whole_body : (d : Submodel) (v : Data) (f : List Child → List (Option Data)) (old rows : List PatchRow) (after : ℕ) → old ≡ [] → IsInOrder (body d)
+    → IsOrdered v
+    → fits_form (object_of (map part_of d.kids)) v ≡ true → ((cs : List Child) → f cs ≡ by_names cs v)
+    → (AllInOrder d.kids → AllOrdered (f (children (map part_of d.kids))) → (seen : List Kind) → length seen ≡ 0 → SoFar seen old
+    → (after ≡ length (seen ++ kinds_of_all d.kids)) × GatheredAll d.kids (f (children (map part_of d.kids))) seen old rows)
+    → WholeBody d v rows
+whole_body d v f old rows after empty order ordered fit sent walk =
+    let cs = children (map part_of d.kids) in
+    let some = subst AllOrdered (sym (sent cs)) (sent_ordered payload.SubmodelElementCollection cs v ordered) in
+    let done = (walk (body_all d order) some [] refl (subst (SoFar []) (sym empty) none_seen)).1 in
+    let taken = subst (λ ss. AreTaken d.kids ss (patched_all rows d.kids 0).0) (sent cs) (done.taken rows (λ j own le lt. refl)) in
+    record {
+      fit = fits (kinds_of_all d.kids) rows done.fit;
+      taken = level_taken role.Member no_attributes payload.SubmodelElementCollection payload.SubmodelElementCollection d.kids (patched_all rows d.kids 0).0
+          v fit tt (body_takes v (map part_of d.kids) fit) taken;
+    }
+
+pub body_misshapen : (d : Submodel) (v : Data) → fits_form (object_of (map part_of d.kids)) v ≡ false → first_misshapen (body d) v ≡ Some []
+body_misshapen d v unfit = body_shape d v
+    ∙ ap (λ b. if b then among own 0 (map sendable d.kids) (by_names (children (map part_of d.kids)) v) else Some []) unfit
+
+pub body_walked : (r : Result ℕ Stop) (d : Submodel) (v : Data) (f : List Child → List (Option Data)) → IsInOrder (body d) → IsOrdered v
+    → fits_form (object_of (map part_of d.kids)) v ≡ true
+    → ((cs : List Child) → f cs ≡ by_names cs v)
+    → (AllInOrder d.kids → AllOrdered (f (children (map part_of d.kids))) → Shapes r (among own 0 (map sendable d.kids) (f (children (map part_of d.kids)))))
+    → Shapes r (first_misshapen (body d) v)
+body_walked r d v f order ordered fit sent walk =
+    let cs = children (map part_of d.kids) in
+    let some = subst AllOrdered (sym (sent cs)) (sent_ordered payload.SubmodelElementCollection cs v ordered) in
+    subst (Shapes r) (sym (body_shape d v ∙ ap (λ b. if b then among own 0 (map sendable d.kids) (by_names cs v) else Some []) fit))
+    (subst (λ ss. Shapes r (among own 0 (map sendable d.kids) ss)) (sent cs) (walk (body_all d order) some))

@@ -1,0 +1,40 @@
+-- Why a sent value can't be taken.
+use Rattle.std.specs.Prelude.{◌≡◌, ◌==◌, if◌then◌else◌, Some, None, IsSome, IsTrue, ⊤}
+use Rattle.serde_json.specs.Data.{Data}
+use Rattle.aas_json_mapping.specs.Whole.{has_whole_parts}
+use Rattle.aas_json_table.specs.TooDeep.{limits}
+use Rattle.aas_model_names.specs.declared.modifiers.Extent.TheVariants as extent
+use Rattle.aas_model.specs.declared.element.Element.{Element}
+use Rattle.aas_model.specs.declared.path.Fault.{Fault}
+use Rattle.aas_reference.specs.Rules.{first}
+use Rattle.aas_constraint_laws.specs.Law.{local_faults}
+use Rattle.aas_value.specs.ValueForm.{value_form}
+use Rattle.aas_value_update.specs.Shape.{first_misshapen}
+use Rattle.aas_value_update.specs.Update.{IsElementUpdate}
+use Rattle.aas_value_patch.specs.declared.fault.PatchFault.{PatchFault}
+use Rattle.aas_value_patch.specs.declared.fault.PatchFault.TheVariants as patch_fault
+use Rattle.aas_value_patch.specs.declared.preparing.ValueFault.{ValueFault}
+use Rattle.aas_value_patch.specs.declared.preparing.ValueFault.TheVariants as fault
+
+-- number 0 is a lexical rule
+abbrev pub fault_by : Fault → ValueFault
+fault_by f = if f.number == 0 then fault.Lexical f.path else fault.Constraint f
+
+abbrev pub fault_of_patch : PatchFault → ValueFault
+fault_of_patch patch_fault.NoValueForm = fault.NoValueForm
+fault_of_patch (patch_fault.Shape path) = fault.Shape path
+fault_of_patch patch_fault.NoMemory = fault.NoMemory
+
+-- the update of e by v, which leaves it whole, has f for its first fault, of those that it has by itself
+pub record Breaks (e : Element) (v : Data) (f : Fault) : Type 0 where
+  pub new : Element
+  pub update : IsElementUpdate e v new
+  pub whole : IsTrue (has_whole_parts limits e) → IsTrue (has_whole_parts limits new)
+  pub first : first (local_faults new) ≡ Some f
+
+abbrev pub IsValueFault : Element → Data → ValueFault → Type 0
+IsValueFault e v fault.NoValueForm = value_form extent.WithBlobValue e ≡ None
+IsValueFault e v (fault.Shape path) = IsSome (value_form extent.WithBlobValue e) × (first_misshapen e v ≡ Some path.steps)
+IsValueFault e v (fault.Lexical path) = Breaks e v (record { number = 0; path = path })
+IsValueFault e v (fault.Constraint f) = Breaks e v f × ¬ (f.number ≡ 0)
+IsValueFault e v fault.NoMemory = ⊤

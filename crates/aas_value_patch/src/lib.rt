@@ -1,0 +1,23 @@
+//! Updates of values (IDTA-01002-3-0, ValueOnly) as patches: what a sent value makes of an element, or the first place where
+//! it doesn't fit.
+
+#![tactic(auto)]
+
+mod canonical;
+mod fault;
+mod gather;
+mod leaves;
+mod members;
+mod parents;
+mod patch;
+mod preparing;
+mod references;
+mod sent;
+mod slots;
+mod step;
+#[cfg(test)]
+mod tests;
+
+pub use fault::PatchFault;
+pub use patch::{patch_for, patch_for_submodel};
+pub use preparing::{ValueFault, prepare, prepare_submodel};

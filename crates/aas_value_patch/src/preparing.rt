@@ -1,0 +1,177 @@
+ghost use Rattle.std.specs.Prelude.{◌≡◌, [], IfErr, IfOk, IsTrue};
+ghost use Rattle.serde_json.specs.View.{view};
+ghost use Rattle.aas_constraint_laws.specs.Law.{local_faults};
+ghost use Rattle.aas_json_mapping.specs.Whole.{has_whole_parts};
+ghost use Rattle.aas_json_spelling.specs.Values.{IsOrdered};
+ghost use Rattle.aas_json_table.specs.TooDeep.{limits};
+ghost use Rattle.aas_reference.specs.Rules.{first};
+ghost use Rattle.aas_path_trees.specs.Patched.{Fits, kinds, kinds_of_all, patched, patched_submodel};
+ghost use Rattle.aas_value_update.specs.Laws.{IsInOrder};
+ghost use Rattle.aas_value_update.specs.Update.{IsElementUpdate, IsSubmodelUpdate, body, no_attributes};
+ghost use Rattle.aas_value_patch.specs.Prepared.{IsValueFault, fault_by};
+
+use crate::fault::PatchFault;
+use crate::patch::{patch_for, patch_for_submodel};
+use aas_constraints::local_fault;
+use aas_model::{
+    Common, Duplicate, Element, Fault, Many, NoMemory, Patch, Path, Payload, Role, Semantics,
+    Submodel,
+};
+use aas_path::{apply, apply_all};
+use serde_json::Value;
+use std::alloc::Global;
+
+/// Why a sent value can't be taken.
+#[derive(Debug, Drop)]
+pub enum ValueFault {
+    /// The element has no value form: it is a Capability or an Operation.
+    NoValueForm,
+    /// The element to which the path leads is the first in preorder whose own part of the value has the wrong shape.
+    Shape { path: Path },
+    /// The element to which the path leads would have a text without the form of its type, and no fault comes before it.
+    Lexical { path: Path },
+    /// The first rule that would be broken, of those that an element breaks wherever it stands.
+    Constraint(Fault),
+    NoMemory,
+}
+
+impl From<NoMemory> for ValueFault {
+    ghost use Rattle.std.specs.Prelude.{◌≡◌};
+    ghost use Rattle.aas_value_patch.specs.declared.preparing.ValueFault.TheVariants as value_fault;
+
+    ghost from_gives = { λ _ fault. fault ≡ value_fault.NoMemory };
+
+    fn from(_fault: NoMemory) -> ValueFault {
+        ValueFault::NoMemory
+    }
+}
+
+impl From<PatchFault> for ValueFault {
+    ghost use Rattle.std.specs.Prelude.{◌≡◌};
+    ghost use Rattle.aas_value_patch.specs.Prepared.{fault_of_patch};
+
+    ghost from_gives = { λ before fault. fault ≡ fault_of_patch before };
+
+    fn from(fault: PatchFault) -> ValueFault {
+        match fault {
+            PatchFault::NoValueForm => ValueFault::NoValueForm,
+            PatchFault::Shape { path } => ValueFault::Shape { path },
+            PatchFault::NoMemory => ValueFault::NoMemory,
+        }
+    }
+}
+
+fn fault_by(fault: Fault) -> ValueFault
+    ensures { result ≡ fault_by fault }
+{
+    if fault.number == 0 {
+        ValueFault::Lexical { path: fault.path }
+    } else {
+        ValueFault::Constraint(fault)
+    }
+}
+
+/// A copy of the element with the patch.
+fn with_patch(element: &Element, patch: &Patch) -> Result<Element, NoMemory>
+    requires { Fits (kinds element.now) patch.now.rows }
+    ensures { IfOk result (λ updated. updated ≡ (patched patch.now.rows element.now 0).0) }
+{
+    let patch = patch.copy()?;
+    let mut updated = element.copy()?;
+    apply(&mut updated, patch);
+    Ok(updated)
+}
+
+/// A copy of the submodel with the patch.
+fn with_patch_for_all(submodel: &Submodel, patch: &Patch) -> Result<Submodel, NoMemory>
+    requires { Fits (kinds_of_all submodel.now.kids) patch.now.rows }
+    ensures { IfOk result (λ updated. updated ≡ patched_submodel patch.now.rows submodel.now) }
+{
+    let patch = patch.copy()?;
+    let mut updated = submodel.copy()?;
+    apply_all(&mut updated, patch);
+    Ok(updated)
+}
+
+/// The first fault that the element has by itself.
+fn first_fault(alloc: Global, element: Element) -> Result<Option<Fault>, NoMemory>
+    ensures { IfOk result (λ found. found ≡ first (local_faults element)) }
+{
+    let found = local_fault(alloc, &element);
+    drop(element);
+    found
+}
+
+/// The patch by which the element, at rank 0, takes a sent value: what the value leaves out stays, and the element keeps each
+/// rule that it can break wherever it stands. It copies the element once.
+///
+/// # Errors
+///
+/// Exactly one of these holds, or there is a patch: `NoValueForm` for a Capability or an Operation; `Shape` at the first
+/// element in preorder whose own part of the value has the wrong shape; `Lexical` or `Constraint` for the first fault that the
+/// updated element has by itself. `NoMemory` may come at any time.
+pub fn prepare(alloc: Global, element: &Element, value: &Value) -> Result<Patch, ValueFault>
+    requires in_order { IsInOrder element.now }
+    requires ordered { IsOrdered (view value.now) }
+    ensures fits { IfOk result (λ patch. Fits (kinds element.now) patch.rows) }
+    ensures update { IfOk result (λ patch. IsElementUpdate element.now (view value.now) (patched patch.rows element.now 0).0) }
+    ensures whole { IfOk result (λ patch. IsTrue (has_whole_parts limits element.now)
+        → IsTrue (has_whole_parts limits (patched patch.rows element.now 0).0)) }
+    ensures faultless { IfOk result (λ patch. local_faults (patched patch.rows element.now 0).0 ≡ []) }
+    ensures fault { IfErr result (λ fault. IsValueFault element.now (view value.now) fault) }
+{
+    let patch = patch_for(alloc, element, value)?;
+    let updated = with_patch(element, &patch)?;
+    match first_fault(alloc, updated)? {
+        None => Ok(patch),
+        Some(fault) => Err(fault_by(fault)),
+    }
+}
+
+/// The submodel as an element of its children alone.
+fn into_body(alloc: Global, submodel: Submodel) -> Element
+    ensures { result ≡ body submodel }
+{
+    Element {
+        common: Common {
+            id_short: None,
+            category: None,
+            description: Many::new(alloc),
+            display_name: Many::new(alloc),
+            extensions: Many::new(alloc),
+            embedded_data_specifications: Many::new(alloc),
+            semantics: Semantics {
+                semantic_id: None,
+                supplemental_semantic_ids: Many::new(alloc),
+            },
+            qualifiers: Many::new(alloc),
+        },
+        payload: Payload::SubmodelElementCollection,
+        role: Role::Member,
+        kids: submodel.kids,
+    }
+}
+
+/// The same for a submodel as an object of its children, whose first child has rank 0. It always has a value form, and is
+/// copied once.
+pub fn prepare_submodel(
+    alloc: Global,
+    submodel: &Submodel,
+    value: &Value,
+) -> Result<Patch, ValueFault>
+    requires in_order { IsInOrder (body submodel.now) }
+    requires ordered { IsOrdered (view value.now) }
+    ensures fits { IfOk result (λ patch. Fits (kinds_of_all submodel.now.kids) patch.rows) }
+    ensures update { IfOk result (λ patch. IsSubmodelUpdate submodel.now (view value.now) (patched_submodel patch.rows submodel.now)) }
+    ensures whole { IfOk result (λ patch. IsTrue (has_whole_parts limits (body submodel.now))
+        → IsTrue (has_whole_parts limits (body (patched_submodel patch.rows submodel.now)))) }
+    ensures faultless { IfOk result (λ patch. local_faults (body (patched_submodel patch.rows submodel.now)) ≡ []) }
+    ensures fault { IfErr result (λ fault. IsValueFault (body submodel.now) (view value.now) fault) }
+{
+    let patch = patch_for_submodel(alloc, submodel, value)?;
+    let updated = with_patch_for_all(submodel, &patch)?;
+    match first_fault(alloc, into_body(alloc, updated))? {
+        None => Ok(patch),
+        Some(fault) => Err(fault_by(fault)),
+    }
+}
