@@ -6,7 +6,7 @@ ghost use Rattle.aas_json_table.specs.TooDeep.{limits};
 
 use crate::{Done, Repo};
 use aas_command::{Absent, Command, Question, Refusal};
-use aas_model::{Head, Many, NoMemory, Semantics, Submodel, Text};
+use aas_model::{Extent, Head, Level, Many, NoMemory, Semantics, Submodel, Text};
 use aas_outside::MemKeeper;
 use aas_step::no_documents_are_valid;
 use aas_store::TreeStore;
@@ -61,7 +61,11 @@ fn a_command_without_room(rt: HostRuntime) -> Result<(), Fail> {
     assert!(rt; matches!(second, Err(Refusal::StorageFull)));
     assert!(rt; !repo.stopped());
     let id = Text::from_str(alloc, "urn:x2")?;
-    let asked = repo.ask(&Question::Submodel { id });
+    let asked = repo.ask(&Question::Submodel {
+        id,
+        level: Level::Deep,
+        extent: Extent::WithoutBlobValue,
+    });
     assert!(rt;
         matches!(
             asked,
