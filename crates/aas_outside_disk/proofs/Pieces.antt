@@ -43,7 +43,7 @@ fetched (Some files) now old new part at count size most out some short most_is 
     ∙ sym (second_of (lies_in old part at count) (nat_lt 0 count && nat_lt count piece_bytes) old (piece_at files part at) (record old { bytes = [] }) out can)
 
 -- where a range lies in a piece it is a part of it
-module _ (piece : PieceState) (part : Part) (at count : ℕ) (lies : lies_in piece part at count ≡ true) where
+module _ (piece : PieceState) (part : Part) (at count : ℕ) (lies : true ≡ lies_in piece part at count) where
   abbrev begins_before : Bool
   begins_before = nat_le piece.at at
 
@@ -51,7 +51,7 @@ module _ (piece : PieceState) (part : Part) (at count : ℕ) (lies : lies_in pie
   ends_before = nat_le (at + count) (piece.at + length piece.bytes)
 
   placed : (same_part part piece.part && (begins_before && ends_before)) ≡ true
-  placed = (and_parts (nat_lt 0 count) (same_part part piece.part && (begins_before && ends_before)) lies).1
+  placed = (and_parts (nat_lt 0 count) (same_part part piece.part && (begins_before && ends_before)) (sym lies)).1
 
   tests : (same_part part piece.part ≡ true) × (begins_before && ends_before ≡ true)
   tests = and_parts (same_part part piece.part) (begins_before && ends_before) placed

@@ -12,14 +12,17 @@ use aas_outside::Failed;
 use std::alloc::Global;
 use std::marker::Model;
 
-/// How many bytes a piece has at most.
+/// How many bytes a piece has at most: hundreds of records, so that a call of the disk costs little for each of them, and still
+/// little memory.
 pub const PIECE_BYTES: usize = 65_536;
 
 /// Bytes of a file that were read together, in storage that is made once.
 #[derive(Drop)]
 pub struct Piece {
+    /// The bytes of the piece, and behind them any others.
     storage: Vec<u8>,
     part: Part,
+    /// The place of the first byte in the file.
     at: u64,
     len: usize,
 }

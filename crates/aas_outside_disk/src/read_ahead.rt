@@ -9,10 +9,10 @@ use aas_model_text::NoMemory;
 use aas_outside::Failed;
 use std::alloc::Global;
 
-/// A disk over another one that reads a large piece of a file at once, and answers the reads that lie in the last piece from
-/// it.
+/// A disk over another one that reads a large piece of a file at once and answers the reads that lie in that piece from it.
 ///
-/// A read that doesn't lie in the piece gives it up, and so does each write, whether it fails or not.
+/// A read of another range gives the piece up, whether it fails or not, and so does each write. Nothing is read ahead for a
+/// range of no bytes, for one as large as a piece, or for one that the file doesn't have.
 #[derive(Drop)]
 pub struct ReadAhead<D: Disk> {
     disk: D,
@@ -40,8 +40,8 @@ impl<D: Disk> ReadAhead<D> {
         Ok(ReadAhead { disk, piece })
     }
 
-    /// Reads a piece that begins with the range, where the range doesn't lie in the present one and is shorter than a piece.
-    /// Otherwise there is no piece then.
+    /// Reads the piece that begins with the range, where the range doesn't lie in the present one. Where none is to be read, or
+    /// that fails, there is none.
     fn fetch(&mut self, part: Part, at: u64, count: usize) -> Result<(), Failed>
         requires { IfSome (D.seen (disk_below self.old)) (λ files. at + count ≤ length (file part files)) }
         ensures after { OnOk result (IfSome (D.seen (disk_below self.old)) (λ files.
@@ -57,19 +57,20 @@ impl<D: Disk> ReadAhead<D> {
             (D.moment (disk_below self.new)) (D.left_at (disk_below self.new)) }
         ensures cause { HasCause (D.faults (disk_below self.old)) (D.faults (disk_below self.new)) result }
     {
-        if self.piece.get(part, at, count).is_some() {
+        let ReadAhead { disk, piece } = self;
+        if piece.get(part, at, count).is_some() {
             return Ok(());
         }
-        self.piece.clear();
+        piece.clear();
         if count == 0 || count >= PIECE_BYTES {
             return Ok(());
         }
-        let rest = self.disk.length(part)?.saturating_sub(at);
+        let rest = disk.length(part)?.saturating_sub(at);
         if rest < count as u64 {
             return Ok(());
         }
         let most = rest.min(PIECE_BYTES as u64) as usize;
-        self.piece.read(&mut self.disk, part, at, most)
+        piece.read(disk, part, at, most)
     }
 }
 
@@ -107,7 +108,8 @@ impl<D: Disk> Disk for ReadAhead<D> {
 
         // A range that lies in the piece is answered from it, and the disk below isn't called.
         ensures held { IsTrue (lies_in (piece_of self.old) part at (length buf.old)) → IsOk result
-            × (disk_below self.new ≡ disk_below self.old) × (buf.new ≡ bytes_at (piece_of self.old) at (length buf.old)) }
+            × (buf.new ≡ bytes_at (piece_of self.old) at (length buf.old))
+            × (disk_below self.new ≡ disk_below self.old) × (piece_of self.new ≡ piece_of self.old) }
         ensures after { OnOk result (IfSome (D.seen (disk_below self.old)) (λ files.
             piece_of self.new ≡ piece_after files (piece_of self.old) part at (length buf.old))) }
         ensures none { OnErr result ((piece_of self.new).bytes ≡ []) }
