@@ -9,14 +9,17 @@ use Rattle.aas_outside_disk.specs.Files.{Files, file, same_part}
 use Rattle.aas_outside_disk.specs.Piece.{IsRead, PieceState, bytes_at, lies_in, piece_after, piece_at, piece_bytes}
 use Rattle.aas_outside_disk.proofs.Follows.{same_part-true}
 
+abbrev as_piece : Part → ℕ → List ℕ → PieceState
+as_piece part at bytes = record { part = part; at = at; bytes = bytes }
+
 -- what was read into the front of the storage is the piece
 pub front_read : (part : Part) (at count len : ℕ) (front rest items bytes : List ℕ) → length front ≡ count → count ≤ len
     → front ≡ take count (drop at bytes)
-    → ◌≡◌ {A = PieceState} (record { part = part; at = at; bytes = take count (take len ((front ++ rest) ++ drop (length (front ++ rest)) items)) })
-    (record { part = part; at = at; bytes = take count (drop at bytes) })
+    → as_piece part at (take count (take len ((front ++ rest) ++ drop (length (front ++ rest)) items)))
+    ≡ as_piece part at (take count (drop at bytes))
 front_read part at count len front rest items bytes whole within told =
     ap
-    (λ (l : List ℕ). record { part = part; at = at; bytes = l })
+    (as_piece part at)
     (take-take count len _ within ∙ take-append-le count (front ++ rest) _ (omega (arith, whole, length-append front rest))
     ∙ take-append-le count front rest (omega (arith, whole)) ∙ take_all count front (omega (arith, whole)) ∙ told)
 
@@ -30,17 +33,18 @@ second_of false false x y z out is = absurd (true≢false (sym is))
 pub fetched : (seen now : Option Files) (old new : PieceState) (part : Part) (at count size most : ℕ) → lies_in old part at count ≡ false
     → 0 < count → count < piece_bytes → most ≡ min (size - at) piece_bytes
     → IfSome seen (λ files. size ≡ length (file part files))
-    → now ≡ seen → IfSome now (λ files. new ≡ record { part = part; at = at; bytes = take most (drop at (file part files)) })
+    → now ≡ seen → IfSome now (λ files. new ≡ as_piece part at (take most (drop at (file part files))))
     → IfSome seen (λ files. new ≡ piece_after files old part at count)
 fetched None now old new part at count size most out some short most_is size_is same read = tt
 fetched (Some files) now old new part at count size most out some short most_is size_is same read =
     let bytes = drop at (file part files) in
-    let as_piece : List ℕ → PieceState = λ l. record { part = part; at = at; bytes = l } in
-    let is_read : Files → Type 0 = λ f. new ≡ record { part = part; at = at; bytes = take most (drop at (file part f)) } in
+    let is_read : Files → Type 0 = λ f. new ≡ as_piece part at (take most (drop at (file part f))) in
     let all : most ≡ min piece_bytes (length bytes) = omega (arith, most_is, size_is, length-drop at (file part files)) in
-    let can : (nat_lt 0 count && nat_lt count piece_bytes) ≡ true = and_from _ _ (lt-ltb 0 count some) (lt-ltb count piece_bytes short) in
-    subst (λ (told : Option Files). IfSome told is_read) same read ∙ ap as_piece (ap (λ (n : ℕ). take n bytes) all ∙ take_min piece_bytes bytes)
-    ∙ sym (second_of (lies_in old part at count) (nat_lt 0 count && nat_lt count piece_bytes) old (piece_at files part at) (record old { bytes = [] }) out can)
+    let can = nat_lt 0 count && nat_lt count piece_bytes in
+    let begun : can ≡ true = and_from _ _ (lt-ltb 0 count some) (lt-ltb count piece_bytes short) in
+    subst (λ (told : Option Files). IfSome told is_read) same read
+    ∙ ap (as_piece part at) (ap (λ (n : ℕ). take n bytes) all ∙ take_min piece_bytes bytes)
+    ∙ sym (second_of (lies_in old part at count) can old (piece_at files part at) (record old { bytes = [] }) out begun)
 
 -- where a range lies in a piece it is a part of it
 module _ (piece : PieceState) (part : Part) (at count : ℕ) (lies : true ≡ lies_in piece part at count) where
@@ -77,6 +81,7 @@ module _ (piece : PieceState) (part : Part) (at count : ℕ) (lies : true ≡ li
       ∙ ap (λ (n : ℕ). take count (drop n bytes)) place
       ∙ ap (λ (p : Part). take count (drop at (file p files))) (sym (same_part-true part piece.part tests.0))
 
-  pub given : (seen : Option Files) → ForSome seen (λ files. IsRead files piece) → IfSome seen (λ files. bytes_at piece at count ≡ take count (drop at (file part files)))
+  pub given : (seen : Option Files) → ForSome seen (λ files. IsRead files piece)
+      → IfSome seen (λ files. bytes_at piece at count ≡ take count (drop at (file part files)))
   given None read = tt
   given (Some files) read = given_by files (read files refl)
