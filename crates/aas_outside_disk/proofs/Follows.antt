@@ -66,7 +66,7 @@ mem_file-with Selector Main change files = refl
 mem_file-with Selector Spare change files = refl
 mem_file-with Selector Selector change files = refl
 
-same_part-true : (part other : Part) → same_part part other ≡ true → part ≡ other
+pub same_part-true : (part other : Part) → same_part part other ≡ true → part ≡ other
 same_part-true Main Main is = refl
 same_part-true Spare Spare is = refl
 same_part-true Selector Selector is = refl

@@ -3,5 +3,6 @@ mod DiskCalls
 mod Follows
 mod Images
 mod Ones
+mod Pieces
 mod Records
 mod Written

@@ -8,3 +8,5 @@ pub mod MemFile
 pub mod MemFiles
 pub mod MemRecord
 pub mod MemRecordInside
+pub mod Piece
+pub mod ReadAhead

@@ -13,11 +13,14 @@ mod memory_file;
 mod memory_files;
 mod memory_record;
 mod part;
+mod piece;
+mod read_ahead;
 
 pub use crash::Crash;
 pub use disk::Disk;
 pub use memory_disk::MemDisk;
 pub use part::Part;
+pub use read_ahead::ReadAhead;
 
 #[cfg(test)]
 mod tests;

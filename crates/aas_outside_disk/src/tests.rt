@@ -1,5 +1,5 @@
-// A disk in memory: what each sort of crash leaves, and the calls that fail.
-use crate::{Crash, Disk, MemDisk, Part};
+// A disk in memory: what each sort of crash leaves, and the calls that fail. A disk that reads ahead over it.
+use crate::{Crash, Disk, MemDisk, Part, ReadAhead};
 use aas_outside::Failed;
 use std::alloc::Global;
 use std::test::Fail;
@@ -66,4 +66,38 @@ fn fails(disk: &mut MemDisk) -> Result<(), Fail> {
 fn calls_that_fail(rt: HostRuntime) -> Result<(), Fail> {
     let mut disk = MemDisk::new(rt.alloc(), b"abc", b"", b"", 1, &[2], 3)?;
     fails(&mut disk)
+}
+
+fn pair<D: Disk>(disk: &mut D, at: u64) -> Result<[u8; 2], Failed> {
+    let mut buf = [0; 2];
+    let length = disk.length(Part::Main)?;
+    if length < 2 || at > length - 2 {
+        return Err(Failed);
+    }
+    disk.read_at(Part::Main, at, &mut buf)?;
+    Ok(buf)
+}
+
+fn reads_ahead<D: Disk>(disk: &mut D) -> Result<(), Fail> {
+    expect(pair(disk, 0) == Ok(*b"aa"), "the first bytes")?;
+    expect(
+        pair(disk, 65_535) == Ok(*b"bc"),
+        "across the end of the piece",
+    )?;
+    expect(pair(disk, 0) == Ok(*b"aa"), "the first bytes again")?;
+    expect(disk.write_at(Part::Main, 0, b"xy").is_ok(), "a write")?;
+    expect(pair(disk, 0).is_err(), "the thirteenth call")?;
+    expect(pair(disk, 0) == Ok(*b"xy"), "what was written")?;
+    expect(pair(disk, 1) == Ok(*b"ya"), "in the same piece")
+}
+
+// Each pair takes three calls of the disk below where a piece is read, and one where it is there.
+#[test]
+fn a_disk_that_reads_ahead(rt: HostRuntime) -> Result<(), Fail> {
+    let alloc = rt.alloc();
+    let mut bytes = vec![in alloc; b'a'; 65_535]?;
+    bytes.extend_from_slice(b"bcd")?;
+    let disk = MemDisk::new(alloc, &bytes, b"", b"", 8, &[13], 0)?;
+    let mut disk = ReadAhead::new(alloc, disk)?;
+    reads_ahead(&mut disk)
 }

@@ -1,2 +1,3 @@
 pub mod FileDisk
+pub mod Folder
 pub mod TcpWire

@@ -3,6 +3,7 @@ ghost use Rattle.std.specs.Prelude.{◌≡◌, None, IsSome, OnOk, length};
 ghost use Rattle.aas_outside.specs.Faults.{HasCause};
 ghost use Rattle.aas_outside_disk.specs.Disk.{Meanwhile, Tears};
 ghost use Rattle.aasd.specs.FileDisk.{AnyImage};
+ghost use Rattle.aasd.specs.Folder.{HasNoneOpen};
 
 use crate::faults::FaultCount;
 use crate::folder::Folder;
@@ -26,7 +27,8 @@ pub struct FileDisk<F> {
 impl<F: Files<File = File>> FileDisk<F> {
     /// A disk with no file opened yet.
     pub fn new(files: F) -> Self
-        ensures { result.faults.count ≡ 0 }
+        ensures files { HasNoneOpen result.folder }
+        ensures faults { result.faults.count ≡ 0 }
     {
         FileDisk {
             folder: Folder::new(files),

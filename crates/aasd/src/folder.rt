@@ -1,5 +1,6 @@
 // The files of the journal in the current folder.
 ghost use Rattle.std.specs.Prelude.{IsSome, OnOk};
+ghost use Rattle.aasd.specs.Folder.{HasNoneOpen};
 
 use aas_outside_disk::Part;
 use std::fs::{File, Files, OpenFile, OpenOptions};
@@ -19,7 +20,9 @@ pub struct Folder<F> {
 
 impl<F: Files<File = File>> Folder<F> {
     /// No file is opened yet.
-    pub fn new(files: F) -> Self {
+    pub fn new(files: F) -> Self
+        ensures { HasNoneOpen result }
+    {
         Folder {
             files,
             main: None,

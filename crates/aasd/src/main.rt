@@ -13,6 +13,7 @@ mod patience;
 mod tcp_wire;
 
 use aas_model_text::{Many, NoMemory, Text};
+use aas_outside_disk::ReadAhead;
 use aas_server::{Status, run};
 use console::ConsoleLink;
 use file_disk::FileDisk;
@@ -35,7 +36,7 @@ fn run_on(rt: &HostRuntime) -> Result<u8, NoMemory> {
     let words = words(rt)?;
     let mut console = ConsoleLink::new(rt.stdin(), rt.stdout());
     let mut wire = TcpWire::new(rt.clone()?);
-    let disk = FileDisk::new(rt);
+    let disk = ReadAhead::new(rt.alloc(), FileDisk::new(rt))?;
     Ok(run(rt.alloc(), &words, &mut console, &mut wire, disk).status)
 }
 
