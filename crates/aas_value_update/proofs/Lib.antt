@@ -1,7 +1,6 @@
 pub mod Alone
 pub mod Canonical
 pub mod Elements
-pub mod Itself
 pub mod Laid
 pub mod Members
 pub mod Named
@@ -9,9 +8,12 @@ pub mod OneForm
 pub mod OneUpdate
 pub mod Order
 pub mod Own
+pub mod Pairs
+pub mod Replaced
 pub mod Rest
 pub mod Slots
-pub mod WholeOwn
 pub mod TakenKids
+pub mod Unchanged
+pub mod WholeOwn
 pub mod WholeParts
 pub mod WholeSubmodel

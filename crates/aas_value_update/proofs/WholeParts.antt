@@ -30,10 +30,9 @@ use Rattle.aas_value_update.specs.LeftAlone.{shows_children, left_alone}
 use Rattle.aas_value_update.specs.Shape.{by_names, next_item, in_turn, by_entries, items_in, nothing_sent, if_sent, sent, Sendable, among, sendable_over, sendable, first_misshapen}
 use Rattle.aas_value_update.specs.Update.{IsElementUpdate}
 use Rattle.aas_value_update.proofs.Alone.{Level, level, kids_made}
-use Rattle.aas_value_update.proofs.Elements.{part_at, child_is}
-use Rattle.aas_value_update.proofs.Itself.{named_in, part_out}
+use Rattle.aas_value_update.proofs.Elements.{part_at, part_out, child_is}
 use Rattle.aas_value_update.proofs.Laid.{over_none}
-use Rattle.aas_value_update.proofs.OneForm.{alike_kids, apart_in, one_alone}
+use Rattle.aas_value_update.proofs.OneForm.{alike_kids, apart_in, named_in, one_alone}
 use Rattle.aas_value_update.proofs.OneUpdate.{names_alike}
 use Rattle.aas_value_update.proofs.Order.{names_below}
 use Rattle.aas_value_update.proofs.Rest.{left_alone_is}

@@ -1,5 +1,5 @@
 -- Laws of updates of values.
-use Rattle.std.specs.Prelude.{◌≡◌, ℕ, true, false, List, Some, IsTrue}
+use Rattle.std.specs.Prelude.{◌≡◌, ◌↔◌, ℕ, true, false, List, Some, IsTrue}
 use Rattle.serde_json.specs.Data.{Data, object, Members, no_members}
 use Rattle.aas_model_names.specs.declared.modifiers.Extent.TheVariants as extent
 use Rattle.aas_model_names.specs.declared.kind.Kind.TheVariants as kind
@@ -18,8 +18,9 @@ use Rattle.aas_constraint_laws.specs.Valid.{IsValid, is_whole}
 use Rattle.aas_constraint_laws.specs.Values.{DifferInValues}
 use Rattle.aas_value.specs.ValueForm.{child_of, value_form}
 use Rattle.aas_value_update.specs.Json.{is_part}
-use Rattle.aas_value_update.specs.Kinds.{part_of}
+use Rattle.aas_value_update.specs.Kinds.{part_of, lay}
 use Rattle.aas_value_update.specs.LeftAlone.{unshown}
+use Rattle.aas_value_update.specs.Shape.{HasShape}
 use Rattle.aas_value_update.specs.Update.{IsElementUpdate, IsValueUpdate}
 
 -- the parts of an element make its value form
@@ -58,6 +59,16 @@ UpdateStaysWhole = (d u : Submodel) (p : List PathStep) (v : Data) → IsValid (
 abbrev pub OwnFormStays : Type 0
 OwnFormStays = (e u : Element) (v : Data) → IsInOrder e → value_form extent.WithBlobValue e ≡ Some v
     → IsElementUpdate e v u → u ≡ e
+
+-- a value form laid over that of an element that differs in values alone is itself: each member is there
+abbrev pub WholeFormReplaces : Type 0
+WholeFormReplaces = (e u : Element) (w v : Data) → IsInOrder e → DifferInValues e u
+    → value_form extent.WithBlobValue e ≡ Some w → value_form extent.WithBlobValue u ≡ Some v → lay e w v ≡ v
+
+-- so an update by the value form of an element that has the same Operations and Capabilities makes just this element
+abbrev pub WholeFormMakesElement : Type 0
+WholeFormMakesElement = (e u w : Element) (v : Data) → IsInOrder e → DifferInValues e u → unshown u ≡ unshown e
+    → value_form extent.WithBlobValue u ≡ Some v → IsElementUpdate e v w ↔ (HasShape e v × (w ≡ u))
 
 -- an object without members changes nothing, but where it would be a whole reference
 abbrev pub NoMembersChangeNothing : Type 0

@@ -6,7 +6,7 @@
 
 ghost use Rattle.aas_value_update.specs.Laws.{PartsMakeForm, OneForm, OneElementUpdate, OneValueUpdate};
 ghost use Rattle.aas_value_update.specs.Laws.{UpdateStaysWhole, OwnFormStays, NoMembersChangeNothing};
-ghost use Rattle.aas_value_update.specs.Laws.{SentIsCanonical};
+ghost use Rattle.aas_value_update.specs.Laws.{WholeFormReplaces, WholeFormMakesElement, SentIsCanonical};
 
 /// What the parts of each kind make is the value form.
 pub fn parts_make_value_form()
@@ -32,6 +32,13 @@ pub fn updates_stay_whole()
 /// An element that is updated by its own value form stays as it is.
 pub fn own_form_stays()
     ensures { OwnFormStays }
+{}
+
+/// A value form laid over another of the same parts is itself, and an update by the value form of an element that has the
+/// same Operations and Capabilities makes just this element, where the form may be sent.
+pub fn whole_forms_replace()
+    ensures form { WholeFormReplaces }
+    ensures element { WholeFormMakesElement }
 {}
 
 /// An update by an object without members changes nothing.
