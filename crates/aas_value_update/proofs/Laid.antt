@@ -33,9 +33,16 @@ form_entries xs = onto (forms_of (map annotation_value (children xs))) no_items
 abbrev pub laid_first : Bool → (Data → Data → Data) → (Items → Items → Items) → Items → Items → Items
 laid_first b f more ws vs = if b then laid_item f more ws vs else more ws vs
 
+-- and what fits it
+abbrev pub fits_first : Bool → (Data → Bool) → (Items → Bool) → Items → Bool
+fits_first b test more ds = if b then item_fits test more ds else more ds
+
 -- ---- under a name
 
--- how what is sent under a name is laid
+-- what may be sent under a name, and how it is laid
+abbrev pub fits_named : List ℕ → List Part → Data → Bool
+fits_named n xs = by_name n (λ x. x.fits) xs (λ d. false)
+
 abbrev pub lay_named : List ℕ → List Part → Data → Data → Data
 lay_named n xs = by_name n (λ x. x.lay) xs later
 

@@ -1,6 +1,11 @@
+pub mod Again
 pub mod Alone
 pub mod Canonical
+pub mod Composed
 pub mod Elements
+pub mod Entire
+pub mod Fitting
+pub mod Joined
 pub mod Laid
 pub mod Members
 pub mod Named
@@ -11,6 +16,9 @@ pub mod Own
 pub mod Pairs
 pub mod Replaced
 pub mod Rest
+pub mod Rising
+pub mod SameParts
+pub mod Sent
 pub mod Slots
 pub mod TakenKids
 pub mod Unchanged

@@ -32,6 +32,13 @@ Pairs R [] [] = Unit {0}
 Pairs R (x ∷ xs) (y ∷ ys) = R x y × Pairs R xs ys
 Pairs R xs ys = ⊥
 
+-- what holds of the parts themselves
+pub first_each : (P : Part → Type 0) (xs ys : List Part) → Pairs (λ x y. P x) xs ys → Each P xs
+first_each P [] [] pairs = tt
+first_each P [] (y ∷ ys) pairs = absurd pairs
+first_each P (x ∷ xs) [] pairs = absurd pairs
+first_each P (x ∷ xs) (y ∷ ys) pairs = (pairs.0, first_each P xs ys pairs.1)
+
 -- two forms of the same making, by their parts; the parts of entries differ in names
 abbrev pub Forms : (Part → Part → Type 0) → Form → Form → Type 0
 Forms R nothing nothing = Unit {0}

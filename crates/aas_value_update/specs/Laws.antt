@@ -21,7 +21,7 @@ use Rattle.aas_value_update.specs.Json.{is_part}
 use Rattle.aas_value_update.specs.Kinds.{part_of, lay}
 use Rattle.aas_value_update.specs.LeftAlone.{unshown}
 use Rattle.aas_value_update.specs.Shape.{HasShape}
-use Rattle.aas_value_update.specs.Update.{IsElementUpdate, IsValueUpdate}
+use Rattle.aas_value_update.specs.Update.{IsElementUpdate, IsValueUpdate, updated}
 
 -- the parts of an element make its value form
 abbrev pub PartsMakeForm : Type 0
@@ -74,6 +74,26 @@ WholeFormMakesElement = (e u w : Element) (v : Data) → IsInOrder e → DifferI
 abbrev pub NoMembersChangeNothing : Type 0
 NoMembersChangeNothing = (e u : Element) (ms : Members) → IsInOrder e → ¬ (kind_of e ≡ kind.ReferenceElement)
     → value_form extent.WithBlobValue e ≡ Some (object ms) → IsElementUpdate e (object no_members) u → u ≡ e
+
+-- ---- one update after another; the names of what is sent rise
+
+-- an update by w, of what an update by v has made, is one by w laid over v, where w fits
+abbrev pub UpdatesCompose : Type 0
+UpdatesCompose = (e u x : Element) (v w : Data) → IsInOrder e → IsOrdered v → IsOrdered w
+    → IsElementUpdate e v u → IsElementUpdate u w x ↔ (HasShape e w × IsElementUpdate e (lay e v w) x)
+
+-- so it is with updates at one path of a valid submodel
+abbrev pub ValueUpdatesCompose : Type 0
+ValueUpdatesCompose = (d u x : Submodel) (p : List PathStep) (e : Element) (v w : Data) → IsValid (submodel d) → IsOrdered v → IsOrdered w
+    → updated d p ≡ Some e → IsValueUpdate d p v u → IsValueUpdate u p w x ↔ (HasShape e w × IsValueUpdate d p (lay e v w) x)
+
+-- what fits laid over what fits fits
+abbrev pub LaidValuesFit : Type 0
+LaidValuesFit = (e : Element) (v w : Data) → IsInOrder e → IsOrdered v → IsOrdered w → HasShape e v → HasShape e w → HasShape e (lay e v w)
+
+-- and its names rise
+abbrev pub LaidNamesRise : Type 0
+LaidNamesRise = (e : Element) (v w : Data) → IsInOrder e → IsOrdered v → IsOrdered w → IsOrdered (lay e v w)
 
 -- what may be sent of a sort is canonical JSON: it says itself by the attribute table
 abbrev pub SentIsCanonical : Type 0
