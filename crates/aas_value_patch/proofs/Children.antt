@@ -22,10 +22,9 @@ use Rattle.aas_value_update.specs.Kinds.{part_of}
 use Rattle.aas_value_update.specs.Parts.{Part, name_is, is_called, entry, children, members_fit, is_empty, item_fits, items_fit, entries_fit, fits_if}
 use Rattle.aas_value_update.specs.Shape.{under_name, next_item, in_turn, by_entries}
 use Rattle.aas_value_update.proofs.Canonical.{order_rises}
-use Rattle.aas_value_update.proofs.Itself.{part_out}
 use Rattle.aas_value_update.proofs.Named.{Apart}
 use Rattle.aas_json_spelling.specs.Values.{HasOrder}
-use Rattle.aas_value_update.proofs.Elements.{child_is}
+use Rattle.aas_value_update.proofs.Elements.{part_out, child_is}
 use Rattle.aas_value_patch.specs.Counted.{one_if_some, found, each_fits}
 use Rattle.aas_value_patch.proofs.Counted.{counted}
 

@@ -32,7 +32,7 @@ use Rattle.aas_value_update.specs.Parts.{children, fits_form}
 use Rattle.aas_value_update.specs.Shape.{Sendable, sendable, sendable_over, among, sent, first_misshapen}
 use Rattle.aas_value_update.specs.Took.{NamedIn}
 use Rattle.aas_value_update.proofs.Elements.{part_at}
-use Rattle.aas_value_update.proofs.Itself.{named_in}
+use Rattle.aas_value_update.proofs.OneForm.{named_in}
 use Rattle.aas_value_update.proofs.Order.{order_below}
 use Rattle.aas_value_patch.specs.Faults.{Shapes}
 use Rattle.aas_value_patch.specs.Gathered.{SoFar, Gathered, GatheredAll, Reached, AllInOrder, IfOrdered, AllOrdered, misshapen}

@@ -1,5 +1,5 @@
 -- A value that fits the table and has no empty list says itself.
-use Rattle.std.proofs.Common.{◌≡◌, ℕ, ◌+◌, ◌&&◌, ◌||◌, not, Bool, true, false, List, [], ◌∷◌, Option, Some, None, is_some, is_none, option_map, option_and_then, if◌then◌else◌, Ordering, Less, Equal, Greater, nat_cmp, is_lt, is_eq, refl, sym, ap, ap₂, ◌∙◌, subst, true≢false}
+use Rattle.std.proofs.Common.{◌≡◌, ℕ, ◌+◌, ◌&&◌, ◌||◌, not, Bool, true, false, List, [], ◌∷◌, Option, Some, None, is_some, is_none, option_map, if◌then◌else◌, Ordering, Less, Equal, Greater, nat_cmp, is_lt, refl, sym, ap, ap₂, ◌∙◌, true≢false}
 use Rattle.std.specs.Prelude.{bytes_eq}
 use Rattle.std.specs.Cmp.Lexicographic.{slice_cmp}
 use Rattle.std.specs.Ordering.{match_ordering}
@@ -8,14 +8,14 @@ use Rattle.serde_json.specs.Find.{get_member}
 use Rattle.aas_lemmas.proofs.Truth.{and_left, and_right, Less-from_is_lt}
 use Rattle.aas_json_table.specs.Names.{has}
 use Rattle.aas_json_table.specs.Table.{Sort, MemberType, text, flag, word, one, many, kept, plain, Row}
-use Rattle.aas_json_table.specs.Rows.{Pointer, in_member, in_item, first_of, row_named, rows_of}
+use Rattle.aas_json_table.specs.Rows.{in_member, in_item, row_named, rows_of}
 use Rattle.aas_json_table.specs.Misfit.{misfit, misfit_items, misfit_members, misfit_member, misfit_object, misfit_all, missing}
 use Rattle.aas_json_table.specs.TooDeep.{limits, too_deep}
 use Rattle.aas_json_table.specs.Canonical.{canonical, canonical_items, canonical_member, canonical_all, canonical_object, are_there, members_by, listed, add_item, add}
 use Rattle.aas_json_spelling.specs.Values.{IsOrdered, AreOrdered, AreAbove, HasOrder}
 use Rattle.aas_json_spelling.proofs.Fits.{first_none, map_none, fits_one, no_fault}
 use Rattle.aas_json_spelling.proofs.Nesting.{row_of}
-use Rattle.aas_json_spelling.proofs.Objects.{finds, canonical_member_is}
+use Rattle.aas_json_spelling.proofs.Objects.{finds}
 use Rattle.aas_json_spelling.proofs.Rows.{is_below, rising, rows_rise, same_text}
 use Rattle.aas_value_update.specs.Json.{has_empty_list, some_has_empty_list, member_has_empty_list, is_part}
 use Rattle.aas_value_update.proofs.Members.{Rises, known, same_name, get_past}

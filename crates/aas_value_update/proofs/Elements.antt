@@ -5,13 +5,14 @@ use lib.Utf8.{encode}
 use Rattle.serde_json.specs.Data.{Data}
 use Rattle.aas_model_names.specs.declared.modifiers.Extent.TheVariants as extent
 use Rattle.aas_model.specs.declared.common.Common.{Common}
-use Rattle.aas_model.specs.declared.element.Element.{Element, fold-Element}
+use Rattle.aas_model.specs.declared.element.Element.{Element, out-Element, fold-Element}
 use Rattle.aas_model.specs.declared.element.Element.TheFolds.{fold-roll-Element}
 use Rattle.aas_model.specs.declared.element.Role.{Role}
 use Rattle.aas_model.specs.declared.payload.Payload.{Payload}
 use Rattle.aas_model.specs.declared.payload.Payload.TheVariants as p
-use Rattle.aas_json_mapping.proofs.Elements.{made, by_children}
+use Rattle.aas_json_mapping.proofs.Elements.{made, made_out, by_children}
 use Rattle.aas_json_spelling.specs.Lists.{Each}
+use Rattle.aas_path_trees.specs.Children.{kids_of}
 use Rattle.aas_constraint_laws.specs.Values.{without_values}
 use Rattle.aas_value.specs.ValueForm.{Child, as_child, child_of, value_over}
 use Rattle.aas_value_update.specs.Parts.{Part, value, children}
@@ -23,6 +24,10 @@ use Rattle.aas_value_update.specs.LeftAlone.{shows_children, Left, left_over, le
 pub part_at : (r : Role) (c : Common) (x : Payload) (ks : List Element) → part_of (made r c x ks) ≡ child_part c.id_short (form_of x (map part_of ks))
 unfolding part_of
 part_at r c x ks = fold-roll-Element Part part_over (record { common = c; payload = x; role = r; kids = ks })
+
+pub part_out : (e : Element) → part_of e
+    ≡ child_part (out-Element e).common.id_short (form_of (out-Element e).payload (map part_of (kids_of e)))
+part_out e = let x = out-Element e in ap part_of (sym (made_out e)) ∙ part_at x.role x.common x.payload x.kids
 
 pub child_at : (r : Role) (c : Common) (x : Payload) (ks : List Element)
     → child_of extent.WithBlobValue (made r c x ks) ≡ record { name = c.id_short; form = value_over extent.WithBlobValue x (map (child_of extent.WithBlobValue) ks) }

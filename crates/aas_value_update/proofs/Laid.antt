@@ -14,7 +14,37 @@ use Rattle.aas_value_update.specs.Shape.{under_name, next_item, in_turn, by_entr
 use Rattle.aas_value_update.specs.Took.{TookOne, Took, AreNamed}
 use Rattle.aas_value_update.proofs.Members.{Rises, put_rises, same_name, name_itself, get_here, get_past, known}
 
+-- ---- the members, items and entries of a value form
+
+abbrev pub form_members : List Part → Members
+form_members xs = put_children (children xs) no_members
+
+abbrev pub form_items : List Part → Items
+form_items xs = onto (forms_of (children xs)) no_items
+
+-- with a first one before those of the parts
+abbrev pub items_with : Option Data → List Part → Items
+items_with o xs = onto (cons_option o (forms_of (children xs))) no_items
+
+abbrev pub form_entries : List Part → Items
+form_entries xs = onto (forms_of (map annotation_value (children xs))) no_items
+
+-- a first part's item laid, where it has one, and the others
+abbrev pub laid_first : Bool → (Data → Data → Data) → (Items → Items → Items) → Items → Items → Items
+laid_first b f more ws vs = if b then laid_item f more ws vs else more ws vs
+
+-- and what fits it
+abbrev pub fits_first : Bool → (Data → Bool) → (Items → Bool) → Items → Bool
+fits_first b test more ds = if b then item_fits test more ds else more ds
+
 -- ---- under a name
+
+-- what may be sent under a name, and how it is laid
+abbrev pub fits_named : List ℕ → List Part → Data → Bool
+fits_named n xs = by_name n (λ x. x.fits) xs (λ d. false)
+
+abbrev pub lay_named : List ℕ → List Part → Data → Data → Data
+lay_named n xs = by_name n (λ x. x.lay) xs later
 
 abbrev pub form : Part → Option Data
 form x = x.child.form
@@ -217,8 +247,17 @@ items_laid (x ∷ xs) ys ds fits took =
 
 -- ---- entries
 
-entry_items : List Part → Items
-entry_items xs = onto (forms_of (map annotation_value (children xs))) no_items
+pub called_alike : (n : List ℕ) (c d : Child) → c.name ≡ d.name → is_some c.form ≡ is_some d.form → is_called n c ≡ is_called n d
+called_alike n c d name there = ap₂ (λ m b. name_is n m && b) name there
+
+pub entry_alike : (c d : Child) → c.name ≡ d.name → is_some c.form ≡ is_some d.form → (ds : Items) → entry c ds ≡ entry d ds
+entry_alike c d name there (item (object (member n v no_members)) ds) =
+    ap (λ (b : Bool). if b then (Some v, ds) else (None, item (object (member n v no_members)) ds)) (called_alike n c d name there)
+entry_alike c d name there ds = refl
+
+pub put_entry_named : (c d : Child) → c.name ≡ d.name → (o : Option Data) (ds : Items) → put_entry c o ds ≡ put_entry d o ds
+put_entry_named c d name None ds = refl
+put_entry_named c d name (Some v) ds = ap (λ (m : Option (List ℕ)). item (named (record { name = m; form = Some v } ∷ [])) ds) name
 
 pub entry_before : (c : Child) (ds : List Data) → onto (cons_option (annotation_value c).form ds) no_items ≡ put_entry c c.form (onto ds no_items)
 entry_before c ds = by_form c.form refl
@@ -238,13 +277,21 @@ entry_none o (item (object (member n d no_members)) ds) = no_entry n d ds (name_
 entry_none o ds = refl
 
 -- a part's own entry stands for it
-pub entry_own : (n : List ℕ) (o : Option (List ℕ)) (f : Option Data) → o ≡ Some n → (rest : Items) → entry (record { name = o; form = f }) (put_entry (record { name = o; form = f }) f rest) ≡ (f, rest)
+entry_own : (n : List ℕ) (o : Option (List ℕ)) (f : Option Data) → o ≡ Some n → (rest : Items)
+    → entry (record { name = o; form = f }) (put_entry (record { name = o; form = f }) f rest) ≡ (f, rest)
 entry_own n None f e rest = cc
 entry_own n (Some m) None e rest = entry_none (Some m) rest
 entry_own n (Some m) (Some d) e rest = ap chosen (name_itself (encode_utf8_all m))
   where
     chosen : Bool → Option Data × Items
     chosen b = if b && true then (Some d, rest) else (None, item (object (member (encode_utf8_all m) d no_members)) rest)
+
+-- and stands at the front of its value form
+pub own_entry : (n : List ℕ) (x : Part) (xs : List Part) → x.child.name ≡ Some n
+    → entry x.child (form_entries (x ∷ xs)) ≡ (form x, form_entries xs)
+own_entry n x xs name =
+    ap (entry x.child) (entry_before x.child (forms_of (map annotation_value (children xs))))
+    ∙ entry_own n x.child.name (form x) name (form_entries xs)
 
 renamed : (c : Child) (f : Option Data) (rest : Items) → put_entry (record { name = c.name; form = f }) f rest ≡ put_entry c f rest
 renamed c None rest = refl
@@ -258,9 +305,8 @@ entries_laid [] (y ∷ ys) ds names fits took = absurd took
 entries_laid (x ∷ xs) [] ds names fits took = absurd took
 entries_laid (x ∷ xs) (y ∷ ys) ds names fits took =
     let e = entry x.child ds in
-    let old = onto (forms_of (map annotation_value (children xs))) no_items in
     let new = onto (forms_of (map annotation_value (children ys))) no_items in
-    let mine = ap (entry x.child) (entry_before x.child (forms_of (map annotation_value (children xs)))) ∙ entry_own names.0.0 x.child.name x.child.form names.0.1 old in
+    let mine = own_entry names.0.0 x xs names.0.1 in
     entry_before y.child (forms_of (map annotation_value (children ys)))
     ∙ ap (λ (c : Child). put_entry c c.form new) took.0
     ∙ renamed x.child (over x.lay x.child.form e.0) new

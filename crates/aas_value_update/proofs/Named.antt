@@ -1,11 +1,15 @@
 -- Children under their names.
-use Rattle.std.proofs.Common.{◌≡◌, ℕ, List, [], ◌∷◌, Option, Some, None, is_some, refl, sym, ap, ap₂, ◌∙◌}
+use Rattle.std.proofs.Common.{◌≡◌, ℕ, ◌&&◌, Bool, true, false, List, [], ◌∷◌, Option, Some, None, is_some, refl, sym, ap, ap₂, ◌∙◌}
+use Rattle.std.specs.Prelude.{bytes_eq}
+use Rattle.std.proofs.lemmas.Bool.{and_from}
 use Rattle.std.specs.Str.{encode_utf8_all}
 use Rattle.std.proofs.lemmas.Str.{encodes_same}
 use Rattle.serde_json.specs.Data.{Data, put, Members, no_members}
 use Rattle.serde_json.specs.Find.{get_member}
 use Rattle.serde_json.proofs.Views.{get_member-put, get_member-put_other}
 use Rattle.aas_value.specs.ValueForm.{Child, put_child, put_children, named}
+use Rattle.aas_value_update.specs.Parts.{is_called}
+use Rattle.aas_value_update.proofs.Members.{same_name, name_itself}
 
 -- no child has the name n
 abbrev pub IsNew : List ℕ → List Child → Type 0
@@ -67,3 +71,24 @@ same_put (c ∷ cs) (d ∷ ds) ms ns a h e =
 -- Objects of alike children that differ in names have the same values.
 pub same_named : (cs ds : List Child) → Apart cs → Alike cs ds → named cs ≡ named ds → cs ≡ ds
 same_named cs ds a h e = let ms : put_children cs no_members ≡ put_children ds no_members = cc in same_put cs ds no_members no_members a h ms
+
+-- ---- members for a child
+
+-- a name calls a child if it is the child's, and the child has a value
+pub not_called : (n : List ℕ) (o : Option (List ℕ)) (f : Option Data) → ¬ (o ≡ Some n)
+    → is_called (encode_utf8_all n) (record { name = o; form = f }) ≡ false
+not_called n None f other = refl
+not_called n (Some m) f other = by_test (bytes_eq (encode_utf8_all n) (encode_utf8_all m)) refl
+  where
+    by_test : (b : Bool) → bytes_eq (encode_utf8_all n) (encode_utf8_all m) ≡ b → b && is_some f ≡ false
+    by_test true is =
+        let same = encodes_same n m (same_name (encode_utf8_all n) (encode_utf8_all m) is) in
+        absurd (other (ap (λ (k : List ℕ). Some k) (sym same)))
+    by_test false is = refl
+
+pub called_itself : (n : List ℕ) (o : Option (List ℕ)) (f : Option Data) → o ≡ Some n → is_some f ≡ true
+    → is_called (encode_utf8_all n) (record { name = o; form = f }) ≡ true
+called_itself n None f name there = cc
+called_itself n (Some m) f name there =
+    let same : m ≡ n = cc in
+    and_from _ _ (ap (λ k. bytes_eq (encode_utf8_all k) (encode_utf8_all m)) (sym same) ∙ name_itself (encode_utf8_all m)) there

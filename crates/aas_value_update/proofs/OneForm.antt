@@ -17,6 +17,7 @@ use Rattle.aas_value_update.specs.Parts.{children}
 use Rattle.aas_value_update.specs.Kinds.{part_of}
 use Rattle.aas_value_update.specs.LeftAlone.{has_value, shows_children, left_alone}
 use Rattle.aas_value_update.specs.Laws.{NamesDiffer, OneForm}
+use Rattle.aas_value_update.specs.Took.{AreNamed, NamedIn}
 use Rattle.aas_value_update.proofs.Alone.{Level, level, whole, value_bare}
 use Rattle.aas_value_update.proofs.Elements.{part_at, value_is, child_is}
 use Rattle.aas_value_update.proofs.Rest.{left_alone_is}
@@ -82,6 +83,15 @@ apart_of (k ∷ ks) d =
       (n.0, name_is k ∙ n.1, new_of n.0 ks (λ i m there same. zero_suc i (d.apart zero (suc i) k m refl there (n.1 ∙ sym same)))),
       apart_of ks (record { named = λ i m. d.named (suc i) m; apart = λ i j m l a b s. suc_same i j (d.apart (suc i) (suc j) m l a b s) }),
     )
+
+names_of : (ks : List Element) → Apart (children (map part_of ks)) → AreNamed (map part_of ks)
+names_of [] a = tt
+names_of (k ∷ ks) a = ((a.0.0, a.0.1), names_of ks a.1)
+
+pub named_in : (x : Payload) (ks : List Element) → (is_list_payload x ≡ false → Differ ks) → NamedIn x (map part_of ks)
+named_in (p.AnnotatedRelationshipElement a b) ks d = names_of ks (apart_of ks (d refl))
+named_in p.Capability ks d = tt
+named_in _ ks d = tt
 
 -- ---- elements
 

@@ -80,7 +80,7 @@ for_turn (x ∷ xs) ds = by_form (is_some x.child.form) refl ds (for_turn xs)
     by_form true is (item d es) more = (λ e. absurd (true≢false (sym is ∙ e)), more es)
     by_form false is es more = (λ e. refl, more es)
 
-entry_formless : (c : Child) (ds : Items) → is_some c.form ≡ false → (entry c ds).0 ≡ None
+pub entry_formless : (c : Child) (ds : Items) → is_some c.form ≡ false → (entry c ds).0 ≡ None
 entry_formless c (item (object (member n d no_members)) ds) e = ap (λ (b : Bool). (chosen (name_is n c.name && b)).0) e ∙ never (name_is n c.name)
   where
     chosen : Bool → Option Data × Items

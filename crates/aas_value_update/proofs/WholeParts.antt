@@ -1,17 +1,15 @@
 -- The parts of a whole element stay whole in an update.
-use Rattle.std.proofs.Common.{◌≡◌, ℕ, zero, suc, ◌+◌, ◌&&◌, Bool, true, false, List, [], ◌∷◌, map, codes, Option, Some, None, is_some, option_map, option_and_then, slice_get, refl, sym, ap, ap₂, ◌∙◌, subst, true≢false}
+use Rattle.std.proofs.Common.{◌≡◌, ℕ, zero, suc, ◌&&◌, Bool, true, false, List, [], ◌∷◌, map, Option, Some, None, option_map, slice_get}
+use Rattle.std.proofs.Common.{refl, sym, ap, ◌∙◌, subst, true≢false}
 use Rattle.std.specs.Prelude.{if◌then◌else◌}
 use Rattle.std.specs.List.{list_all}
-use Rattle.std.specs.Str.{encode_utf8_all}
 use Rattle.std.proofs.lemmas.Bool.{and_parts, and_from}
-use Rattle.serde_json.specs.Data.{Data, array, object, Items, no_items, item, member, no_members}
-use Rattle.serde_json.specs.Find.{get, get_member}
-use Rattle.aas_json_table.specs.Rows.{first_of}
+use Rattle.serde_json.specs.Data.{Data}
 use Rattle.aas_json_table.specs.TooDeep.{limits}
 use Rattle.aas_json_spelling.specs.Lists.{Each}
-use Rattle.aas_json_spelling.specs.Values.{IsOrdered, AreOrdered}
+use Rattle.aas_json_spelling.specs.Values.{IsOrdered}
 use Rattle.aas_json_mapping.specs.Whole.{has_whole_parts, whole_common, whole_payload}
-use Rattle.aas_json_mapping.proofs.Elements.{made, made_out, by_children}
+use Rattle.aas_json_mapping.proofs.Elements.{made, by_children}
 use Rattle.aas_model_names.specs.declared.modifiers.Extent.TheVariants as extent
 use Rattle.aas_model.specs.declared.common.Common.{Common}
 use Rattle.aas_model.specs.declared.element.Element.{Element, out-Element, fold_out-Element}
@@ -19,163 +17,25 @@ use Rattle.aas_model.specs.declared.element.Element.TheFolds.{fold-roll-Element}
 use Rattle.aas_model.specs.declared.element.Role.{Role}
 use Rattle.aas_model.specs.declared.payload.Payload.{Payload}
 use Rattle.aas_model.specs.declared.payload.Payload.TheVariants as p
-use Rattle.aas_constraint_rules.specs.Sites.{Own}
 use Rattle.aas_path_trees.specs.Children.{kids_of}
 use Rattle.aas_path_trees.specs.Places.{element_in}
 use Rattle.aas_value.specs.ValueForm.{Child, value_form}
-use Rattle.aas_value_update.specs.Parts.{Part, is_called, children, entry, over, value, lay_form, fits_form}
-use Rattle.aas_value_update.specs.Kinds.{form_of, child_part, part_of, lay}
+use Rattle.aas_value_update.specs.Parts.{Part, children, over, value, lay_form, fits_form}
+use Rattle.aas_value_update.specs.Kinds.{form_of, part_of, lay}
 use Rattle.aas_value_update.specs.Laws.{NamesDiffer, IsInOrder}
 use Rattle.aas_value_update.specs.LeftAlone.{shows_children, left_alone}
-use Rattle.aas_value_update.specs.Shape.{by_names, next_item, in_turn, by_entries, items_in, nothing_sent, if_sent, sent, Sendable, among, sendable_over, sendable, first_misshapen}
+use Rattle.aas_value_update.specs.Shape.{sent, first_misshapen}
 use Rattle.aas_value_update.specs.Update.{IsElementUpdate}
 use Rattle.aas_value_update.proofs.Alone.{Level, level, kids_made}
-use Rattle.aas_value_update.proofs.Elements.{part_at, child_is}
-use Rattle.aas_value_update.proofs.Itself.{named_in, part_out}
+use Rattle.aas_value_update.proofs.Elements.{part_out, child_is}
 use Rattle.aas_value_update.proofs.Laid.{over_none}
-use Rattle.aas_value_update.proofs.OneForm.{alike_kids, apart_in, one_alone}
+use Rattle.aas_value_update.proofs.OneForm.{alike_kids, apart_in, named_in, one_alone}
 use Rattle.aas_value_update.proofs.OneUpdate.{names_alike}
 use Rattle.aas_value_update.proofs.Order.{names_below}
 use Rattle.aas_value_update.proofs.Rest.{left_alone_is}
+use Rattle.aas_value_update.proofs.Sent.{IfOrdered, sent_ordered, IfShaped, AreShaped, IsShapedLevel, shape_out}
 use Rattle.aas_value_update.proofs.TakenKids.{all_taken, children_taken}
-use Rattle.aas_value_update.proofs.WholeOwn.{member_ordered, own_whole}
-
--- ---- what is sent for children is in order
-
-abbrev IfOrdered : Option Data → Type 0
-IfOrdered None = Unit {0}
-IfOrdered (Some d) = IsOrdered d
-
-found_ordered : (n : List ℕ) (v : Data) → IsOrdered v → IfOrdered (get n v)
-found_ordered n (object ms) order = by_found (get_member n ms) refl
-  where
-    by_found : (s : Option Data) → get_member n ms ≡ s → IfOrdered s
-    by_found None e = tt
-    by_found (Some d) e = member_ordered n ms d order e
-found_ordered n v order = tt
-
-named_ordered : (v : Data) → IsOrdered v → (b : Bool) (o : Option (List ℕ)) → IfOrdered (if b then option_and_then (λ n. get (encode_utf8_all n) v) o else None)
-named_ordered v order false o = tt
-named_ordered v order true None = tt
-named_ordered v order true (Some n) = found_ordered (encode_utf8_all n) v order
-
-names_ordered : (xs : List Part) (v : Data) → IsOrdered v → Each IfOrdered (by_names (children xs) v)
-names_ordered [] v order = tt
-names_ordered (x ∷ xs) v order = (named_ordered v order (is_some x.child.form) x.child.name, names_ordered xs v order)
-
-turn_ordered : (xs : List Part) (ds : Items) → AreOrdered ds → Each IfOrdered (in_turn (children xs) ds)
-turn_ordered [] ds order = tt
-turn_ordered (x ∷ xs) ds order = by_form (is_some x.child.form) ds order (turn_ordered xs)
-  where
-    by_form : (b : Bool) (ds : Items) → AreOrdered ds → ((es : Items) → AreOrdered es → Each IfOrdered (in_turn (children xs) es))
-        → Each IfOrdered (if b then next_item (in_turn (children xs)) ds else None ∷ in_turn (children xs) ds)
-    by_form true no_items order more = (tt, more no_items tt)
-    by_form true (item d es) order more = (order.0, more es order.1)
-    by_form false es order more = (tt, more es order)
-
-entry_ordered : (c : Child) (ds : Items) → AreOrdered ds → IfOrdered (entry c ds).0 × AreOrdered (entry c ds).1
-entry_ordered c (item (object (member n d no_members)) ds) order = by_name (is_called n c)
-  where
-    chosen : Bool → Option Data × Items
-    chosen b = if b then (Some d, ds) else (None, item (object (member n d no_members)) ds)
-
-    by_name : (b : Bool) → IfOrdered (chosen b).0 × AreOrdered (chosen b).1
-    by_name true = (order.0.1, order.1)
-    by_name false = (tt, order)
-entry_ordered c ds order = (tt, order)
-
-entries_ordered : (xs : List Part) (ds : Items) → AreOrdered ds → Each IfOrdered (by_entries (children xs) ds)
-entries_ordered [] ds order = tt
-entries_ordered (x ∷ xs) ds order = let e = entry_ordered x.child ds order in (e.0, entries_ordered xs (entry x.child ds).1 e.1)
-
-nothing_ordered : (xs : List Part) → Each IfOrdered (nothing_sent (children xs))
-nothing_ordered [] = tt
-nothing_ordered (x ∷ xs) = (tt, nothing_ordered xs)
-
-items_ordered : (d : Data) → IsOrdered d → AreOrdered (items_in d)
-items_ordered (array ds) order = order
-items_ordered d order = tt
-
-sent_ordered : (x : Payload) (xs : List Part) (v : Data) → IsOrdered v → Each IfOrdered (sent x (children xs) v)
-sent_ordered p.SubmodelElementCollection xs v order = names_ordered xs v order
-sent_ordered (p.Entity t g ids) xs v order = by_sent (get (codes "statements") v) (found_ordered (codes "statements") v order)
-  where
-    by_sent : (s : Option Data) → IfOrdered s → Each IfOrdered (if_sent (by_names (children xs)) (children xs) s)
-    by_sent None o = nothing_ordered xs
-    by_sent (Some d) o = names_ordered xs d o
-sent_ordered (p.AnnotatedRelationshipElement a b) xs v order = by_sent (get (codes "annotations") v) (found_ordered (codes "annotations") v order)
-  where
-    by_sent : (s : Option Data) → IfOrdered s → Each IfOrdered (if_sent (λ d. by_entries (children xs) (items_in d)) (children xs) s)
-    by_sent None o = nothing_ordered xs
-    by_sent (Some d) o = entries_ordered xs (items_in d) (items_ordered d o)
-sent_ordered (p.SubmodelElementList o s t a) xs v order = turn_ordered xs (items_in v) (items_ordered v order)
-sent_ordered p.Capability xs v order = nothing_ordered xs
-sent_ordered _ xs v order = nothing_ordered xs
-
--- ---- what is sent for children fits
-
-sendable_at : (r : Role) (c : Common) (x : Payload) (ks : List Element) → sendable (made r c x ks) ≡ sendable_over (record { common = c; payload = x; role = r; kids = map sendable ks })
-unfolding sendable
-sendable_at r c x ks = fold-roll-Element Sendable sendable_over (record { common = c; payload = x; role = r; kids = ks })
-
-parts_are : (ks : List Element) → Each (λ k. (sendable k).part ≡ part_of k) ks → map (λ (k : Sendable). k.part) (map sendable ks) ≡ map part_of ks
-parts_are [] each = refl
-parts_are (k ∷ ks) each = ap₂ (λ x xs. x ∷ xs) each.0 (parts_are ks each.1)
-
-part_is : (e : Element) → (sendable e).part ≡ part_of e
-part_is = by_children (λ e. (sendable e).part ≡ part_of e) (λ r c x ks each.
-    ap (λ (k : Sendable). k.part) (sendable_at r c x ks) ∙ ap (λ xs. child_part c.id_short (form_of x xs)) (parts_are ks each) ∙ sym (part_at r c x ks))
-
-all_parts_are : (ks : List Element) → map (λ (k : Sendable). k.part) (map sendable ks) ≡ map part_of ks
-all_parts_are [] = refl
-all_parts_are (k ∷ ks) = ap₂ (λ x xs. x ∷ xs) (part_is k) (all_parts_are ks)
-
-abbrev IfShaped : Element → Option Data → Type 0
-IfShaped k None = Unit {0}
-IfShaped k (Some d) = first_misshapen k d ≡ None
-
-abbrev AreShaped : List Element → List (Option Data) → Type 0
-AreShaped [] ss = Unit {0}
-AreShaped (k ∷ ks) [] = Unit {0}
-AreShaped (k ∷ ks) (s ∷ ss) = IfShaped k s × AreShaped ks ss
-
-neither : {X : Type 0} (a b : Option X) → first_of a b ≡ None → (a ≡ None) × (b ≡ None)
-neither None b e = (refl, e)
-neither (Some a) b e = absurd (cc)
-
-not_mapped : {X Y : Type 0} (f : X → Y) (a : Option X) → option_map f a ≡ None → a ≡ None
-not_mapped f None e = refl
-not_mapped f (Some a) e = absurd (cc)
-
-each_shaped : (o : Own) (n : ℕ) (ks : List Element) (ss : List (Option Data)) → among o n (map sendable ks) ss ≡ None → AreShaped ks ss
-each_shaped o n [] ss e = tt
-each_shaped o n (k ∷ ks) [] e = tt
-each_shaped o n (k ∷ ks) (None ∷ ss) e = (tt, each_shaped o (n + 1) ks ss e)
-each_shaped o n (k ∷ ks) (Some d ∷ ss) e = let none = neither _ _ e in (not_mapped _ _ none.0, each_shaped o (n + 1) ks ss none.1)
-
--- an element's own part of v fits, and so does what is sent for its children
-record IsShapedLevel (e : Element) (v : Data) : Type 0 where
-  own : fits_form (form_of (out-Element e).payload (map part_of (kids_of e))) v ≡ true
-  kids : AreShaped (kids_of e) (sent (out-Element e).payload (children (map part_of (kids_of e))) v)
-
-shape_at : (r : Role) (c : Common) (x : Payload) (ks : List Element) (v : Data) → first_misshapen (made r c x ks) v ≡ None
-    → (fits_form (form_of x (map part_of ks)) v ≡ true) × AreShaped ks (sent x (children (map part_of ks)) v)
-shape_at r c x ks v none =
-    let o : Own = record { common = c; payload = x; role = r } in
-    by_fit o (fits_form (form_of x (map part_of ks)) v)
-    (sym (ap (λ (xs : List Part). if fits_form (form_of x xs) v then among o 0 (map sendable ks) (sent x (children xs) v) else Some []) (all_parts_are ks))
-    ∙ sym (ap (λ (k : Sendable). k.misshapen v) (sendable_at r c x ks)) ∙ none)
-  where
-    by_fit : (o : Own) (b : Bool) → (if b then among o 0 (map sendable ks) (sent x (children (map part_of ks)) v) else Some []) ≡ None
-        → (b ≡ true) × AreShaped ks (sent x (children (map part_of ks)) v)
-    by_fit o true e = (refl, each_shaped o 0 ks _ e)
-    by_fit o false e = absurd (cc)
-
-shape_out : (e : Element) (v : Data) → first_misshapen e v ≡ None → IsShapedLevel e v
-shape_out e v none =
-    let x = out-Element e in
-    let both = shape_at x.role x.common x.payload x.kids v (ap (λ z. first_misshapen z v) (made_out e) ∙ none) in
-    record { own = both.0; kids = both.1 }
+use Rattle.aas_value_update.proofs.WholeOwn.{own_whole}
 
 -- ---- parts, one level at a time
 
@@ -196,17 +56,20 @@ whole_made r c x ks =
 
 StaysWhole : Element → Type 0
 StaysWhole e = (u : Element) (v : Data) → NamesDiffer e → left_alone u ≡ left_alone e → IsOrdered v → first_misshapen e v ≡ None
-    → (part_of u).child.form ≡ over (part_of e).lay (part_of e).child.form (Some v) → has_whole_parts limits e ≡ true → has_whole_parts limits u ≡ true
+    → (part_of u).child.form ≡ over (part_of e).lay (part_of e).child.form (Some v) → has_whole_parts limits e ≡ true
+    → has_whole_parts limits u ≡ true
 
 child_whole : (k u : Element) (s : Option Data) → StaysWhole k → NamesDiffer k → left_alone u ≡ left_alone k → IfOrdered s → IfShaped k s
-    → (part_of u).child.form ≡ over (part_of k).lay (part_of k).child.form s → has_whole_parts limits k ≡ true → has_whole_parts limits u ≡ true
+    → (part_of u).child.form ≡ over (part_of k).lay (part_of k).child.form s → has_whole_parts limits k ≡ true
+    → has_whole_parts limits u ≡ true
 unfolding StaysWhole
 child_whole k u None stays names rest order shape form whole =
     let forms = sym (ap (λ (c : Child). c.form) (child_is u)) ∙ form ∙ sym (over_none (part_of k).lay (part_of k).child.form) ∙ ap (λ (c : Child). c.form) (child_is k) in
     ap (has_whole_parts limits) (one_alone k u names rest forms) ∙ whole
 child_whole k u (Some d) stays names rest order shape form whole = stays u d names rest order shape form whole
 
-kids_whole : (ks us : List Element) (ss : List (Option Data)) → Each StaysWhole ks → ((i : ℕ) (k : Element) → slice_get ks i ≡ Some k → NamesDiffer k) → map left_alone us ≡ map left_alone ks
+kids_whole : (ks us : List Element) (ss : List (Option Data)) → Each StaysWhole ks
+    → ((i : ℕ) (k : Element) → slice_get ks i ≡ Some k → NamesDiffer k) → map left_alone us ≡ map left_alone ks
     → children (map part_of us) ≡ children (all_taken (map part_of ks) ss) → Each IfOrdered ss → AreShaped ks ss
     → list_all (has_whole_parts limits) ks ≡ true → list_all (has_whole_parts limits) us ≡ true
 kids_whole [] [] ss each names rest taken order shape whole = refl
@@ -223,8 +86,10 @@ kids_whole (k ∷ ks) (u ∷ us) (s ∷ ss) each names rest taken order shape wh
     (child_whole k u s each.0 (names zero k refl) head order.0 shape.0 (ap (λ (c : Child). c.form) first) both.0)
     (kids_whole ks us ss each.1 (λ i m. names (suc i) m) tail more order.1 shape.1 both.1)
 
-whole_level : (e u : Element) (v : Data) → Each StaysWhole (kids_of e) → NamesDiffer e → left_alone u ≡ left_alone e → IsOrdered v → first_misshapen e v ≡ None
-    → (part_of u).child.form ≡ over (part_of e).lay (part_of e).child.form (Some v) → has_whole_parts limits e ≡ true → has_whole_parts limits u ≡ true
+whole_level : (e u : Element) (v : Data) → Each StaysWhole (kids_of e) → NamesDiffer e → left_alone u ≡ left_alone e → IsOrdered v
+    → first_misshapen e v ≡ None
+    → (part_of u).child.form ≡ over (part_of e).lay (part_of e).child.form (Some v) → has_whole_parts limits e ≡ true
+    → has_whole_parts limits u ≡ true
 unfolding element_in
 whole_level e u v each names rest order none form whole =
     let x = (out-Element e).payload in
@@ -250,11 +115,13 @@ whole_level e u v each names rest order none form whole =
         → list_all (has_whole_parts limits) (kids_of e) ≡ true → list_all (has_whole_parts limits) (kids_of u) ≡ true
     by_shows false s l shape forms kids =
         let same : kids_of u ≡ kids_of e =
-        ap (λ b. if b then map left_alone (kids_of u) else kids_of u) (sym (l.shows ∙ s)) ∙ l.same.kids ∙ ap (λ b. if b then map left_alone (kids_of e) else kids_of e) s in
+        ap (λ b. if b then map left_alone (kids_of u) else kids_of u) (sym (l.shows ∙ s)) ∙ l.same.kids
+        ∙ ap (λ b. if b then map left_alone (kids_of e) else kids_of e) s in
         ap (list_all (has_whole_parts limits)) same ∙ kids
     by_shows true s l shape forms kids =
         let same : map left_alone (kids_of u) ≡ map left_alone (kids_of e) =
-        ap (λ b. if b then map left_alone (kids_of u) else kids_of u) (sym (l.shows ∙ s)) ∙ l.same.kids ∙ ap (λ b. if b then map left_alone (kids_of e) else kids_of e) s in
+        ap (λ b. if b then map left_alone (kids_of u) else kids_of u) (sym (l.shows ∙ s)) ∙ l.same.kids
+        ∙ ap (λ b. if b then map left_alone (kids_of e) else kids_of e) s in
         let apart = apart_in (out-Element u).payload (kids_of u) (names_alike u e rest names [] u refl) in
         let taken = children_taken (out-Element e).payload (out-Element u).payload (map part_of (kids_of e)) (map part_of (kids_of u)) v s l.same.payloads apart
         (alike_kids (kids_of u) (kids_of e) same) (named_in (out-Element e).payload (kids_of e) (names [] e refl)) shape.own forms in
@@ -273,13 +140,15 @@ formless p.Capability xs v e fits = true≢false (sym fits)
 formless p.Operation xs v e fits = true≢false (sym fits)
 formless x xs v e fits = absurd (cc)
 
-pub parts_stay_whole : (e u : Element) (v : Data) → IsInOrder e → IsOrdered v → IsElementUpdate e v u → has_whole_parts limits e ≡ true → has_whole_parts limits u ≡ true
+pub parts_stay_whole : (e u : Element) (v : Data) → IsInOrder e → IsOrdered v → IsElementUpdate e v u → has_whole_parts limits e ≡ true
+    → has_whole_parts limits u ≡ true
 unfolding StaysWhole
 parts_stay_whole e u v order ordered update whole =
     let rest = left_alone_is e u order.placed update.metadata update.operations in
     stays_whole e u v order.names rest ordered update.shape (by_form (value_form extent.WithBlobValue e) refl (ap (λ (c : Child). c.form) (child_is u) ∙ update.form)) whole
   where
-    by_form : (f : Option Data) → value_form extent.WithBlobValue e ≡ f → (part_of u).child.form ≡ option_map (λ w. lay e w v) (value_form extent.WithBlobValue e)
+    by_form : (f : Option Data) → value_form extent.WithBlobValue e ≡ f
+        → (part_of u).child.form ≡ option_map (λ w. lay e w v) (value_form extent.WithBlobValue e)
         → (part_of u).child.form ≡ over (part_of e).lay (part_of e).child.form (Some v)
     by_form None is form =
         let none : value (form_of (out-Element e).payload (map part_of (kids_of e))) ≡ None =

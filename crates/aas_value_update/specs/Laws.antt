@@ -1,5 +1,5 @@
 -- Laws of updates of values.
-use Rattle.std.specs.Prelude.{◌≡◌, ℕ, true, false, List, Some, IsTrue}
+use Rattle.std.specs.Prelude.{◌≡◌, ◌↔◌, ℕ, true, false, List, Some, IsTrue}
 use Rattle.serde_json.specs.Data.{Data, object, Members, no_members}
 use Rattle.aas_model_names.specs.declared.modifiers.Extent.TheVariants as extent
 use Rattle.aas_model_names.specs.declared.kind.Kind.TheVariants as kind
@@ -18,9 +18,10 @@ use Rattle.aas_constraint_laws.specs.Valid.{IsValid, is_whole}
 use Rattle.aas_constraint_laws.specs.Values.{DifferInValues}
 use Rattle.aas_value.specs.ValueForm.{child_of, value_form}
 use Rattle.aas_value_update.specs.Json.{is_part}
-use Rattle.aas_value_update.specs.Kinds.{part_of}
+use Rattle.aas_value_update.specs.Kinds.{part_of, lay}
 use Rattle.aas_value_update.specs.LeftAlone.{unshown}
-use Rattle.aas_value_update.specs.Update.{IsElementUpdate, IsValueUpdate}
+use Rattle.aas_value_update.specs.Shape.{HasShape}
+use Rattle.aas_value_update.specs.Update.{IsElementUpdate, IsValueUpdate, updated}
 
 -- the parts of an element make its value form
 abbrev pub PartsMakeForm : Type 0
@@ -59,10 +60,40 @@ abbrev pub OwnFormStays : Type 0
 OwnFormStays = (e u : Element) (v : Data) → IsInOrder e → value_form extent.WithBlobValue e ≡ Some v
     → IsElementUpdate e v u → u ≡ e
 
+-- a value form laid over that of an element that differs in values alone is itself: each member is there
+abbrev pub WholeFormReplaces : Type 0
+WholeFormReplaces = (e u : Element) (w v : Data) → IsInOrder e → DifferInValues e u
+    → value_form extent.WithBlobValue e ≡ Some w → value_form extent.WithBlobValue u ≡ Some v → lay e w v ≡ v
+
+-- so an update by the value form of an element that has the same Operations and Capabilities makes just this element
+abbrev pub WholeFormMakesElement : Type 0
+WholeFormMakesElement = (e u w : Element) (v : Data) → IsInOrder e → DifferInValues e u → unshown u ≡ unshown e
+    → value_form extent.WithBlobValue u ≡ Some v → IsElementUpdate e v w ↔ (HasShape e v × (w ≡ u))
+
 -- an object without members changes nothing, but where it would be a whole reference
 abbrev pub NoMembersChangeNothing : Type 0
 NoMembersChangeNothing = (e u : Element) (ms : Members) → IsInOrder e → ¬ (kind_of e ≡ kind.ReferenceElement)
     → value_form extent.WithBlobValue e ≡ Some (object ms) → IsElementUpdate e (object no_members) u → u ≡ e
+
+-- ---- one update after another; the names of what is sent rise
+
+-- an update by w, of what an update by v has made, is one by w laid over v, where w fits
+abbrev pub UpdatesCompose : Type 0
+UpdatesCompose = (e u x : Element) (v w : Data) → IsInOrder e → IsOrdered v → IsOrdered w
+    → IsElementUpdate e v u → IsElementUpdate u w x ↔ (HasShape e w × IsElementUpdate e (lay e v w) x)
+
+-- so it is with updates at one path of a valid submodel
+abbrev pub ValueUpdatesCompose : Type 0
+ValueUpdatesCompose = (d u x : Submodel) (p : List PathStep) (e : Element) (v w : Data) → IsValid (submodel d) → IsOrdered v → IsOrdered w
+    → updated d p ≡ Some e → IsValueUpdate d p v u → IsValueUpdate u p w x ↔ (HasShape e w × IsValueUpdate d p (lay e v w) x)
+
+-- what fits laid over what fits fits
+abbrev pub LaidValuesFit : Type 0
+LaidValuesFit = (e : Element) (v w : Data) → IsInOrder e → IsOrdered v → IsOrdered w → HasShape e v → HasShape e w → HasShape e (lay e v w)
+
+-- and its names rise
+abbrev pub LaidNamesRise : Type 0
+LaidNamesRise = (e : Element) (v w : Data) → IsInOrder e → IsOrdered v → IsOrdered w → IsOrdered (lay e v w)
 
 -- what may be sent of a sort is canonical JSON: it says itself by the attribute table
 abbrev pub SentIsCanonical : Type 0

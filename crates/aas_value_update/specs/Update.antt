@@ -1,6 +1,6 @@
 -- Updates of values (IDTA-01002-3-0, PatchSubmodelElementByPath and PatchSubmodel with ValueOnly). What is sent is laid
 -- over the value form; what it leaves out stays. This profile's own rule.
-use Rattle.std.specs.Prelude.{◌≡◌, List, [], ◌∷◌, Some, None, option_map}
+use Rattle.std.specs.Prelude.{◌≡◌, List, [], ◌∷◌, Option, Some, None, option_map}
 use Rattle.serde_json.specs.Data.{Data}
 use Rattle.aas_model_names.specs.declared.modifiers.Extent.TheVariants as extent
 use Rattle.aas_model.specs.declared.common.Common.{Common}
@@ -53,6 +53,11 @@ no_attributes = record {
 -- a submodel as an object of its children, as a SubmodelElementCollection is one
 abbrev pub body : Submodel → Element
 body d = roll-Element (record { common = no_attributes; payload = payload.SubmodelElementCollection; role = role.Member; kids = d.kids })
+
+-- what an update at a path changes: the element there, or the submodel itself
+abbrev pub updated : Submodel → List PathStep → Option Element
+updated d [] = Some (body d)
+updated d (s ∷ p) = element_at d (s ∷ p)
 
 -- d' is d after an update of its children
 pub record IsSubmodelUpdate (d : Submodel) (v : Data) (d' : Submodel) : Type 0 where

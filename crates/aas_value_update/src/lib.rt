@@ -6,7 +6,8 @@
 
 ghost use Rattle.aas_value_update.specs.Laws.{PartsMakeForm, OneForm, OneElementUpdate, OneValueUpdate};
 ghost use Rattle.aas_value_update.specs.Laws.{UpdateStaysWhole, OwnFormStays, NoMembersChangeNothing};
-ghost use Rattle.aas_value_update.specs.Laws.{SentIsCanonical};
+ghost use Rattle.aas_value_update.specs.Laws.{WholeFormReplaces, WholeFormMakesElement, SentIsCanonical};
+ghost use Rattle.aas_value_update.specs.Laws.{UpdatesCompose, ValueUpdatesCompose, LaidValuesFit, LaidNamesRise};
 
 /// What the parts of each kind make is the value form.
 pub fn parts_make_value_form()
@@ -34,9 +35,25 @@ pub fn own_form_stays()
     ensures { OwnFormStays }
 {}
 
+/// A value form laid over another of the same parts is itself, and an update by the value form of an element that has the
+/// same Operations and Capabilities makes just this element, where the form may be sent.
+pub fn whole_forms_replace()
+    ensures form { WholeFormReplaces }
+    ensures element { WholeFormMakesElement }
+{}
+
 /// An update by an object without members changes nothing.
 pub fn no_members_change_nothing()
     ensures { NoMembersChangeNothing }
+{}
+
+/// Two updates, one after the other, are one by the second value laid over the first: of an element, and at one path of a
+/// valid submodel. What is laid can be sent where both values can.
+pub fn updates_compose()
+    ensures element { UpdatesCompose }
+    ensures submodel { ValueUpdatesCompose }
+    ensures shape { LaidValuesFit }
+    ensures names { LaidNamesRise }
 {}
 
 /// References and specific asset ids that may be sent are canonical JSON, so that what is read of them is written as it was

@@ -1,4 +1,4 @@
-use Rattle.aas_value_update.proofs.Itself as law
+use Rattle.aas_value_update.proofs.Unchanged as law
 use Rattle.aas_value_update.proofs.no_members_change_nothing.Goals as goal
 
 pub returns : goal.returns

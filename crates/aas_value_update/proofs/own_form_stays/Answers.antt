@@ -1,4 +1,4 @@
-use Rattle.aas_value_update.proofs.Itself as law
+use Rattle.aas_value_update.proofs.Unchanged as law
 use Rattle.aas_value_update.proofs.own_form_stays.Goals as goal
 
 pub returns : goal.returns
