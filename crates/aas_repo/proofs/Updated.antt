@@ -34,7 +34,7 @@ use Rattle.aas_path_trees.specs.ElementAt.{element_at}
 use Rattle.aas_path_trees.specs.Patched.{Fits, kinds, kinds_of_all, patched, patched_submodel}
 use Rattle.aas_path_trees.specs.WithElement.{with_element}
 use Rattle.aas_reference.specs.Rules.{first}
-use Rattle.aas_step.specs.Causes.{Cause, absent_of, causes, first_of, has_too_many, is_lost, unless, update_causes, valued_at, when}
+use Rattle.aas_step.specs.Causes.{Cause, absent_of, causes, first_of, has_too_many, is_lost, unless, update_causes, when}
 use Rattle.aas_step.specs.Step.{later_causes}
 use Rattle.aas_step.specs.Valid.{AreValid}
 use Rattle.aas_store.specs.Documents.{Documents, with_submodel}
@@ -47,7 +47,7 @@ use Rattle.aas_value_patch.specs.declared.preparing.ValueFault.TheVariants as fa
 use Rattle.aas_value_update.specs.Kinds.{form_of}
 use Rattle.aas_value_update.specs.Parts.{Part, children, fits_form}
 use Rattle.aas_value_update.specs.Shape.{HasShape, Sendable, among, first_misshapen, sendable, sendable_over, sent}
-use Rattle.aas_value_update.specs.Update.{IsElementUpdate, IsSubmodelUpdate, IsValueUpdate, body}
+use Rattle.aas_value_update.specs.Update.{IsElementUpdate, IsSubmodelUpdate, IsValueUpdate, body, valued_at}
 use Rattle.aas_value_update.specs.Laws.{IsInOrder}
 use Rattle.aas_value_update.proofs.WholeSubmodel.{update_stays_whole}
 use Rattle.aas_value_update.proofs.Order.{body_order, order_at}

@@ -25,7 +25,7 @@ use Rattle.aas_path_trees.specs.Edits.{fits_role, role_at, role_within}
 use Rattle.aas_path_trees.specs.ElementAt.{depth_found, element_at, place_named}
 use Rattle.aas_value.specs.ValueForm.{value_form}
 use Rattle.aas_value_update.specs.Shape.{first_misshapen}
-use Rattle.aas_value_update.specs.Update.{body}
+use Rattle.aas_value_update.specs.Update.{valued_at}
 use Rattle.aas_store.specs.Documents.{Documents, has}
 use Rattle.aas_store.specs.Storable.{element_count}
 
@@ -98,11 +98,6 @@ replace_causes p e s = is_lost s p ∷ unless (option_map_or (λ o. fits_role e 
 
 abbrev pub delete_causes : List PathStep → Submodel → List Cause
 delete_causes p s = is_lost s p ∷ []
-
--- what a path leads to, where the empty one leads to the submodel as an object of its children
-abbrev pub valued_at : Submodel → List PathStep → Option Element
-valued_at s [] = Some (body s)
-valued_at s (step ∷ p) = element_at s (step ∷ p)
 
 -- the first misshapen element, its path behind p
 abbrev pub is_misshapen : Submodel → List PathStep → Data → Cause

@@ -21,7 +21,7 @@ use Rattle.aas_value_update.specs.Json.{is_part}
 use Rattle.aas_value_update.specs.Kinds.{part_of, lay}
 use Rattle.aas_value_update.specs.LeftAlone.{unshown}
 use Rattle.aas_value_update.specs.Shape.{HasShape}
-use Rattle.aas_value_update.specs.Update.{IsElementUpdate, IsValueUpdate, updated}
+use Rattle.aas_value_update.specs.Update.{IsElementUpdate, IsValueUpdate, valued_at}
 
 -- the parts of an element make its value form
 abbrev pub PartsMakeForm : Type 0
@@ -85,7 +85,7 @@ UpdatesCompose = (e u x : Element) (v w : Data) → IsInOrder e → IsOrdered v 
 -- so it is with updates at one path of a valid submodel
 abbrev pub ValueUpdatesCompose : Type 0
 ValueUpdatesCompose = (d u x : Submodel) (p : List PathStep) (e : Element) (v w : Data) → IsValid (submodel d) → IsOrdered v → IsOrdered w
-    → updated d p ≡ Some e → IsValueUpdate d p v u → IsValueUpdate u p w x ↔ (HasShape e w × IsValueUpdate d p (lay e v w) x)
+    → valued_at d p ≡ Some e → IsValueUpdate d p v u → IsValueUpdate u p w x ↔ (HasShape e w × IsValueUpdate d p (lay e v w) x)
 
 -- what fits laid over what fits fits
 abbrev pub LaidValuesFit : Type 0

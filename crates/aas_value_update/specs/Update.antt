@@ -54,10 +54,10 @@ no_attributes = record {
 abbrev pub body : Submodel → Element
 body d = roll-Element (record { common = no_attributes; payload = payload.SubmodelElementCollection; role = role.Member; kids = d.kids })
 
--- what an update at a path changes: the element there, or the submodel itself
-abbrev pub updated : Submodel → List PathStep → Option Element
-updated d [] = Some (body d)
-updated d (s ∷ p) = element_at d (s ∷ p)
+-- what a path leads to, where the empty one leads to the submodel as an object of its children
+abbrev pub valued_at : Submodel → List PathStep → Option Element
+valued_at d [] = Some (body d)
+valued_at d (s ∷ p) = element_at d (s ∷ p)
 
 -- d' is d after an update of its children
 pub record IsSubmodelUpdate (d : Submodel) (v : Data) (d' : Submodel) : Type 0 where
