@@ -1,11 +1,9 @@
 -- What the update of a kind's own members makes of its value form.
-use Rattle.std.proofs.Common.{◌≡◌, ℕ, ◌+◌, ◌==◌, ◌&&◌, Bool, true, false, List, [], ◌∷◌, map, codes, Option, Some, None, is_some, unwrap_or, refl, sym, ap}
+use Rattle.std.proofs.Common.{◌≡◌, ℕ, ◌+◌, ◌==◌, ◌&&◌, Bool, true, false, List, [], ◌∷◌, map, codes, Option, Some, None, unwrap_or, refl, sym, ap}
 use Rattle.std.proofs.Common.{ap₂, ◌∙◌, subst, true≢false, Result, Ok, Err}
 use Rattle.std.specs.Result.{IsErr, IsErrAnd}
 use denote.Ref.{Bor}
-use Rattle.std.proofs.lemmas.Bool.{and_from}
 use Rattle.std.specs.Prelude.{bytes_eq}
-use Rattle.std.specs.List.{list_all}
 use Rattle.std.specs.Str.{encode_utf8_all}
 use lib.Utf8.{encode}
 use Rattle.serde_json.specs.Data.{Data, null, boolean, number, string, object, array, Items, Members}
@@ -13,11 +11,8 @@ use Rattle.serde_json.specs.Events.{members_len}
 use Rattle.serde_json.specs.Find.{get_member}
 use Rattle.serde_json.specs.View.{items_view}
 use Rattle.serde_json.specs.declared.value.Value.{Value}
-use Rattle.aas_json_mapping.specs.Whole.{whole_specific_asset_id}
 use Rattle.aas_json_mapping.specs.Parts.{spell_specific_asset_id}
 use Rattle.aas_json_spelling.specs.Values.{HasOrder}
-use Rattle.aas_json_table.specs.TooDeep.{limits}
-use Rattle.aas_lemmas.proofs.Truth.{and_left, and_right}
 use Rattle.aas_model.specs.declared.parts.LangText.{LangText}
 use Rattle.aas_model.specs.declared.parts.SpecificAssetId.{SpecificAssetId}
 use Rattle.aas_model.specs.declared.payload.Payload.{Payload}
@@ -28,7 +23,6 @@ use Rattle.aas_model_names.specs.declared.element_name.ElementName.{ElementName}
 use Rattle.aas_model_names.specs.declared.entity_type.EntityType.{EntityType}
 use Rattle.aas_model_names.specs.declared.state_of_event.StateOfEvent.{StateOfEvent}
 use Rattle.aas_model_names.specs.declared.value_type.ValueType.{ValueType}
-use Rattle.aas_reference.specs.Whole.{whole_if_there, whole_and_there}
 use Rattle.aas_value.specs.Single.{single}
 use Rattle.aas_value.specs.ValueForm.{Child, named, in_order, annotation_value, array_of, language_value, text_or_null, reference_or_null, entity_type_or_null}
 use Rattle.aas_value_update.specs.Json.{is_single, is_string, is_string_or_null, is_reference, is_entity_type, is_array_of, is_specific_asset_id}
@@ -157,15 +151,15 @@ four f g h i o w e = record {
 
 pub property_takes : (t : ValueType) (old new : Option (List ℕ)) (i : Option Reference) (v : Data) → single t new ≡ v
     → Takes (p.Property t old i) v (p.Property t new i)
-property_takes t old new i v e = record { rest = refl; form = λ xs ys fits named took. ap (λ (d : Data). Some d) e; whole = λ w. w }
+property_takes t old new i v e = record { rest = refl; form = λ xs ys fits named took. ap (λ (d : Data). Some d) e }
 
 pub languages_take : (old new : List LangText) (i : Option Reference) (v : Data) → array_of language_value new ≡ v
     → Takes (p.MultiLanguageProperty old i) v (p.MultiLanguageProperty new i)
-languages_take old new i v e = record { rest = refl; form = λ xs ys fits named took. ap (λ (d : Data). Some d) e; whole = λ w. w }
+languages_take old new i v e = record { rest = refl; form = λ xs ys fits named took. ap (λ (d : Data). Some d) e }
 
-pub reference_takes : (old new : Option Reference) (v : Data) → reference_or_null new ≡ v → whole_if_there limits new ≡ true
+pub reference_takes : (old new : Option Reference) (v : Data) → reference_or_null new ≡ v
     → Takes (p.ReferenceElement old) v (p.ReferenceElement new)
-reference_takes old new v e whole = record { rest = refl; form = λ xs ys fits named took. ap (λ (d : Data). Some d) e; whole = λ w. whole }
+reference_takes old new v e = record { rest = refl; form = λ xs ys fits named took. ap (λ (d : Data). Some d) e }
 
 pub range_takes : (t : ValueType) (min max min' max' : Option (List ℕ)) (ms : Members)
     → single t max' ≡ unwrap_or (get_member (codes "max") ms) (single t max) → single t min' ≡ unwrap_or (get_member (codes "min") ms) (single t min)
@@ -179,7 +173,6 @@ range_takes t min max min' max' ms a b = record {
         own_took (codes "max") (single t max) (single t max') (is_single t) (get_member (codes "max") ms) a,
         (own_took (codes "min") (single t min) (single t min') (is_single t) (get_member (codes "min") ms) b, tt),
       );
-  whole = λ w. w;
 }
 
 pub range_fits : (t : ValueType) (min max : Option (List ℕ)) (xs : List Part) (ms : Members) → HasOrder ms
@@ -205,10 +198,10 @@ file_fits t v xs ms order =
     (two_fit (codes "contentType") (codes "value") (text_or_null t) (text_or_null v) is_string is_string_or_null ms refl order)
 
 pub file_takes : (t v t' v' : Option (List ℕ)) (ms : Members) → text_or_null t' ≡ unwrap_or (get_member (codes "contentType") ms) (text_or_null t)
-    → text_or_null v' ≡ unwrap_or (get_member (codes "value") ms) (text_or_null v) → (is_some t ≡ true → is_some t' ≡ true)
+    → text_or_null v' ≡ unwrap_or (get_member (codes "value") ms) (text_or_null v)
     → Takes (p.File t v) (object ms) (p.File t' v')
 unfolding encode
-file_takes t v t' v' ms a b c = record {
+file_takes t v t' v' ms a b = record {
   rest = refl;
   form = λ xs ys fits named took.
       object_took (own (codes "contentType") (text_or_null t) is_string ∷ own (codes "value") (text_or_null v) is_string_or_null ∷ [])
@@ -216,7 +209,6 @@ file_takes t v t' v' ms a b c = record {
         own_took (codes "contentType") (text_or_null t) (text_or_null t') is_string (get_member (codes "contentType") ms) a,
         (own_took (codes "value") (text_or_null v) (text_or_null v') is_string_or_null (get_member (codes "value") ms) b, tt),
       );
-  whole = c;
 }
 
 pub blob_fits : (t v : Option (List ℕ)) (xs : List Part) (ms : Members) → HasOrder ms
@@ -231,10 +223,10 @@ blob_fits t v xs ms order =
     (two_fit (codes "contentType") (codes "value") (text_or_null t) (text_or_null v) is_string is_string_or_null ms refl order)
 
 pub blob_takes : (t v t' v' : Option (List ℕ)) (ms : Members) → text_or_null t' ≡ unwrap_or (get_member (codes "contentType") ms) (text_or_null t)
-    → text_or_null v' ≡ unwrap_or (get_member (codes "value") ms) (text_or_null v) → (is_some t ≡ true → is_some t' ≡ true)
+    → text_or_null v' ≡ unwrap_or (get_member (codes "value") ms) (text_or_null v)
     → Takes (p.Blob t v) (object ms) (p.Blob t' v')
 unfolding encode
-blob_takes t v t' v' ms a b c = record {
+blob_takes t v t' v' ms a b = record {
   rest = refl;
   form = λ xs ys fits named took.
       object_took (own (codes "contentType") (text_or_null t) is_string ∷ own (codes "value") (text_or_null v) is_string_or_null ∷ [])
@@ -242,7 +234,6 @@ blob_takes t v t' v' ms a b c = record {
         own_took (codes "contentType") (text_or_null t) (text_or_null t') is_string (get_member (codes "contentType") ms) a,
         (own_took (codes "value") (text_or_null v) (text_or_null v') is_string_or_null (get_member (codes "value") ms) b, tt),
       );
-  whole = c;
 }
 
 pub relationship_fits : (a b : Option Reference) (xs : List Part) (ms : Members) → HasOrder ms
@@ -259,10 +250,9 @@ relationship_fits a b xs ms order =
 pub relationship_takes : (f s f' s' : Option Reference) (ms : Members)
     → reference_or_null f' ≡ unwrap_or (get_member (codes "first") ms) (reference_or_null f)
     → reference_or_null s' ≡ unwrap_or (get_member (codes "second") ms) (reference_or_null s)
-    → (whole_and_there limits f ≡ true → whole_and_there limits f' ≡ true) → (whole_and_there limits s ≡ true → whole_and_there limits s' ≡ true)
     → Takes (p.RelationshipElement f s) (object ms) (p.RelationshipElement f' s')
 unfolding encode
-relationship_takes f s f' s' ms a b c d = record {
+relationship_takes f s f' s' ms a b = record {
   rest = refl;
   form = λ xs ys fits named took.
       object_took (own (codes "first") (reference_or_null f) is_reference ∷ own (codes "second") (reference_or_null s) is_reference ∷ [])
@@ -270,8 +260,6 @@ relationship_takes f s f' s' ms a b c d = record {
         own_took (codes "first") (reference_or_null f) (reference_or_null f') is_reference (get_member (codes "first") ms) a,
         (own_took (codes "second") (reference_or_null s) (reference_or_null s') is_reference (get_member (codes "second") ms) b, tt),
       );
-  whole = λ w. and_from (whole_and_there limits f') (whole_and_there limits s') (c (and_left (whole_and_there limits f) _ w))
-      (d (and_right (whole_and_there limits f) _ w));
 }
 
 -- ---- kinds with children
@@ -284,7 +272,7 @@ unsent_same (x ∷ xs) (y ∷ ys) t =
     ap₂ (λ c cs. c ∷ cs) (t.0 ∙ ap (λ (f : Option Data). record x.child { form = f }) (sym (over_none x.lay x.child.form))) (unsent_same xs ys t.1)
 
 pub collection_takes : (ms : Members) → Takes p.SubmodelElementCollection (object ms) p.SubmodelElementCollection
-collection_takes ms = record { rest = refl; form = λ xs ys fits named took. object_took xs ys ms fits took; whole = λ w. w }
+collection_takes ms = record { rest = refl; form = λ xs ys fits named took. object_took xs ys ms fits took }
 
 pub body_takes : (v : Data) (xs : List Part) → fits_form (object_of xs) v ≡ true → Takes p.SubmodelElementCollection v p.SubmodelElementCollection
 body_takes (object ms) xs fits = collection_takes ms
@@ -299,7 +287,6 @@ pub list_takes : (o : Option Bool) (s : Option Reference) (t : ElementName) (v :
 list_takes o s t v ds = record {
   rest = refl;
   form = λ xs ys fits named took. ap (λ (es : Items). Some (array es)) (items_laid xs ys ds fits took);
-  whole = λ w. w;
 }
 
 pub list_is : (x y : Payload) (xs : List Part) (vs : Bor (List Value)) → is_list_payload x ≡ true → y ≡ x → items_fit xs (items_view vs.now) ≡ true
@@ -359,10 +346,9 @@ pub entity_takes : (t u : Option EntityType) (g h : Option (List ℕ)) (ids jds 
     → entity_type_or_null u ≡ unwrap_or (get_member (codes "entityType") ms) (entity_type_or_null t)
     → text_or_null h ≡ unwrap_or (get_member (codes "globalAssetId") ms) (text_or_null g)
     → array_of spell_specific_asset_id jds ≡ unwrap_or (get_member (codes "specificAssetIds") ms) (array_of spell_specific_asset_id ids)
-    → (is_some t ≡ true → is_some u ≡ true) → (list_all (whole_specific_asset_id limits) ids ≡ true → list_all (whole_specific_asset_id limits) jds ≡ true)
     → Takes (p.Entity t g ids) (object ms) (p.Entity u h jds)
 unfolding encode entity_parts
-entity_takes t u g h ids jds ms a b c there whole = record {
+entity_takes t u g h ids jds ms a b c = record {
   rest = refl;
   form = λ xs ys fits named took.
       object_took (entity_parts t g ids xs) (entity_parts u h jds ys) ms fits (
@@ -380,8 +366,6 @@ entity_takes t u g h ids jds ms a b c there whole = record {
           ),
         ),
       );
-  whole = λ w.
-      and_from (is_some u) (list_all (whole_specific_asset_id limits) jds) (there (and_left (is_some t) _ w)) (whole (and_right (is_some t) _ w));
 }
 
 annotated_parts : Option Reference → Option Reference → List Part → List Part
@@ -393,10 +377,9 @@ annotated_parts f s xs =
 pub annotated_takes : (f s f' s' : Option Reference) (ms : Members)
     → reference_or_null f' ≡ unwrap_or (get_member (codes "first") ms) (reference_or_null f)
     → reference_or_null s' ≡ unwrap_or (get_member (codes "second") ms) (reference_or_null s)
-    → (whole_and_there limits f ≡ true → whole_and_there limits f' ≡ true) → (whole_and_there limits s ≡ true → whole_and_there limits s' ≡ true)
     → Takes (p.AnnotatedRelationshipElement f s) (object ms) (p.AnnotatedRelationshipElement f' s')
 unfolding encode annotated_parts
-annotated_takes f s f' s' ms a b c d = record {
+annotated_takes f s f' s' ms a b = record {
   rest = refl;
   form = λ xs ys fits named took.
       object_took (annotated_parts f s xs) (annotated_parts f' s' ys) ms fits (
@@ -407,8 +390,6 @@ annotated_takes f s f' s' ms a b c d = record {
           (own_took (codes "second") (reference_or_null s) (reference_or_null s') is_reference (get_member (codes "second") ms) b, tt),
         ),
       );
-  whole = λ w. and_from (whole_and_there limits f') (whole_and_there limits s') (c (and_left (whole_and_there limits f) _ w))
-      (d (and_right (whole_and_there limits f) _ w));
 }
 
 pub entity_fits : (t : Option EntityType) (g : Option (List ℕ)) (ids : List SpecificAssetId) (xs : List Part) (ms : Members) → HasOrder ms
@@ -475,16 +456,13 @@ event_fits o d s t b l m n xs ms order = one _ _ _ (one_fits (codes "observed") 
 pub event_takes : (o u : Option Reference) (d : Direction) (s : StateOfEvent) (t : Option (List ℕ)) (b : Option Reference) (l m n : Option (List ℕ))
     (ms : Members)
     → reference_or_null u ≡ unwrap_or (get_member (codes "observed") ms) (reference_or_null o)
-    → (whole_and_there limits o ≡ true → whole_and_there limits u ≡ true)
     → Takes (p.BasicEventElement o d s t b l m n) (object ms) (p.BasicEventElement u d s t b l m n)
 unfolding encode
-event_takes o u d s t b l m n ms a c = record {
+event_takes o u d s t b l m n ms a = record {
   rest = refl;
   form = λ xs ys fits named took.
       object_took (own (codes "observed") (reference_or_null o) is_reference ∷ []) (own (codes "observed") (reference_or_null u) is_reference ∷ []) ms fits
       (own_took (codes "observed") (reference_or_null o) (reference_or_null u) is_reference (get_member (codes "observed") ms) a, tt);
-  whole = λ w. and_from (whole_and_there limits u) (whole_if_there limits b) (c (and_left (whole_and_there limits o) _ w))
-      (and_right (whole_and_there limits o) _ w);
 }
 
 -- an event with copies of what an update doesn't take
@@ -493,15 +471,14 @@ pub event_is : (x : Payload) (o u : Option Reference) (d : Direction) (s : State
     → x ≡ p.BasicEventElement o d s t b l m n → t' ≡ t → b' ≡ b → l' ≡ l → m' ≡ m → n' ≡ n → HasOrder ms
     → fits_if is_reference (get_member (codes "observed") ms) ≡ true → (one_if_some (get_member (codes "observed") ms) + 0 == members_len ms) ≡ true
     → reference_or_null u ≡ unwrap_or (get_member (codes "observed") ms) (reference_or_null o)
-    → (whole_and_there limits o ≡ true → whole_and_there limits u ≡ true)
     → IsStep x xs (object ms) (record { payload = p.BasicEventElement u d s t' b' l' m' n'; kids = to.Nothing })
-event_is x o u d s t t' b b' l l' m m' n n' xs ms is t1 b1 l1 m1 n1 order fit only taken whole =
+event_is x o u d s t t' b b' l l' m m' n n' xs ms is t1 b1 l1 m1 n1 order fit only taken =
     let old = p.BasicEventElement o d s t b l m n in
     let new : p.BasicEventElement u d s t b l m n ≡ p.BasicEventElement u d s t' b' l' m' n' = λ i. p.BasicEventElement u d s (sym t1 i) (sym b1 i)
     (sym l1 i) (sym m1 i) (sym n1 i) in
     subst (λ (z : Payload). IsStep z xs (object ms) (record { payload = p.BasicEventElement u d s t' b' l' m' n'; kids = to.Nothing })) (sym is)
     (record {
       fits = (event_fits o d s t b l m n xs ms order).all fit only;
-      takes = subst (Takes old (object ms)) new (event_takes o u d s t b l m n ms taken whole);
+      takes = subst (Takes old (object ms)) new (event_takes o u d s t b l m n ms taken);
       kids = refl;
     })

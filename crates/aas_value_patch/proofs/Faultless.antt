@@ -1,10 +1,8 @@
 -- What the first fault of an updated element says.
 use Rattle.std.proofs.Common.{◌≡◌, ◌==◌, Bool, true, false, List, [], ◌∷◌, Option, Some, None, refl, sym, ap, ◌∙◌, subst}
 use Rattle.std.proofs.lemmas.Bool.Decides.{Decides-eqb}
-use Rattle.std.specs.Prelude.{if◌then◌else◌, IsTrue}
+use Rattle.std.specs.Prelude.{if◌then◌else◌}
 use Rattle.serde_json.specs.Data.{Data}
-use Rattle.aas_json_mapping.specs.Whole.{has_whole_parts}
-use Rattle.aas_json_table.specs.TooDeep.{limits}
 use Rattle.aas_model.specs.declared.element.Element.{Element}
 use Rattle.aas_model.specs.declared.path.Fault.{Fault}
 use Rattle.aas_reference.specs.Rules.{first}
@@ -20,12 +18,11 @@ no_first (f ∷ fs) e = absurd (none_some f e)
     none_some : (f : Fault) → ◌≡◌ {A = Option Fault} None (Some f) → ⊥
     none_some f e = cc
 
-pub broken : (e u : Element) (v : Data) (f : Fault) → IsElementUpdate e v u
-    → (IsTrue (has_whole_parts limits e) → IsTrue (has_whole_parts limits u)) → Some f ≡ first (local_faults u) → IsValueFault e v (fault_by f)
-broken e u v f update whole is = by_number (f.number == 0) refl
+pub broken : (e u : Element) (v : Data) (f : Fault) → IsElementUpdate e v u → Some f ≡ first (local_faults u) → IsValueFault e v (fault_by f)
+broken e u v f update is = by_number (f.number == 0) refl
   where
     breaks : Breaks e v f
-    breaks = record { new = u; update = update; whole = whole; first = sym is }
+    breaks = record { new = u; update = update; first = sym is }
 
     by_number : (b : Bool) → (f.number == 0) ≡ b → IsValueFault e v (if b then fault.Lexical f.path else fault.Constraint f)
     by_number true zero =

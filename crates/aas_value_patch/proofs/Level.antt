@@ -1,18 +1,13 @@
 -- An element that takes a value, one level at a time.
-use Rattle.std.proofs.Common.{◌≡◌, ◌&&◌, Bool, true, false, List, [], ◌∷◌, map, Option, Some, None, refl, sym, ap, ap₂, ◌∙◌}
-use Rattle.std.proofs.lemmas.Bool.{and_from}
+use Rattle.std.proofs.Common.{◌≡◌, Bool, true, false, List, [], ◌∷◌, map, Option, Some, None, refl, sym, ap, ap₂, ◌∙◌}
 use Rattle.std.specs.Prelude.{if◌then◌else◌}
-use Rattle.std.specs.List.{list_all}
 use Rattle.serde_json.specs.Data.{Data}
 use Rattle.aas_model.specs.declared.common.Common.{Common}
 use Rattle.aas_model.specs.declared.element.Element.{Element}
 use Rattle.aas_model.specs.declared.element.Role.{Role}
 use Rattle.aas_model.specs.declared.payload.Payload.{Payload}
 use Rattle.aas_model.specs.declared.payload.Payload.TheVariants as p
-use Rattle.aas_json_mapping.specs.Whole.{whole_common, whole_payload, has_whole_parts}
-use Rattle.aas_json_mapping.proofs.Elements.{made, parts_at}
-use Rattle.aas_json_table.specs.TooDeep.{limits}
-use Rattle.aas_lemmas.proofs.Truth.{and_left, and_right}
+use Rattle.aas_json_mapping.proofs.Elements.{made}
 use Rattle.aas_value_update.specs.Kinds.{form_of, part_of}
 use Rattle.aas_value_update.specs.LeftAlone.{shows_children, left_alone}
 use Rattle.aas_value_update.specs.Parts.{Part, children, over, fits_form}
@@ -58,21 +53,6 @@ same_kids [] (u ∷ us) t = absurd t
 same_kids (k ∷ ks) [] t = absurd t
 same_kids (k ∷ ks) (u ∷ us) t = ap₂ (λ z zs. z ∷ zs) t.0 (same_kids ks us t.1)
 
-whole_kids : (ks : List Element) (ss : List (Option Data)) (us : List Element) → AreTaken ks ss us → list_all (λ b. b) (map (has_whole_parts limits) ks) ≡ true
-    → list_all (λ b. b) (map (has_whole_parts limits) us) ≡ true
-whole_kids [] [] [] t e = refl
-whole_kids [] [] (u ∷ us) t e = absurd t
-whole_kids [] (s ∷ ss) us t e = absurd t
-whole_kids (k ∷ ks) [] us t e = absurd t
-whole_kids (k ∷ ks) (s ∷ ss) [] t e = absurd t
-whole_kids (k ∷ ks) (s ∷ ss) (u ∷ us) t e =
-    and_from (has_whole_parts limits u) (list_all (λ b. b) (map (has_whole_parts limits) us)) (one s t.0 (and_left (has_whole_parts limits k) _ e))
-    (whole_kids ks ss us t.1 (and_right (has_whole_parts limits k) _ e))
-  where
-    one : (s : Option Data) → IsTaken k s u → has_whole_parts limits k ≡ true → has_whole_parts limits u ≡ true
-    one None is w = ap (has_whole_parts limits) is ∙ w
-    one (Some v) h w = h.whole w
-
 -- ---- a level
 
 -- where no children are shown, nothing is sent to them
@@ -103,12 +83,4 @@ level_taken r c x y ks us v fits named takes t =
           ∙ ap (λ (f : Option Data). record { name = c.id_short; form = f })
           (takes.form (map part_of ks) (map part_of us) fits named (took_kids ks (sent x (children (map part_of ks)) v) us t))
           ∙ sym (ap (λ (z : Part). record z.child { form = over z.lay z.child.form (Some v) }) (part_at r c x ks));
-      whole = λ w.
-          let all = sym (parts_at limits r c x ks) ∙ w in
-          let own = and_left (whole_common limits c && whole_payload limits x) _ all in
-          parts_at limits r c y us
-          ∙ and_from (whole_common limits c && whole_payload limits y) (list_all (λ b. b) (map (has_whole_parts limits) us))
-          (and_from (whole_common limits c) (whole_payload limits y) (and_left (whole_common limits c) _ own)
-          (takes.whole (and_right (whole_common limits c) _ own)))
-          (whole_kids ks (sent x (children (map part_of ks)) v) us t (and_right (whole_common limits c && whole_payload limits x) _ all));
     }

@@ -1,9 +1,7 @@
 -- The rows of a patch that a walk in preorder gathers.
 use Rattle.std.specs.Prelude.{◌≡◌, ℕ, ◌<◌, ◌≤◌, true, List, [], ◌∷◌, ◌++◌, length, slice_get, Option, Some, None, Result, IfOk}
 use Rattle.serde_json.specs.Data.{Data}
-use Rattle.aas_json_mapping.specs.Whole.{has_whole_parts}
 use Rattle.aas_json_spelling.specs.Values.{IsOrdered}
-use Rattle.aas_json_table.specs.TooDeep.{limits}
 use Rattle.aas_model.specs.Payload.{kind_of}
 use Rattle.aas_model.specs.declared.element.Element.{Element}
 use Rattle.aas_model.specs.declared.patch.PatchRow.{PatchRow}
@@ -24,7 +22,6 @@ use Rattle.aas_value_patch.specs.declared.fault.Stop.{Stop}
 pub record HasTaken (e : Element) (v : Data) (u : Element) : Type 0 where
   pub rest : left_alone u ≡ left_alone e
   pub form : TookOne (part_of e) (Some v) (part_of u)
-  pub whole : has_whole_parts limits e ≡ true → has_whole_parts limits u ≡ true
 
 -- the same for what was sent, where e stays if nothing was
 abbrev pub IsTaken : Element → Option Data → Element → Type 0

@@ -1,8 +1,6 @@
 -- Why a sent value can't be taken.
-use Rattle.std.specs.Prelude.{◌≡◌, ◌==◌, if◌then◌else◌, Some, None, IsSome, IsTrue, ⊤}
+use Rattle.std.specs.Prelude.{◌≡◌, ◌==◌, if◌then◌else◌, Some, None, IsSome, ⊤}
 use Rattle.serde_json.specs.Data.{Data}
-use Rattle.aas_json_mapping.specs.Whole.{has_whole_parts}
-use Rattle.aas_json_table.specs.TooDeep.{limits}
 use Rattle.aas_model_names.specs.declared.modifiers.Extent.TheVariants as extent
 use Rattle.aas_model.specs.declared.element.Element.{Element}
 use Rattle.aas_model.specs.declared.path.Fault.{Fault}
@@ -25,11 +23,10 @@ fault_of_patch patch_fault.NoValueForm = fault.NoValueForm
 fault_of_patch (patch_fault.Shape path) = fault.Shape path
 fault_of_patch patch_fault.NoMemory = fault.NoMemory
 
--- the update of e by v, which leaves it whole, has f for its first fault, of those that it has by itself
+-- the update of e by v has f for its first fault, of those that it has by itself
 pub record Breaks (e : Element) (v : Data) (f : Fault) : Type 0 where
   pub new : Element
   pub update : IsElementUpdate e v new
-  pub whole : IsTrue (has_whole_parts limits e) → IsTrue (has_whole_parts limits new)
   pub first : first (local_faults new) ≡ Some f
 
 abbrev pub IsValueFault : Element → Data → ValueFault → Type 0

@@ -1,8 +1,6 @@
 -- An element's own members after an update.
 use Rattle.std.specs.Prelude.{◌≡◌, true, List, Some}
 use Rattle.serde_json.specs.Data.{Data}
-use Rattle.aas_json_mapping.specs.Whole.{whole_payload}
-use Rattle.aas_json_table.specs.TooDeep.{limits}
 use Rattle.aas_model.specs.declared.payload.Payload.{Payload}
 use Rattle.aas_constraint_laws.specs.Values.{without_values}
 use Rattle.aas_value_update.specs.Kinds.{form_of}
@@ -16,4 +14,3 @@ pub record Takes (x : Payload) (v : Data) (y : Payload) : Type 0 where
   -- with children that took what v has for them, the value form is v laid over the old one
   pub form : (xs ys : List Part) → fits_form (form_of x xs) v ≡ true → NamedIn x xs → Took xs (sent x (children xs) v) ys
       → value (form_of y ys) ≡ over (lay_form (form_of x xs)) (value (form_of x xs)) (Some v)
-  pub whole : whole_payload limits x ≡ true → whole_payload limits y ≡ true

@@ -1,8 +1,6 @@
-ghost use Rattle.std.specs.Prelude.{◌≡◌, IfErr, IfOk, IsTrue};
+ghost use Rattle.std.specs.Prelude.{◌≡◌, IfErr, IfOk};
 ghost use Rattle.serde_json.specs.View.{view};
-ghost use Rattle.aas_json_mapping.specs.Whole.{has_whole_parts};
 ghost use Rattle.aas_json_spelling.specs.Values.{IsOrdered};
-ghost use Rattle.aas_json_table.specs.TooDeep.{limits};
 ghost use Rattle.aas_path_trees.specs.Patched.{Fits, kinds, kinds_of_all, patched, patched_submodel};
 ghost use Rattle.aas_value_update.specs.Laws.{IsInOrder};
 ghost use Rattle.aas_value_update.specs.Update.{IsElementUpdate, IsSubmodelUpdate, body};
@@ -29,8 +27,6 @@ pub fn patch_for(alloc: Global, element: &Element, value: &Value) -> Result<Patc
     requires ordered { IsOrdered (view value.now) }
     ensures fits { IfOk result (λ patch. Fits (kinds element.now) patch.rows) }
     ensures update { IfOk result (λ patch. IsElementUpdate element.now (view value.now) (patched patch.rows element.now 0).0) }
-    ensures whole { IfOk result (λ patch. IsTrue (has_whole_parts limits element.now)
-        → IsTrue (has_whole_parts limits (patched patch.rows element.now 0).0)) }
     ensures fault { IfErr result (λ fault. IsPatchFault element.now (view value.now) fault) }
 {
     if !has_form(element) {
@@ -51,8 +47,6 @@ pub fn patch_for_submodel(
     requires ordered { IsOrdered (view value.now) }
     ensures fits { IfOk result (λ patch. Fits (kinds_of_all submodel.now.kids) patch.rows) }
     ensures update { IfOk result (λ patch. IsSubmodelUpdate submodel.now (view value.now) (patched_submodel patch.rows submodel.now)) }
-    ensures whole { IfOk result (λ patch. IsTrue (has_whole_parts limits (body submodel.now))
-        → IsTrue (has_whole_parts limits (body (patched_submodel patch.rows submodel.now)))) }
     ensures fault { IfErr result (λ fault. IsPatchFault (body submodel.now) (view value.now) fault) }
 {
     match object_in(&submodel.kids, value) {

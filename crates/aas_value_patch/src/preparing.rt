@@ -1,9 +1,7 @@
-ghost use Rattle.std.specs.Prelude.{◌≡◌, [], IfErr, IfOk, IsTrue};
+ghost use Rattle.std.specs.Prelude.{◌≡◌, [], IfErr, IfOk};
 ghost use Rattle.serde_json.specs.View.{view};
 ghost use Rattle.aas_constraint_laws.specs.Law.{local_faults};
-ghost use Rattle.aas_json_mapping.specs.Whole.{has_whole_parts};
 ghost use Rattle.aas_json_spelling.specs.Values.{IsOrdered};
-ghost use Rattle.aas_json_table.specs.TooDeep.{limits};
 ghost use Rattle.aas_reference.specs.Rules.{first};
 ghost use Rattle.aas_path_trees.specs.Patched.{Fits, kinds, kinds_of_all, patched, patched_submodel};
 ghost use Rattle.aas_value_update.specs.Laws.{IsInOrder};
@@ -115,8 +113,6 @@ pub fn prepare(alloc: Global, element: &Element, value: &Value) -> Result<Patch,
     requires ordered { IsOrdered (view value.now) }
     ensures fits { IfOk result (λ patch. Fits (kinds element.now) patch.rows) }
     ensures update { IfOk result (λ patch. IsElementUpdate element.now (view value.now) (patched patch.rows element.now 0).0) }
-    ensures whole { IfOk result (λ patch. IsTrue (has_whole_parts limits element.now)
-        → IsTrue (has_whole_parts limits (patched patch.rows element.now 0).0)) }
     ensures faultless { IfOk result (λ patch. local_faults (patched patch.rows element.now 0).0 ≡ []) }
     ensures fault { IfErr result (λ fault. IsValueFault element.now (view value.now) fault) }
 {
@@ -163,8 +159,6 @@ pub fn prepare_submodel(
     requires ordered { IsOrdered (view value.now) }
     ensures fits { IfOk result (λ patch. Fits (kinds_of_all submodel.now.kids) patch.rows) }
     ensures update { IfOk result (λ patch. IsSubmodelUpdate submodel.now (view value.now) (patched_submodel patch.rows submodel.now)) }
-    ensures whole { IfOk result (λ patch. IsTrue (has_whole_parts limits (body submodel.now))
-        → IsTrue (has_whole_parts limits (body (patched_submodel patch.rows submodel.now)))) }
     ensures faultless { IfOk result (λ patch. local_faults (body (patched_submodel patch.rows submodel.now)) ≡ []) }
     ensures fault { IfErr result (λ fault. IsValueFault (body submodel.now) (view value.now) fault) }
 {

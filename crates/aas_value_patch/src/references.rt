@@ -1,15 +1,11 @@
-ghost use Rattle.std.specs.Prelude.{◌≡◌, true, map, IfOk, unwrap_or};
-ghost use Rattle.std.specs.List.{list_all};
+ghost use Rattle.std.specs.Prelude.{◌≡◌, map, IfOk, unwrap_or};
 ghost use Rattle.serde_json.specs.Data.{no_items};
 ghost use Rattle.serde_json.specs.Find.{get_member};
 ghost use Rattle.serde_json.specs.View.{view, items_view, members_view};
 ghost use Rattle.aas_json_mapping.specs.Parts.{spell_specific_asset_id};
-ghost use Rattle.aas_json_mapping.specs.Whole.{whole_specific_asset_id};
 ghost use Rattle.aas_json_spelling.specs.Values.{IsOrdered, AreOrdered, HasOrder};
 ghost use Rattle.aas_json_table.specs.Spelled.{onto};
-ghost use Rattle.aas_json_table.specs.TooDeep.{limits};
 ghost use Rattle.aas_reference.specs.Spelling.{spell_reference};
-ghost use Rattle.aas_reference.specs.Whole.{is_whole, whole_and_there, whole_if_there};
 ghost use Rattle.aas_value.specs.ValueForm.{reference_or_null, array_of};
 ghost use Rattle.aas_value_update.specs.Json.{is_reference, is_reference_or_null, is_specific_asset_id, is_array_of, all_items};
 ghost use Rattle.aas_value_update.specs.Parts.{fits_if};
@@ -38,7 +34,6 @@ fn misfit_of(fault: ReadFault) -> Misfit
 fn reference_from(alloc: Global, value: &Value) -> Result<Reference, Misfit>
     ensures fit { Judges result (is_reference (view value.now)) }
     ensures taken { IfOk result (λ new. IsOrdered (view value.now) → spell_reference new ≡ view value.now) }
-    ensures whole { IfOk result (λ new. is_whole limits new ≡ true) }
 {
     if has_empty_list(value) {
         return Err(Misfit::Shape);
@@ -54,7 +49,6 @@ fn reference_from(alloc: Global, value: &Value) -> Result<Reference, Misfit>
 pub(crate) fn specific_from(alloc: Global, value: &Value) -> Result<SpecificAssetId, Misfit>
     ensures fit { Judges result (is_specific_asset_id (view value.now)) }
     ensures taken { IfOk result (λ new. IsOrdered (view value.now) → spell_specific_asset_id new ≡ view value.now) }
-    ensures whole { IfOk result (λ new. whole_specific_asset_id limits new ≡ true) }
 {
     if has_empty_list(value) {
         return Err(Misfit::Shape);
@@ -72,7 +66,6 @@ pub(crate) fn reference_or_null_from(
 ) -> Result<Option<Reference>, Misfit>
     ensures fit { Judges result (is_reference_or_null (view value.now)) }
     ensures taken { IfOk result (λ new. IsOrdered (view value.now) → reference_or_null new ≡ view value.now) }
-    ensures whole { IfOk result (λ new. whole_if_there limits new ≡ true) }
 {
     match value {
         Value::Null => Ok(None),
@@ -90,7 +83,6 @@ pub(crate) fn reference_under(
     ensures fit { Judges result (fits_if is_reference (get_member name.now (members_view members.now.entries))) }
     ensures taken { IfOk result (λ new. HasOrder (members_view members.now.entries) → reference_or_null new
         ≡ unwrap_or (get_member name.now (members_view members.now.entries)) (reference_or_null old.now)) }
-    ensures whole { IfOk result (λ new. whole_and_there limits old.now ≡ true → whole_and_there limits new ≡ true) }
 {
     match member(members, name) {
         Some(value) => Ok(Some(reference_from(alloc, value)?)),
@@ -102,7 +94,6 @@ fn specific_items(alloc: Global, items: &[Value]) -> Result<Many<SpecificAssetId
     ensures fit { Judges result (all_items is_specific_asset_id (items_view items.now)) }
     ensures taken { IfOk result (λ new. AreOrdered (items_view items.now) → onto (map spell_specific_asset_id new) no_items
         ≡ items_view items.now) }
-    ensures whole { IfOk result (λ new. list_all (whole_specific_asset_id limits) new ≡ true) }
 {
     let mut ids = Many::new(alloc);
     for item in items {
@@ -115,7 +106,6 @@ fn specific_items(alloc: Global, items: &[Value]) -> Result<Many<SpecificAssetId
 fn specifics_from(alloc: Global, value: &Value) -> Result<Many<SpecificAssetId>, Misfit>
     ensures fit { Judges result (is_array_of is_specific_asset_id (view value.now)) }
     ensures taken { IfOk result (λ new. IsOrdered (view value.now) → array_of spell_specific_asset_id new ≡ view value.now) }
-    ensures whole { IfOk result (λ new. list_all (whole_specific_asset_id limits) new ≡ true) }
 {
     match value {
         Value::Array(items) => specific_items(alloc, items.as_slice()),
@@ -133,8 +123,6 @@ pub(crate) fn specifics_under(
     ensures fit { Judges result (fits_if (is_array_of is_specific_asset_id) (get_member name.now (members_view members.now.entries))) }
     ensures taken { IfOk result (λ new. HasOrder (members_view members.now.entries) → array_of spell_specific_asset_id new
         ≡ unwrap_or (get_member name.now (members_view members.now.entries)) (array_of spell_specific_asset_id old.now)) }
-    ensures whole { IfOk result (λ new. list_all (whole_specific_asset_id limits) old.now ≡ true
-        → list_all (whole_specific_asset_id limits) new ≡ true) }
 {
     match member(members, name) {
         Some(value) => specifics_from(alloc, value),

@@ -1,4 +1,4 @@
-ghost use Rattle.std.specs.Prelude.{◌≡◌, ◌&&◌, true, not, map, IfOk, unwrap_or, is_some};
+ghost use Rattle.std.specs.Prelude.{◌≡◌, ◌&&◌, not, map, IfOk, unwrap_or};
 ghost use Rattle.serde_json.specs.Data.{boolean, number, string, object, no_items};
 ghost use Rattle.serde_json.specs.Find.{is_float, get_member};
 ghost use Rattle.serde_json.specs.View.{view, items_view, members_view, number_view};
@@ -159,7 +159,6 @@ pub(crate) fn text_under(
     ensures fit { Judges result (fits_if is_string (get_member name.now (members_view members.now.entries))) }
     ensures taken { IfOk result (λ new. text_or_null new
         ≡ unwrap_or (get_member name.now (members_view members.now.entries)) (text_or_null old.now)) }
-    ensures there { IfOk result (λ new. is_some old.now ≡ true → is_some new ≡ true) }
 {
     match member(members, name) {
         Some(value) => Ok(Some(text_from(alloc, value)?)),
@@ -253,7 +252,6 @@ pub(crate) fn entity_type_under(
     ensures fit { Judges result (fits_if is_entity_type (get_member name.now (members_view members.now.entries))) }
     ensures taken { IfOk result (λ new. entity_type_or_null new
         ≡ unwrap_or (get_member name.now (members_view members.now.entries)) (entity_type_or_null old)) }
-    ensures there { IfOk result (λ new. is_some old ≡ true → is_some new ≡ true) }
 {
     match member(members, name) {
         Some(Value::String(text)) => Ok(Some(entity_type_from(text.as_str())?)),

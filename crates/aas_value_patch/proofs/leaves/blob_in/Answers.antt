@@ -30,6 +30,6 @@ returns c = λ xs order.
       fits = (blob_fits c.args.content_type.now c.args.value.now xs ms order).all c.in_ok-content_type.ensures.fit c.in_ok-value.ensures.fit
           (sym c.has_only_two.ensures ∙ c.if-not-has_only_two.false);
       takes = blob_takes c.args.content_type.now c.args.value.now c.in_ok-content_type.content_type c.in_ok-value.value ms c.in_ok-content_type.ensures.taken
-          c.in_ok-value.ensures.taken c.in_ok-content_type.ensures.there;
+          c.in_ok-value.ensures.taken;
       kids = refl;
     }

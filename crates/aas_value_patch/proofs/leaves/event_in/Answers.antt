@@ -34,4 +34,4 @@ returns c = λ xs is order.
     c.in_ok-copy_option-2.field-0 e.last_update c.in_ok-copy_option-3.field-0
     e.min_interval c.in_ok-copy_option-4.field-0 e.max_interval c.in_ok-copy_option-5.field-0 xs (members_view c.args.members.now.entries) e.is
     c.in_ok-copy_option.ensures c.in_ok-copy_option-2.ensures c.in_ok-copy_option-3.ensures c.in_ok-copy_option-4.ensures c.in_ok-copy_option-5.ensures
-    order c.in_ok-observed.ensures.fit (sym c.has_only.ensures ∙ c.if-not-has_only.false) (c.in_ok-observed.ensures.taken order) c.in_ok-observed.ensures.whole
+    order c.in_ok-observed.ensures.fit (sym c.has_only.ensures ∙ c.if-not-has_only.false) (c.in_ok-observed.ensures.taken order)

@@ -29,6 +29,6 @@ returns c = λ xs order.
       fits = (relationship_fits c.args.first.now c.args.second.now xs ms order).all c.in_ok-first.ensures.fit c.in_ok-second.ensures.fit
           (sym c.has_only_two.ensures ∙ c.if-not-has_only_two.false);
       takes = relationship_takes c.args.first.now c.args.second.now c.in_ok-first.first c.in_ok-second.second ms (c.in_ok-first.ensures.taken order)
-          (c.in_ok-second.ensures.taken order) c.in_ok-first.ensures.whole c.in_ok-second.ensures.whole;
+          (c.in_ok-second.ensures.taken order);
       kids = refl;
     }

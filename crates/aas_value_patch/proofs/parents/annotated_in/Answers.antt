@@ -43,7 +43,6 @@ returns c = λ order.
           (sym c.has_only_three.ensures ∙ c.if-not-has_only_three.false);
       takes =
           annotated_takes c.args.first.now c.args.second.now c.in_ok-first.first c.in_ok-second.second ms (c.in_ok-first.ensures.taken order)
-          (c.in_ok-second.ensures.taken order)
-          c.in_ok-first.ensures.whole c.in_ok-second.ensures.whole;
+          (c.in_ok-second.ensures.taken order);
       kids = c.in_ok-kids.ensures.sent _;
     }

@@ -54,7 +54,6 @@ returns c = λ differ order.
       takes =
           entity_takes c.args.entity_type c.in_ok-entity_type.entity_type c.args.global_asset_id.now c.in_ok-global_asset_id.global_asset_id
           c.args.specific_asset_ids.now c.in_ok-specific_asset_ids.specific_asset_ids ms
-          c.in_ok-entity_type.ensures.taken c.in_ok-global_asset_id.ensures.taken (c.in_ok-specific_asset_ids.ensures.taken order)
-          c.in_ok-entity_type.ensures.there c.in_ok-specific_asset_ids.ensures.whole;
+          c.in_ok-entity_type.ensures.taken c.in_ok-global_asset_id.ensures.taken (c.in_ok-specific_asset_ids.ensures.taken order);
       kids = c.in_ok-kids.ensures.sent _;
     }

@@ -23,6 +23,5 @@ returns c =
       fits = w.fit;
       update = updated e _ v (sym c.has_form.ensures ∙ c.if-not-has_form.false) (c.in_ok-gather_here.ensures.shape c.requires.in_order c.requires.ordered)
           w.taken;
-      whole = w.taken.whole;
       fault = tt;
     }

@@ -34,7 +34,6 @@ returns-in_ok-gather_all-in-Ok c =
             (λ all ordered. c.in_ok-gather_all-in-Ok.ensures.shape own refl all ordered)) w.taken;
         outside = refl;
       };
-      whole = w.taken.whole;
       fault = tt;
     }
 

@@ -1,9 +1,5 @@
-use Rattle.std.proofs.Common.{◌<◌, ◌&&◌, true, length, ap, ap₂, ◌∙◌, arith}
-use Rattle.std.specs.List.{list_all}
-use Rattle.std.proofs.lemmas.List.Folds.{list_all-append}
+use Rattle.std.proofs.Common.{◌<◌, length, arith}
 use Rattle.aas_json_mapping.specs.Parts.{spell_specific_asset_id}
-use Rattle.aas_json_mapping.specs.Whole.{whole_specific_asset_id}
-use Rattle.aas_json_table.specs.TooDeep.{limits}
 use Rattle.aas_value_update.specs.Json.{is_specific_asset_id}
 use Rattle.aas_value_patch.proofs.Items.{fit_step, taken_step, order_step}
 use Rattle.aas_value_patch.proofs.references.specific_items.Goals as goal
@@ -20,7 +16,4 @@ loop-item-preserved c =
       taken = λ o.
           taken_step spell_specific_asset_id l.ids c.push.new.self new vs l.item-index c.item-item.result _ lt c.item-item.is c.in_ok-push.ensures.ok
           (c.in_ok-specific_from.ensures.taken (order_step vs l.item-index c.item-item.result lt c.item-item.is (l.invariant.order o)).0) (l.invariant.taken o);
-      whole =
-          ap (list_all (whole_specific_asset_id limits)) c.in_ok-push.ensures.ok ∙ list_all-append (whole_specific_asset_id limits) l.ids _
-          ∙ ap₂ (λ a b. a && (b && true)) l.invariant.whole c.in_ok-specific_from.ensures.whole;
     }
