@@ -100,9 +100,7 @@ fn patch_for_element<S: Store>(
         IsRefused (S.documents store.now) (UpdateValue id.now path.now value.now) refusal) }
 {
     let element = stored(alloc, store, id, path)?;
-    let prepared = prepare(alloc, &element, value.as_value());
-    drop(element);
-    match prepared {
+    match prepare(alloc, element, value.as_value()) {
         Ok(patch) => Ok(patch),
         Err(fault) => Err(refusal_behind(path, fault)),
     }
@@ -141,9 +139,7 @@ fn patch_for_submodel<S: Store>(
         IsRefused (S.documents store.now) (UpdateValue id.now path.now value.now) refusal) }
 {
     let submodel = stored_submodel(store, id)?;
-    let prepared = prepare_submodel(alloc, &submodel, value.as_value());
-    drop(submodel);
-    match prepared {
+    match prepare_submodel(alloc, submodel, value.as_value()) {
         Ok(patch) => Ok(patch),
         Err(fault) => Err(refusal_behind(path, fault)),
     }

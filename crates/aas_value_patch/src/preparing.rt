@@ -69,24 +69,24 @@ fn fault_by(fault: Fault) -> ValueFault
     }
 }
 
-/// A copy of the element with the patch.
-fn with_patch(element: &Element, patch: &Patch) -> Result<Element, NoMemory>
-    requires { Fits (kinds element.now) patch.now.rows }
-    ensures { IfOk result (λ updated. updated ≡ (patched patch.now.rows element.now 0).0) }
+/// The element with the patch, of which a copy is used up.
+fn with_patch(element: Element, patch: &Patch) -> Result<Element, NoMemory>
+    requires { Fits (kinds element) patch.now.rows }
+    ensures { IfOk result (λ updated. updated ≡ (patched patch.now.rows element 0).0) }
 {
     let patch = patch.copy()?;
-    let mut updated = element.copy()?;
+    let mut updated = element;
     apply(&mut updated, patch);
     Ok(updated)
 }
 
-/// A copy of the submodel with the patch.
-fn with_patch_for_all(submodel: &Submodel, patch: &Patch) -> Result<Submodel, NoMemory>
-    requires { Fits (kinds_of_all submodel.now.kids) patch.now.rows }
-    ensures { IfOk result (λ updated. updated ≡ patched_submodel patch.now.rows submodel.now) }
+/// The submodel with the patch, of which a copy is used up.
+fn with_patch_for_all(submodel: Submodel, patch: &Patch) -> Result<Submodel, NoMemory>
+    requires { Fits (kinds_of_all submodel.kids) patch.now.rows }
+    ensures { IfOk result (λ updated. updated ≡ patched_submodel patch.now.rows submodel) }
 {
     let patch = patch.copy()?;
-    let mut updated = submodel.copy()?;
+    let mut updated = submodel;
     apply_all(&mut updated, patch);
     Ok(updated)
 }
@@ -101,22 +101,22 @@ fn first_fault(alloc: Global, element: Element) -> Result<Option<Fault>, NoMemor
 }
 
 /// The patch by which the element, at rank 0, takes a sent value: what the value leaves out stays, and the element keeps each
-/// rule that it can break wherever it stands. It copies the element once.
+/// rule that it can break wherever it stands. The element itself takes the patch for this, and is dropped.
 ///
 /// # Errors
 ///
 /// Exactly one of these holds, or there is a patch: `NoValueForm` for a Capability or an Operation; `Shape` at the first
 /// element in preorder whose own part of the value has the wrong shape; `Lexical` or `Constraint` for the first fault that the
 /// updated element has by itself. `NoMemory` may come at any time.
-pub fn prepare(alloc: Global, element: &Element, value: &Value) -> Result<Patch, ValueFault>
-    requires in_order { IsInOrder element.now }
+pub fn prepare(alloc: Global, element: Element, value: &Value) -> Result<Patch, ValueFault>
+    requires in_order { IsInOrder element }
     requires ordered { IsOrdered (view value.now) }
-    ensures fits { IfOk result (λ patch. Fits (kinds element.now) patch.rows) }
-    ensures update { IfOk result (λ patch. IsElementUpdate element.now (view value.now) (patched patch.rows element.now 0).0) }
-    ensures faultless { IfOk result (λ patch. local_faults (patched patch.rows element.now 0).0 ≡ []) }
-    ensures fault { IfErr result (λ fault. IsValueFault element.now (view value.now) fault) }
+    ensures fits { IfOk result (λ patch. Fits (kinds element) patch.rows) }
+    ensures update { IfOk result (λ patch. IsElementUpdate element (view value.now) (patched patch.rows element 0).0) }
+    ensures faultless { IfOk result (λ patch. local_faults (patched patch.rows element 0).0 ≡ []) }
+    ensures fault { IfErr result (λ fault. IsValueFault element (view value.now) fault) }
 {
-    let patch = patch_for(alloc, element, value)?;
+    let patch = patch_for(alloc, &element, value)?;
     let updated = with_patch(element, &patch)?;
     match first_fault(alloc, updated)? {
         None => Ok(patch),
@@ -148,21 +148,20 @@ fn into_body(alloc: Global, submodel: Submodel) -> Element
     }
 }
 
-/// The same for a submodel as an object of its children, whose first child has rank 0. It always has a value form, and is
-/// copied once.
+/// The same for a submodel as an object of its children, whose first child has rank 0. It always has a value form.
 pub fn prepare_submodel(
     alloc: Global,
-    submodel: &Submodel,
+    submodel: Submodel,
     value: &Value,
 ) -> Result<Patch, ValueFault>
-    requires in_order { IsInOrder (body submodel.now) }
+    requires in_order { IsInOrder (body submodel) }
     requires ordered { IsOrdered (view value.now) }
-    ensures fits { IfOk result (λ patch. Fits (kinds_of_all submodel.now.kids) patch.rows) }
-    ensures update { IfOk result (λ patch. IsSubmodelUpdate submodel.now (view value.now) (patched_submodel patch.rows submodel.now)) }
-    ensures faultless { IfOk result (λ patch. local_faults (body (patched_submodel patch.rows submodel.now)) ≡ []) }
-    ensures fault { IfErr result (λ fault. IsValueFault (body submodel.now) (view value.now) fault) }
+    ensures fits { IfOk result (λ patch. Fits (kinds_of_all submodel.kids) patch.rows) }
+    ensures update { IfOk result (λ patch. IsSubmodelUpdate submodel (view value.now) (patched_submodel patch.rows submodel)) }
+    ensures faultless { IfOk result (λ patch. local_faults (body (patched_submodel patch.rows submodel)) ≡ []) }
+    ensures fault { IfErr result (λ fault. IsValueFault (body submodel) (view value.now) fault) }
 {
-    let patch = patch_for_submodel(alloc, submodel, value)?;
+    let patch = patch_for_submodel(alloc, &submodel, value)?;
     let updated = with_patch_for_all(submodel, &patch)?;
     match first_fault(alloc, into_body(alloc, updated))? {
         None => Ok(patch),

@@ -11,8 +11,8 @@ returns-in_err-element-clause-refusal g c =
     handed_on c.from_residual.result _ (λ r. r ≢ NoMemory → IsRefused d (UpdateValue c.args.id.now c.args.path.now c.args.value.now) r)
     c.from_residual.ensures (λ other. c.in_err-element.ensures.lost other c.args.value.now)
 
-pub prepare-prepared-requires-clause-in_order : goal.prepare-prepared-requires-clause-in_order
-prepare-prepared-requires-clause-in_order g c =
+pub prepare-requires-clause-in_order : goal.prepare-requires-clause-in_order
+prepare-requires-clause-in_order g c =
     let d = g.S.Store.documents c.args.store.now in
     (element_stored d c.args.id.now c.args.path.now.steps c.in_ok-element.element c.requires.valid c.in_ok-element.ensures.found).order
 

@@ -12,8 +12,8 @@ returns-in_err-submodel-clause-refusal g c =
     handed_on c.from_residual.result _ (λ r. r ≢ NoMemory → IsRefused d (UpdateValue c.args.id.now c.args.path.now c.args.value.now) r)
     c.from_residual.ensures (λ other. c.in_err-submodel.ensures.lost other c.args.path.now c.args.value.now)
 
-pub prepare_submodel-prepared-requires-clause-in_order : goal.prepare_submodel-prepared-requires-clause-in_order
-prepare_submodel-prepared-requires-clause-in_order g c =
+pub prepare_submodel-requires-clause-in_order : goal.prepare_submodel-requires-clause-in_order
+prepare_submodel-requires-clause-in_order g c =
     let d = g.S.Store.documents c.args.store.now in
     let s = c.in_ok-submodel.submodel in
     (body_stored d c.args.id.now c.args.path.now.steps s c.requires.valid c.requires.no_steps c.in_ok-submodel.ensures.found).order
