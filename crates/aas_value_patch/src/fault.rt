@@ -20,7 +20,7 @@ impl From<NoMemory> for Misfit {
 }
 
 /// Why a walk along an element and a sent value stopped.
-#[derive(Debug, Drop)]
+#[derive(Drop)]
 pub(crate) enum Stop {
     /// The element to which the path leads is the first whose own part of the value has the wrong shape.
     Shape(Path),

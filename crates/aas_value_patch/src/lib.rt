@@ -15,8 +15,6 @@ mod references;
 mod sent;
 mod slots;
 mod step;
-#[cfg(test)]
-mod tests;
 
 pub use fault::PatchFault;
 pub use patch::{patch_for, patch_for_submodel};
