@@ -2,7 +2,6 @@ mod Early
 mod Given
 mod OneWay
 mod Opened
-mod OpenedThen
 mod Replayed
 mod Since
 mod ValueAnswers

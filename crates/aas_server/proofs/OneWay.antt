@@ -1,4 +1,4 @@
--- What files open as, and what a stop leaves opens as.
+-- Files open as one thing at most.
 use Rattle.std.proofs.Common.{◌≡◌, inl, inr, ℕ, List, refl, sym, ap, subst, ◌∙◌}
 use Rattle.aas_journal.specs.Bank.{chosen_file}
 use Rattle.aas_journal.specs.Image.{gate_of}
@@ -8,9 +8,8 @@ use Rattle.aas_repo_replay.specs.Laws.{OneReplay, OneStop}
 use Rattle.aas_repo_replay.specs.Replay.{Replays, StopsAt}
 use Rattle.aas_rule.specs.Rule.{Repository}
 use Rattle.aas_store.specs.Documents.{Documents}
-use Rattle.aas_server.specs.Ends.{DiskState}
-use Rattle.aas_server.specs.Laws.{OpenOneWay, StopsOpen}
-use Rattle.aas_server.specs.Opening.{Opens, OpensTo, StopsAtGate, begun, damaged, not_initialised}
+use Rattle.aas_server.specs.Laws.{OpenOneWay}
+use Rattle.aas_server.specs.Opening.{Opens, StopsAtGate, begun, damaged, not_initialised}
 
 -- ---- one repository
 
@@ -63,11 +62,3 @@ module _ (one_list : HaveOneList) (one_condition : HaveOneCondition) (one_stop :
   open_one_way files (begun r) not_initialised a b = absurd (not_or_begun files r b a)
   open_one_way files (begun r) (damaged at) a b = absurd (damaged_or_begun files at r b a)
   open_one_way files (begun r) (begun s) a b = ap begun (same_repository one_list one_replay files r s a b)
-
--- ---- what a stop leaves
-
-pub stops_open : OneReplay → (start : DiskState) → StopsOpen start
-stops_open one_replay start r image payloads d replays anyway (inl is) at = (payloads, (is, at))
-stops_open one_replay start r image payloads d replays anyway (inr (same, left)) at =
-    let e : r.documents ≡ d = one_replay r.records r.documents d replays (subst (λ (l : List (List ℕ)). Replays l d) same at) in
-    subst (λ (x : Documents). OpensTo x image) e (anyway image left)

@@ -10,7 +10,8 @@ use Rattle.aas_outside.specs.Moments.{Passes}
 use Rattle.aas_outside.specs.Surroundings.{Connections, sent_on_all}
 use Rattle.aas_outside_disk.specs.Disk.{AddsNone, Meanwhile}
 use Rattle.aas_outside_disk.specs.Files.{Files}
-use Rattle.aas_repo_replay.specs.Laws.{OneReplay}
+use Rattle.aas_repo_replay.specs.Laws.{AcceptedReplay, OneReplay}
+use Rattle.aas_repo_replay.specs.Replay.{Replays}
 use Rattle.aas_rule.specs.Rule.{Repository}
 use Rattle.aas_rule.specs.State.{State, IsSettledState, repository_of}
 use Rattle.aas_session.specs.Connections.{ServesAll}
@@ -21,13 +22,15 @@ use Rattle.aas_session.specs.declared.wire.WireEnded.{WireEnded}
 use Rattle.aas_session.specs.declared.wire.WireEnded.TheVariants as wire
 use Rattle.aas_step.specs.Valid.{AreValid}
 use Rattle.aas_store.specs.Documents.{Documents}
+use Rattle.aas_api_service.specs.Laws.{AsksWellFormed}
 use Rattle.aas_api_service.specs.Turns.{Turns}
-use Rattle.aas_server.specs.Ends.{ConsoleState, DiskState, WireState}
+use Rattle.aas_server.specs.Ends.{ConsoleState, DiskState, MayLeave, WireState}
 use Rattle.aas_server.specs.OnDisk.{StandsFor, state_on}
 use Rattle.aas_server.specs.Opening.{HasBegun, Opens, OpensAs, begun}
 use Rattle.aas_server.specs.Pipe.{IsConsoleServed, IsPiped, pipe_status}
 use Rattle.aas_server.specs.Serve.{IsServed, IsWireServed, serve_status}
 use Rattle.aas_server.proofs.OneWay.{same_repository}
+use Rattle.aas_server.proofs.Replayed.{AreRead, Replay}
 use Rattle.aas_server.proofs.Since.{all_since, served_since}
 
 -- the files open as the repository of this state, which is settled
@@ -38,10 +41,11 @@ pub has_begun : (start : DiskState) (state : State Documents Files) → IfSome s
 has_begun start state opened = IfSome_then start.seen opened (λ files is. (repository_of state is.0, is.1))
 
 -- the disk at the start and at the end, what the journal held when it was opened, and the documents at the end
-module _ (one_list : HaveOneList) (one_replay : OneReplay) (start last : DiskState) (opened : State Documents Files) (d : Documents)
+module _ (one_list : HaveOneList) (one_replay : OneReplay) (asks_well_formed : AsksWellFormed) (accepted_replay : AcceptedReplay)
+    (start last : DiskState) (opened : State Documents Files) (d : Documents)
     (kept : List (List ℕ) → Type 0)
     (told : (payloads : List (List ℕ)) → kept payloads → (files : Files) × (last.seen ≡ Some files) × IsBankImage files payloads)
-    (is_opened : IfSome start.seen (IsOpened opened)) (read : Passes start.moment start.left_at opened.moment opened.left_at)
+    (is_opened : IfSome start.seen (IsOpened opened)) (reads : Passes start.moment start.left_at opened.moment opened.left_at)
     (images : Meanwhile start.moment opened.moment start.left_at opened.left_at AddsNone)
     (passed : Passes opened.moment opened.left_at last.moment last.left_at) (valid : AreValid d) where
   abbrev now : State Documents Files
@@ -68,6 +72,10 @@ module _ (one_list : HaveOneList) (one_replay : OneReplay) (start last : DiskSta
 
   -- ---- from the start on
 
+  -- what is kept and replays to the documents opens as them
+  kept_opens : (payloads : List (List ℕ)) → Replays payloads d → kept payloads → (state_on last d).kept payloads
+  kept_opens payloads replays holds = let files = told payloads holds in (files.0, files.1, (files.2, replays))
+
   module _ (r : Repository Documents) (opens : OpensAs start r) where
     here : IsOpened opened opens.0
     here = subst (λ (seen : Option Files). IfSome seen (IsOpened opened)) opens.1 is_opened
@@ -75,18 +83,24 @@ module _ (one_list : HaveOneList) (one_replay : OneReplay) (start last : DiskSta
     same : repository_of opened here.0 ≡ r
     same = same_repository one_list one_replay opens.0 (repository_of opened here.0) r here.1 opens.2
 
-    weaker : (image : Files) (payloads : List (List ℕ)) → IsBankImage image payloads → StandsFor start r.records image payloads
-    weaker image payloads is = inl is
+    read : AreRead r
+    read = opens.2.1
 
-    before : (t : ℕ) → start.moment ≤ t → t ≤ opened.moment → (image : Files) → last.left_at t image → StandsFor start r.records image r.records
-    before t since until image left = inr (refl, images t since until image ((passed.past t until image).0 left))
+    weaker : (image : Files) (payloads : List (List ℕ)) → Replay payloads → IsBankImage image payloads → StandsFor start r image payloads
+    weaker image payloads (documents, replays) is =
+        record { documents = documents; replays = replays; left = inl is; opens = λ anyway. (payloads, (is, replays)) }
+
+    before : (t : ℕ) → start.moment ≤ t → t ≤ opened.moment → (image : Files) → last.left_at t image → StandsFor start r image r.records
+    before t since until image here =
+        let from_start : MayLeave start image = images t since until image ((passed.past t until image).0 here) in
+        record { documents = r.documents; replays = read; left = inr (refl, from_start); opens = λ anyway. anyway image from_start }
 
     piped : (end : Ended) (old new : ConsoleState) → ServesConsole end old new → (input : List ℕ) → old.left ≡ Some input
         → IsPiped end input r old new start last
     piped end old new serves input left = record {
       documents = d;
-      served = served_since (Turns has_room_behind) IsBankImage (StandsFor start r.records) weaker d last.moment last.left_at kept _ told
-          start.moment opened.moment r read.later before input old.sent new.sent (Rose old.faults new.faults) end
+      served = served_since asks_well_formed accepted_replay has_room_behind IsBankImage (StandsFor start r) weaker d last.moment last.left_at
+          kept (state_on last d).kept kept_opens start.moment opened.moment r read reads.later before input old.sent new.sent (Rose old.faults new.faults) end
           (subst (λ (x : Repository Documents). Session x input end old new) same (serves input here.0 left here.2));
       valid = valid;
     }
@@ -95,8 +109,8 @@ module _ (one_list : HaveOneList) (one_replay : OneReplay) (start last : DiskSta
         → old.connections ≡ Some c → old.sent ≡ Some sent → IsServed count end c sent r old new start last
     served count end old new serves c sent known known_sent = record {
       documents = d;
-      served = all_since (Turns has_room_behind) IsBankImage (StandsFor start r.records) weaker d last.moment last.left_at kept _ told
-          start.moment opened.moment r read.later before c.coming (sent_on_all c sent) count new.connections new.sent
+      served = all_since asks_well_formed accepted_replay has_room_behind IsBankImage (StandsFor start r) weaker d last.moment last.left_at
+          kept (state_on last d).kept kept_opens start.moment opened.moment r read reads.later before c.coming (sent_on_all c sent) count new.connections new.sent
           (Rose old.faults new.faults) end
           (subst (λ (x : Repository Documents). Sessions x c sent count end old new) same (serves c sent here.0 known known_sent here.2));
       valid = valid;
@@ -126,7 +140,7 @@ module _ (one_list : HaveOneList) (one_replay : OneReplay) (start last : DiskSta
     served = λ c bytes r known known_sent opens.
         let s = served r opens count end mid new serves c bytes (connections ∙ known) (sent ∙ known_sent) in record {
           documents = s.documents;
-          served = subst (λ (n : ℕ). ServesAll (Turns has_room_behind) (StandsFor start r.records) r c.coming (sent_on_all c bytes) count
+          served = subst (λ (n : ℕ). ServesAll (Turns has_room_behind) (StandsFor start r) r c.coming (sent_on_all c bytes) count
               start.moment (state_on last s.documents) new.connections new.sent (Rose n new.faults) end) faults s.served;
           valid = s.valid;
         };

@@ -21,11 +21,11 @@ pipe_status LinkFault = 3
 pipe_status KeeperFault = 4
 pipe_status NoMemory = 10
 
--- Of the session on the input from this repository this was done, and the documents that it left are valid. What a stop
--- leaves is said from the start of the run on.
+-- Of the session on the input from this repository this was done, and the documents that it left are valid. From the start
+-- of the run on it is said for which payloads what a stop leaves stands, and as which documents it opens.
 pub record IsPiped (ended : Ended) (input : List ℕ) (r : Repository Documents) (old new : ConsoleState) (disk_old disk_new : DiskState) : Type 0 where
   pub documents : Documents
-  pub served : Served (Turns has_room_behind) (StandsFor disk_old r.records) r input disk_old.moment (state_on disk_new documents)
+  pub served : Served (Turns has_room_behind) (StandsFor disk_old r) r input disk_old.moment (state_on disk_new documents)
       old.sent new.sent (Rose old.faults new.faults) ended
   pub valid : AreValid documents
 

@@ -32,11 +32,12 @@ pub record IsUnserved (status : ℕ) (old new : WireState) (disk_old disk_new : 
   pub unwritten : IsUnwritten disk_old disk_new
 
 -- From this repository on, of so many of the connections that were to come this was done, and the documents that they left
--- are valid. What a stop leaves is said from the start of the run on.
+-- are valid. From the start of the run on it is said for which payloads what a stop leaves stands, and as which documents it
+-- opens.
 pub record IsServed (count : ℕ) (ended : WireEnded) (c : Connections) (sent : List ℕ) (r : Repository Documents)
     (old new : WireState) (disk_old disk_new : DiskState) : Type 0 where
   pub documents : Documents
-  pub served : ServesAll (Turns has_room_behind) (StandsFor disk_old r.records) r c.coming (sent_on_all c sent) count
+  pub served : ServesAll (Turns has_room_behind) (StandsFor disk_old r) r c.coming (sent_on_all c sent) count
       disk_old.moment (state_on disk_new documents) new.connections new.sent (Rose old.faults new.faults) ended
   pub valid : AreValid documents
 

@@ -15,7 +15,7 @@ mod stop;
 mod value;
 
 pub use commands::{Ran, run};
-pub use laws::{files_open_one_way, sessions_open, sessions_replay, stops_open};
+pub use laws::{files_open_one_way, sessions_replay};
 pub use status::Status;
 
 #[cfg(test)]
