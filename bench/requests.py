@@ -5,12 +5,14 @@ In each run the program gets the requests of one connection: so many small submo
 timed up to their last reply. A batch of GETs asks for submodels that lie apart; a batch of POSTs creates new ones, which are deleted again before the
 next. So the program keeps between so many submodels and 100 more while it is timed. Each reply is compared with what it must be.
 
+All these submodels are also listed, in pages of 100, each of which begins behind the last submodel of the one before.
+
 Then so many elements are put into one submodel, right below it or in the innermost of ten collections, and the last of them is read and updated through
-its value form, and another one is added behind it and deleted again.
+its value form, and another one is added behind it and deleted again. Those right below it are listed, too.
 
 Printed are the microseconds for a request with 10, 100, 1,000 and 10,000 submodels, and with 10, 1,000 and 65,536 elements, those that passed and those
-that the program itself ran, each the median over all batches of some runs, and how much the latter grew from the first to the last. The script ends with
-status 1 where that is past 2 times with submodels. With elements it is printed alone. It wants an idle machine.
+that the program itself ran, each the median over all batches of some runs, and how much the latter grew from the first to the last; of pages those for
+each entry. The script ends with status 1 where that is past 2 times with submodels. With elements it is printed alone. It wants an idle machine.
 """
 import argparse
 import base64
@@ -30,6 +32,8 @@ COUNTS = (10, 100, 1_000, 10_000)
 BATCH = 100
 BATCHES = 20
 GROWTH = 2
+# The entries of a page.
+PAGE = 100
 # The elements of the one submodel, and how many of each request are sent at once.
 ELEMENTS = {10: 100, 1_000: 20, 65_536: 2}
 # How many collections lie around them.
@@ -60,8 +64,12 @@ def submodel(number):
     return json.dumps(document, separators=(',', ':'), sort_keys=True)
 
 
+def segment(identity):
+    return base64.urlsafe_b64encode(identity.encode()).decode().rstrip('=')
+
+
 def path_of(identity):
-    return '/submodels/' + base64.urlsafe_b64encode(identity.encode()).decode().rstrip('=')
+    return '/submodels/' + segment(identity)
 
 
 def path(number):
@@ -88,6 +96,24 @@ def get(number):
 
 def delete(number):
     return request('DELETE ' + path(number)), reply('204 No Content')
+
+
+def page(target, entries, cursor, behind):
+    """The page at the cursor: these entries, and the cursor of the page behind it, if there is one."""
+    after = f'&cursor={cursor}' if cursor else ''
+    metadata = f'{{"cursor":"{behind}"}}' if behind else '{}'
+    text = f'{{"paging_metadata":{metadata},"result":[{",".join(entries)}]}}'
+    return request(f'GET {target}?limit={PAGE}{after}'), reply('200 OK', text)
+
+
+def pages(count):
+    """A walk over the submodels."""
+    cursor = ''
+    for first in range(0, count, PAGE):
+        numbers = range(first, min(first + PAGE, count))
+        behind = segment(identifier(numbers[-1])) if numbers[-1] < count - 1 else ''
+        yield page('/submodels', [submodel(number) for number in numbers], cursor, behind)
+        cursor = behind
 
 
 class Elements:
@@ -126,6 +152,13 @@ class Elements:
 
     def remove(self):
         return request(f'DELETE {self.target(self.last + 1)}'), reply('204 No Content')
+
+    def pages(self):
+        """A walk over the elements right below the submodel, none of which has a value yet."""
+        for first in range(0, self.last + 1, PAGE):
+            behind = first + PAGE if first + PAGE <= self.last else ''
+            entries = [self.element(number) for number in range(first, min(first + PAGE, self.last + 1))]
+            yield page(self.at, entries, first or '', behind)
 
 
 class Pipe:
@@ -185,9 +218,14 @@ def batches(numbers):
     return [numbers[at:at + BATCH] for at in range(0, len(numbers), BATCH)]
 
 
+def per_entry(times, count):
+    """By the entries of a page."""
+    return [tuple(time / min(PAGE, count) for time in pair) for pair in times]
+
+
 def one_run(program, count):
-    """What each batch of GETs and each of POSTs took, with so many submodels."""
-    gets, posts = [], []
+    """What each batch of GETs, each of POSTs and each full page took, with so many submodels."""
+    gets, posts, lists = [], [], []
     with tempfile.TemporaryDirectory(dir=FOLDER) as folder:
         pipe = Pipe(program, folder)
         for numbers in batches(list(range(count))):
@@ -198,8 +236,9 @@ def one_run(program, count):
             gets.append(pipe.exchange([get(number) for number in apart]))
             posts.append(pipe.exchange([post(number) for number in new]))
             pipe.exchange([delete(number) for number in new])
+        lists += per_entry([pipe.exchange([listed]) for listed in pages(count)], count)
         pipe.end()
-    return gets, posts
+    return [gets, posts, lists]
 
 
 def element_run(program, count, depth):
@@ -210,6 +249,8 @@ def element_run(program, count, depth):
     with tempfile.TemporaryDirectory(dir=FOLDER) as folder:
         pipe = Pipe(program, folder)
         pipe.exchange([asked.create()])
+        if depth == 0:
+            times['element on a page'] = per_entry([pipe.exchange([listed]) for listed in asked.pages()], count)
         for turn in range(max(BATCHES * size // BATCH, 3)):
             value = 1000 * (turn + 1)
             times['PATCH of $value'].append(pipe.exchange([asked.update(value + n) for n in range(size)]))
@@ -229,7 +270,7 @@ def print_elements(program, runs, depth):
         for count, of in took.items():
             passed, ran = (statistics.median(times) * 1e6 for times in zip(*(pair for run in of for pair in run[name])))
             own.append(ran)
-            print(f'  {count:6} elements {passed:10.1f} us a request, {ran:10.1f} of them run')
+            print(f'  {count:6} elements {passed:10.1f} us each, {ran:10.1f} of them run')
         print(f'  grew {own[-1] / own[0]:.1f} times')
 
 
@@ -246,13 +287,13 @@ def main():
     for _ in range(options.runs):
         for count in COUNTS:
             took[count].append(one_run(program, count))
-    for kind, name in enumerate(('GET of a submodel', 'POST of a submodel')):
+    for kind, (name, size) in enumerate((('GET of a submodel', BATCH), ('POST of a submodel', BATCH), ('submodel on a page', 1))):
         print(name)
         own = []
         for count in COUNTS:
-            passed, ran = (statistics.median(times) / BATCH * 1e6 for times in zip(*(pair for run in took[count] for pair in run[kind])))
+            passed, ran = (statistics.median(times) / size * 1e6 for times in zip(*(pair for run in took[count] for pair in run[kind])))
             own.append(ran)
-            print(f'  {count:6} submodels {passed:8.1f} us a request, {ran:8.1f} of them run')
+            print(f'  {count:6} submodels {passed:8.1f} us each, {ran:8.1f} of them run')
         growth = own[-1] / own[0]
         good = good and growth <= GROWTH
         print(f'  grew {growth:.2f} times')

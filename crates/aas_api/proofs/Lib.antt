@@ -1,4 +1,3 @@
 pub mod BrokenNumbers
 mod LastSteps
-mod Paths
-mod Queries
+mod ReadSegments

@@ -1,5 +1,6 @@
--- What a request asks for: a command or a question, or why it is refused. Causes are tried in this order: no such path, the method, the identifier, the path of
--- an element, the query, the body, and then that the body's identifier or name isn't the path's. This profile's own rule.
+-- What a request asks for: a command or a question, or why it is refused. Causes are tried in this order: no such path, the method, the
+-- identifiers, the path of an element, the query, the body, and then that the body's identifier or name isn't the path's. This profile's
+-- own rule.
 use Rattle.std.specs.Prelude.{◌≡◌, ◌⊎◌, ℕ, ◌+◌, List, [], length, bytes_eq, Bool, true, if◌then◌else◌, Option, Some, None, Result, Ok, Err}
 use Rattle.std.specs.List.{last_or}
 use Rattle.std.specs.Str.{chars}
@@ -10,7 +11,8 @@ use Rattle.aas_json_table.specs.TooDeep.{Levels, limits}
 use Rattle.aas_json_spelling.specs.Spells.{Trees}
 use Rattle.aas_json_spelling.specs.Reading.{reading}
 use Rattle.aas_json_spelling.specs.Reads.{IsPointer, ReadsBytes}
-use Rattle.aas_json_mapping.specs.Trees as trees
+use Rattle.aas_json_mapping.specs.Trees.{asset_informations, elements}
+use Rattle.aas_reference.specs.Trees.{references}
 use Rattle.aas_model.specs.declared.element.Element.{Element as ElementTree}
 use Rattle.aas_model.specs.declared.path.Path.{Path}
 use Rattle.aas_model.specs.declared.path.PathStep.{PathStep}
@@ -23,23 +25,27 @@ use Rattle.aas_path.specs.PathText.{IsPath, IsNoPath}
 use Rattle.aas_edit_laws.specs.Laws.{at_level}
 use Rattle.aas_command.specs.Refusals.{refusal_of_read}
 use Rattle.aas_command.specs.declared.command.Command.{Command}
-use Rattle.aas_command.specs.declared.command.Command.TheVariants.{SetAsset, InsertElement, ReplaceElement, DeleteElement, UpdateValue}
-use Rattle.aas_command.specs.declared.question.Question.{Question}
-use Rattle.aas_command.specs.declared.question.Question.TheVariants as question
+use Rattle.aas_command.specs.declared.command.Command.TheVariants.{SetAsset, AddReference, DropReference, InsertElement, ReplaceElement, DeleteElement, UpdateValue}
 use Rattle.aas_command.specs.declared.refusal.Refusal.{Refusal}
 use Rattle.aas_command.specs.declared.refusal.Refusal.TheVariants.{NoRoute, NotAllowed, BadIdentifier, BadPath, BadQuery, NotJson, NotMapping, IdMismatch}
+use Rattle.aas_question.specs.declared.question.Question.{Question}
+use Rattle.aas_question.specs.declared.question.Question.TheVariants as question
 use Rattle.aas_http.specs.FirstRequest.{Message}
 use Rattle.aas_page.specs.Segment.{StandsFor}
+use Rattle.aas_target.specs.Given.{Gives, IsBadIn, extent_of, level_of, selection_of, span_of}
+use Rattle.aas_target.specs.Query.{parameter_name}
+use Rattle.aas_target.specs.Routes.{Found, Texts, allow_text, method_among, methods_of, parameters_of, path_in, query_in, resource_at}
+use Rattle.aas_target.specs.declared.given.Given.{Given}
+use Rattle.aas_target.specs.declared.method.Method.{Method}
+use Rattle.aas_target.specs.declared.method.Method.TheVariants.{Get, Post, Put, Patch, Delete}
+use Rattle.aas_target.specs.declared.parameter.Parameter.{Parameter}
+use Rattle.aas_target.specs.declared.routes.Resource.{Resource}
+use Rattle.aas_target.specs.declared.routes.Resource.TheVariants.{Shells, ShellsReference, Shell, ShellReference, AssetInformation, ReferencesOf, ReferencesTo, Submodels, SubmodelsMetadata, SubmodelsValue, SubmodelsReference, Submodel, SubmodelMetadata, SubmodelValue, SubmodelReference, SubmodelPaths, Elements, ElementsMetadata, ElementsReference, Element, ElementMetadata, ElementValue, ElementReference, ElementPaths, Concepts, Concept}
 use Rattle.aas_api.specs.Interfaces.{Interface, shell_interface, submodel_interface, concept_interface}
 use Rattle.aas_api.specs.Numbers.{broken_number}
-use Rattle.aas_api.specs.Query.{first_bad, modifiers_of, parameter_name, settings_of}
-use Rattle.aas_api.specs.Routes.{Method, get, post, put, patch, delete, Found, Texts, allow_text, method_among, methods_of, parameters_of, path_in, query_in, resource_at}
 use Rattle.aas_api.specs.declared.ask.Ask.{Ask}
 use Rattle.aas_api.specs.declared.ask.Ask.TheVariants.{Act, Answer}
-use Rattle.aas_api.specs.declared.query.Modifiers.{Modifiers}
-use Rattle.aas_api.specs.declared.query.Parameter.{Parameter}
-use Rattle.aas_api.specs.declared.routes.Resource.{Resource}
-use Rattle.aas_api.specs.declared.routes.Resource.TheVariants.{Shells, Shell, ShellReference, AssetInformation, Submodels, Submodel, SubmodelMetadata, SubmodelValue, SubmodelReference, SubmodelPaths, Elements, Element, ElementMetadata, ElementValue, ElementReference, ElementPaths, Concepts, Concept}
+use Rattle.aas_api.specs.declared.ask.Call.{Call}
 
 -- what is asked, or the refusal
 abbrev pub Asked : Type 0
@@ -54,7 +60,7 @@ IsCommand c asked = asked ≡ Ok (Act c)
 -- ---- segments, queries and bodies
 
 -- by the identifier for which a segment stands
-abbrev pub ById : List ℕ → (List ℕ → Asked → Type 0) → Asked → Type 0
+abbrev pub ById : {A : Type 0} → List ℕ → (List ℕ → Result A Refusal → Type 0) → Result A Refusal → Type 0
 ById segment Asks asked =
     ((id : List ℕ) × StandsFor segment id × Asks id asked)
     ⊎ (((id : List ℕ) → ¬ StandsFor segment id) × (asked ≡ Err BadIdentifier))
@@ -69,18 +75,15 @@ ByPath segment Asks asked =
 abbrev pub AtElement : Texts → (List ℕ → Path → Asked → Type 0) → Asked → Type 0
 AtElement t Asks = ById t.id (λ id. ByPath t.path (Asks id))
 
--- so, if no parameter is bad
-abbrev pub UnlessBad : Option Parameter → (Asked → Type 0) → Asked → Type 0
-UnlessBad None Asks asked = Asks asked
-UnlessBad (Some p) Asks asked = asked ≡ Err (BadQuery (chars (parameter_name p)))
-
 -- by what a query gives of the parameters that are listed
-abbrev pub ByQuery : List Parameter → List ℕ → (Modifiers → Asked → Type 0) → Asked → Type 0
-ByQuery listed query Asks asked = let settings = settings_of listed query in UnlessBad (first_bad [] settings) (Asks (modifiers_of settings)) asked
+abbrev pub ByQuery : List Parameter → List ℕ → (Given → Asked → Type 0) → Asked → Type 0
+ByQuery listed query Asks asked =
+    ((given : Given) × Gives listed query given × Asks given asked)
+    ⊎ ((p : Parameter) × IsBadIn listed query p × (asked ≡ Err (BadQuery (chars (parameter_name p)))))
 
--- a question, with how much is shown
-abbrev pub Shows : List Parameter → List ℕ → (Modifiers → Question) → Asked → Type 0
-Shows listed query ask = ByQuery listed query (λ m. IsQuestion (ask m))
+-- a question about a resource, by what its query gives
+abbrev pub Shows : Resource → List ℕ → (Given → Question) → Asked → Type 0
+Shows resource query ask = ByQuery (parameters_of resource) query (λ g. IsQuestion (ask g))
 
 abbrev pub IsByRead : {A : Type 0} → (A → Asked) → Result A ReadFault → Asked → Type 0
 IsByRead asks (Ok tree) asked = asked ≡ asks tree
@@ -89,7 +92,8 @@ IsByRead asks (Err fault) asked = asked ≡ Err (refusal_of_read fault)
 
 -- by the tree that a body spells, where so many levels are left
 abbrev pub ByBody : {A : Type 0} → Trees A → Levels → List ℕ → (A → Asked) → Asked → Type 0
-ByBody {A = A} trees levels body asks asked = (result : Result A ReadFault) × ReadsBytes trees levels result body × IsByRead asks result asked
+ByBody {A = A} trees levels body asks asked =
+    (result : Result A ReadFault) × ReadsBytes trees levels result body × IsByRead asks result asked
 
 -- so, if no number is broken
 abbrev pub UnlessBroken : Option Pointer → Asked → Asked → Type 0
@@ -115,100 +119,143 @@ has_last step e = true
 
 -- ---- one row a method
 
--- GET is the only method
-abbrev pub OnGet : (Asked → Type 0) → Method → Asked → Type 0
-OnGet Asks get asked = Asks asked
-OnGet Asks method asked = ⊥
+abbrev pub AsksCollection : {D : Type 0} → Interface D → Resource → List ℕ → List ℕ → Method → Asked → Type 0
+AsksCollection i resource query body Get asked = Shows resource query i.list asked
+AsksCollection i resource query body Post asked = ByBody i.documents limits body (λ d. Ok (Act (i.create d))) asked
+AsksCollection i resource query body method asked = ⊥
 
-abbrev pub AsksCollection : {D : Type 0} → Interface D → List ℕ → Method → Asked → Type 0
-AsksCollection i body post asked = ByBody i.documents limits body (λ d. Ok (Act (i.create d))) asked
-AsksCollection i body method asked = ⊥
-
-abbrev pub AsksDocument : {D : Type 0} → Interface D → List ℕ → List ℕ → List ℕ → Method → Asked → Type 0
-AsksDocument i segment query body get asked = ById segment (λ id. Shows i.parameters query (i.get id)) asked
-AsksDocument i segment query body put asked = ById segment (λ id. ByBody i.documents limits body (λ d. if_same (bytes_eq id (i.id_of d)) (i.replace d))) asked
-AsksDocument i segment query body delete asked = ById segment (λ id. IsCommand (i.delete id)) asked
-AsksDocument i segment query body method asked = ⊥
+abbrev pub AsksDocument : {D : Type 0} → Interface D → Resource → List ℕ → List ℕ → List ℕ → Method → Asked → Type 0
+AsksDocument i resource segment query body Get asked = ById segment (λ id. Shows resource query (i.get id)) asked
+AsksDocument i resource segment query body Put asked =
+    ById segment (λ id. ByBody i.documents limits body (λ d. if_same (bytes_eq id (i.id_of d)) (i.replace d))) asked
+AsksDocument i resource segment query body Delete asked = ById segment (λ id. IsCommand (i.delete id)) asked
+AsksDocument i resource segment query body method asked = ⊥
 
 abbrev pub AsksAsset : List ℕ → List ℕ → Method → Asked → Type 0
-AsksAsset segment body get asked = ById segment (λ id. IsQuestion (question.Asset id)) asked
-AsksAsset segment body put asked = ById segment (λ id. ByBody trees.asset_informations limits body (λ d. Ok (Act (SetAsset id d)))) asked
+AsksAsset segment body Get asked = ById segment (λ id. IsQuestion (question.Asset id)) asked
+AsksAsset segment body Put asked = ById segment (λ id. ByBody asset_informations limits body (λ d. Ok (Act (SetAsset id d)))) asked
 AsksAsset segment body method asked = ⊥
+
+-- the references of a shell to submodels
+abbrev pub AsksReferences : List ℕ → List ℕ → List ℕ → Method → Asked → Type 0
+AsksReferences segment query body Get asked =
+    ById segment (λ id. Shows ReferencesOf query (λ g. question.ReferencesOf id (span_of g))) asked
+AsksReferences segment query body Post asked = ById segment (λ id. ByBody references limits body (λ r. Ok (Act (AddReference id r)))) asked
+AsksReferences segment query body method asked = ⊥
 
 -- what a body spells becomes a child of that to which a path leads: an element, or the submodel where the path is empty
 abbrev pub Inserts : List ℕ → Path → List ℕ → Asked → Type 0
-Inserts id path body = ByBody trees.elements (at_level (length path.steps + 1)) body (λ e. Ok (Act (InsertElement id path e)))
+Inserts id path body = ByBody elements (at_level (length path.steps + 1)) body (λ e. Ok (Act (InsertElement id path e)))
 
 -- it takes the place of the element to which the path leads
 abbrev pub Replaces : List ℕ → Path → List ℕ → Asked → Type 0
 Replaces id path body =
-    ByBody trees.elements (at_level (length path.steps)) body (λ e. if_same (has_last (last_or None path.steps) e) (ReplaceElement id path e))
+    ByBody elements (at_level (length path.steps)) body (λ e. if_same (has_last (last_or None path.steps) e) (ReplaceElement id path e))
 
 -- the value that a body sends updates those of the element to which a path leads, or of the submodel where the path is empty
 abbrev pub Updates : List ℕ → Path → List ℕ → Asked → Type 0
 Updates id path body = BySent body (λ v. Ok (Act (UpdateValue id path v)))
 
-abbrev pub AsksElements : List ℕ → List ℕ → Method → Asked → Type 0
-AsksElements segment body post asked = ById segment (λ id. Inserts id (record { steps = [] }) body) asked
-AsksElements segment body method asked = ⊥
+-- the submodel itself
+abbrev pub root : Path
+root = record { steps = [] }
+
+abbrev pub AsksElements : List ℕ → List ℕ → List ℕ → Method → Asked → Type 0
+AsksElements segment query body Get asked =
+    ById segment (λ id. Shows Elements query (λ g. question.Elements id (span_of g) (level_of g) (extent_of g))) asked
+AsksElements segment query body Post asked = ById segment (λ id. Inserts id root body) asked
+AsksElements segment query body method asked = ⊥
 
 abbrev pub AsksElement : Texts → List ℕ → List ℕ → Method → Asked → Type 0
-AsksElement t query body get asked = AtElement t (λ id p. Shows (parameters_of Element) query (λ m. question.Element id p m.level m.extent)) asked
-AsksElement t query body post asked = AtElement t (λ id p. Inserts id p body) asked
-AsksElement t query body put asked = AtElement t (λ id p. Replaces id p body) asked
-AsksElement t query body delete asked = AtElement t (λ id p. IsCommand (DeleteElement id p)) asked
+AsksElement t query body Get asked = AtElement t (λ id p. Shows Element query (λ g. question.Element id p (level_of g) (extent_of g))) asked
+AsksElement t query body Post asked = AtElement t (λ id p. Inserts id p body) asked
+AsksElement t query body Put asked = AtElement t (λ id p. Replaces id p body) asked
+AsksElement t query body Delete asked = AtElement t (λ id p. IsCommand (DeleteElement id p)) asked
 AsksElement t query body method asked = ⊥
 
 abbrev pub AsksSubmodelValue : List ℕ → List ℕ → List ℕ → Method → Asked → Type 0
-AsksSubmodelValue segment query body get asked =
-    ById segment (λ id. Shows (parameters_of SubmodelValue) query (λ m. question.SubmodelValue id m.level m.extent)) asked
-AsksSubmodelValue segment query body patch asked = ById segment (λ id. Updates id (record { steps = [] }) body) asked
+AsksSubmodelValue segment query body Get asked =
+    ById segment (λ id. Shows SubmodelValue query (λ g. question.SubmodelValue id (level_of g) (extent_of g))) asked
+AsksSubmodelValue segment query body Patch asked = ById segment (λ id. Updates id root body) asked
 AsksSubmodelValue segment query body method asked = ⊥
 
 abbrev pub AsksElementValue : Texts → List ℕ → List ℕ → Method → Asked → Type 0
-AsksElementValue t query body get asked =
-    AtElement t (λ id p. Shows (parameters_of ElementValue) query (λ m. question.ElementValue id p m.level m.extent)) asked
-AsksElementValue t query body patch asked = AtElement t (λ id p. Updates id p body) asked
+AsksElementValue t query body Get asked =
+    AtElement t (λ id p. Shows ElementValue query (λ g. question.ElementValue id p (level_of g) (extent_of g))) asked
+AsksElementValue t query body Patch asked = AtElement t (λ id p. Updates id p body) asked
 AsksElementValue t query body method asked = ⊥
+
+-- ---- one row a resource
+
+-- By the parameters of its path, the query, the body and the method, which is one of the resource's; some have only one.
+abbrev pub AsksResource : Resource → Texts → List ℕ → List ℕ → Method → Asked → Type 0
+AsksResource Shells t query body method = AsksCollection shell_interface Shells query body method
+AsksResource ShellsReference t query body method = Shows ShellsReference query (λ g. question.ShellsReference (selection_of g))
+AsksResource Shell t query body method = AsksDocument shell_interface Shell t.id query body method
+AsksResource ShellReference t query body method = ById t.id (λ id. IsQuestion (question.ShellReference id))
+AsksResource AssetInformation t query body method = AsksAsset t.id body method
+AsksResource ReferencesOf t query body method = AsksReferences t.id query body method
+AsksResource ReferencesTo t query body method = ById t.id (λ shell. ById t.submodel (λ submodel. IsCommand (DropReference shell submodel)))
+AsksResource Submodels t query body method = AsksCollection submodel_interface Submodels query body method
+AsksResource SubmodelsMetadata t query body method = Shows SubmodelsMetadata query (λ g. question.SubmodelsMetadata (selection_of g))
+AsksResource SubmodelsValue t query body method =
+    Shows SubmodelsValue query (λ g. question.SubmodelsValue (selection_of g) (level_of g) (extent_of g))
+AsksResource SubmodelsReference t query body method = Shows SubmodelsReference query (λ g. question.SubmodelsReference (selection_of g))
+AsksResource Submodel t query body method = AsksDocument submodel_interface Submodel t.id query body method
+AsksResource SubmodelMetadata t query body method = ById t.id (λ id. IsQuestion (question.SubmodelMetadata id))
+AsksResource SubmodelValue t query body method = AsksSubmodelValue t.id query body method
+AsksResource SubmodelReference t query body method = ById t.id (λ id. IsQuestion (question.SubmodelReference id))
+AsksResource SubmodelPaths t query body method = ById t.id (λ id. Shows SubmodelPaths query (λ g. question.SubmodelPaths id (level_of g)))
+AsksResource Elements t query body method = AsksElements t.id query body method
+AsksResource ElementsMetadata t query body method =
+    ById t.id (λ id. Shows ElementsMetadata query (λ g. question.ElementsMetadata id (span_of g)))
+AsksResource ElementsReference t query body method =
+    ById t.id (λ id. Shows ElementsReference query (λ g. question.ElementsReference id (span_of g)))
+AsksResource Element t query body method = AsksElement t query body method
+AsksResource ElementMetadata t query body method = AtElement t (λ id p. IsQuestion (question.ElementMetadata id p))
+AsksResource ElementValue t query body method = AsksElementValue t query body method
+AsksResource ElementReference t query body method = AtElement t (λ id p. IsQuestion (question.ElementReference id p))
+AsksResource ElementPaths t query body method =
+    AtElement t (λ id p. Shows ElementPaths query (λ g. question.ElementPaths id p (level_of g)))
+AsksResource Concepts t query body method = AsksCollection concept_interface Concepts query body method
+AsksResource Concept t query body method = AsksDocument concept_interface Concept t.id query body method
 
 -- ---- requests
 
--- of a resource, by the parameters of its path, the query and the body
-abbrev pub AsksResource : Resource → Texts → List ℕ → List ℕ → Method → Asked → Type 0
-AsksResource Shells t query body = AsksCollection shell_interface body
-AsksResource Shell t query body = AsksDocument shell_interface t.id query body
-AsksResource ShellReference t query body = OnGet (ById t.id (λ id. IsQuestion (question.ShellReference id)))
-AsksResource AssetInformation t query body = AsksAsset t.id body
-AsksResource Submodels t query body = AsksCollection submodel_interface body
-AsksResource Submodel t query body = AsksDocument submodel_interface t.id query body
-AsksResource SubmodelMetadata t query body = OnGet (ById t.id (λ id. IsQuestion (question.SubmodelMetadata id)))
-AsksResource SubmodelValue t query body = AsksSubmodelValue t.id query body
-AsksResource SubmodelReference t query body = OnGet (ById t.id (λ id. IsQuestion (question.SubmodelReference id)))
-AsksResource SubmodelPaths t query body = OnGet (ById t.id (λ id. Shows (parameters_of SubmodelPaths) query (λ m. question.SubmodelPaths id m.level)))
-AsksResource Elements t query body = AsksElements t.id body
-AsksResource Element t query body = AsksElement t query body
-AsksResource ElementMetadata t query body = OnGet (AtElement t (λ id p. IsQuestion (question.ElementMetadata id p)))
-AsksResource ElementValue t query body = AsksElementValue t query body
-AsksResource ElementReference t query body = OnGet (AtElement t (λ id p. IsQuestion (question.ElementReference id p)))
-AsksResource ElementPaths t query body = OnGet (AtElement t (λ id p. Shows (parameters_of ElementPaths) query (λ m. question.ElementPaths id p m.level)))
-AsksResource Concepts t query body = AsksCollection concept_interface body
-AsksResource Concept t query body = AsksDocument concept_interface t.id query body
+-- what is asked, with the shell through which it is, or the refusal
+abbrev pub Called : Type 0
+Called = Result Call Refusal
 
-abbrev pub IsByMethod : Option Method → List Method → (Method → Asked → Type 0) → Asked → Type 0
-IsByMethod None methods Asks asked = asked ≡ Err (NotAllowed (chars (allow_text methods)))
-IsByMethod (Some method) methods Asks asked = Asks method asked
+abbrev pub as_call : Option (List ℕ) → Asked → Called
+as_call through (Ok ask) = Ok (record { through = through; ask = ask })
+as_call through (Err refusal) = Err refusal
+
+-- it is asked, through this shell, if there is one
+abbrev pub IsCall : Option (List ℕ) → (Asked → Type 0) → Called → Type 0
+IsCall through Asks called = (asked : Asked) × Asks asked × (called ≡ as_call through asked)
+
+-- so, by the segment of a shell, where there is one
+abbrev pub Through : Option (List ℕ) → (Asked → Type 0) → Called → Type 0
+Through None Asks = IsCall None Asks
+Through (Some segment) Asks = ById segment (λ shell. IsCall (Some shell) Asks)
+
+abbrev pub IsByMethod : Option Method → List Method → (Method → Called → Type 0) → Called → Type 0
+IsByMethod None methods Asks called = called ≡ Err (NotAllowed (chars (allow_text methods)))
+IsByMethod (Some method) methods Asks called = Asks method called
 
 -- by the method of this name, which is to be one of these
-abbrev pub ByMethod : List ℕ → List Method → (Method → Asked → Type 0) → Asked → Type 0
-ByMethod name methods Asks asked = IsByMethod (method_among name methods) methods Asks asked
+abbrev pub ByMethod : List ℕ → List Method → (Method → Called → Type 0) → Called → Type 0
+ByMethod name methods Asks called = IsByMethod (method_among name methods) methods Asks called
 
-abbrev pub ByRoute : Option Found → Message → Asked → Type 0
-ByRoute None m asked = asked ≡ Err NoRoute
-ByRoute (Some found) m asked = ByMethod m.method (methods_of found.0) (AsksResource found.0 found.1 (query_in m.target) m.body) asked
+abbrev pub ByRoute : Option Found → Message → Called → Type 0
+ByRoute None m called = called ≡ Err NoRoute
+ByRoute (Some found) m called =
+    ByMethod m.method (methods_of found)
+    (λ method. Through found.through (AsksResource found.resource found.texts (query_in m.target) m.body method)) called
 
-unfoldable pub IsAsked : Message → Asked → Type 0
-IsAsked m asked = ByRoute (resource_at (path_in m.target)) m asked
+unfoldable pub IsAsked : Message → Called → Type 0
+IsAsked m called = ByRoute (resource_at (path_in m.target)) m called
 
 -- it is what is asked, or memory was refused
-abbrev pub OrNoMemory : (Asked → Type 0) → Asked → Type 0
+abbrev pub OrNoMemory : {A : Type 0} → (Result A Refusal → Type 0) → Result A Refusal → Type 0
 OrNoMemory Asks asked = (asked ≡ Err Refusal.NoMemory) ⊎ Asks asked

@@ -1,4 +1,5 @@
--- The three interfaces of the repository, each for documents of one type (IDTA-01002-3-0): which documents, and what is done to one and asked of it.
+-- The three interfaces of the repository, each for documents of one type (IDTA-01002-3-0): which documents, and what is done to one and
+-- asked of one and of all.
 use Rattle.std.specs.Prelude.{ℕ, List}
 use Rattle.aas_json_spelling.specs.Spells.{Trees}
 use Rattle.aas_json_mapping.specs.Trees.{concepts, shells, submodels}
@@ -7,12 +8,10 @@ use Rattle.aas_model.specs.declared.documents.Shell.{Shell}
 use Rattle.aas_model.specs.declared.documents.Submodel.{Submodel}
 use Rattle.aas_command.specs.declared.command.Command.{Command}
 use Rattle.aas_command.specs.declared.command.Command.TheVariants.{CreateShell, CreateSubmodel, CreateConcept, ReplaceShell, ReplaceSubmodel, ReplaceConcept, DeleteShell, DeleteSubmodel, DeleteConcept}
-use Rattle.aas_command.specs.declared.question.Question.{Question}
-use Rattle.aas_command.specs.declared.question.Question.TheVariants as question
-use Rattle.aas_api.specs.Routes.{parameters_of}
-use Rattle.aas_api.specs.declared.query.Modifiers.{Modifiers}
-use Rattle.aas_api.specs.declared.query.Parameter.{Parameter}
-use Rattle.aas_api.specs.declared.routes.Resource.TheVariants as resource
+use Rattle.aas_question.specs.declared.question.Question.{Question}
+use Rattle.aas_question.specs.declared.question.Question.TheVariants as question
+use Rattle.aas_target.specs.Given.{extent_of, level_of, selection_of}
+use Rattle.aas_target.specs.declared.given.Given.{Given}
 
 pub record Interface (D : Type 0) : Type 1 where
   pub documents : Trees D
@@ -20,9 +19,8 @@ pub record Interface (D : Type 0) : Type 1 where
   pub create : D → Command
   pub replace : D → Command
   pub delete : List ℕ → Command
-  -- the parameters that a GET of a document lists
-  pub parameters : List Parameter
-  pub get : List ℕ → Modifiers → Question
+  pub list : Given → Question
+  pub get : List ℕ → Given → Question
 
 abbrev pub shell_interface : Interface Shell
 shell_interface = record {
@@ -31,8 +29,8 @@ shell_interface = record {
   create = CreateShell;
   replace = ReplaceShell;
   delete = DeleteShell;
-  parameters = parameters_of resource.Shell;
-  get = λ id m. question.Shell id;
+  list = λ g. question.Shells (selection_of g);
+  get = λ id g. question.Shell id;
 }
 
 abbrev pub submodel_interface : Interface Submodel
@@ -42,8 +40,8 @@ submodel_interface = record {
   create = CreateSubmodel;
   replace = ReplaceSubmodel;
   delete = DeleteSubmodel;
-  parameters = parameters_of resource.Submodel;
-  get = λ id m. question.Submodel id m.level m.extent;
+  list = λ g. question.Submodels (selection_of g) (level_of g) (extent_of g);
+  get = λ id g. question.Submodel id (level_of g) (extent_of g);
 }
 
 abbrev pub concept_interface : Interface Concept
@@ -53,6 +51,6 @@ concept_interface = record {
   create = CreateConcept;
   replace = ReplaceConcept;
   delete = DeleteConcept;
-  parameters = parameters_of resource.Concept;
-  get = λ id m. question.Concept id;
+  list = λ g. question.Concepts (selection_of g);
+  get = λ id g. question.Concept id;
 }

@@ -1,5 +1,5 @@
--- The first number of a JSON value that isn't whole, from -2^63 to 2^64 - 1. An array is walked from its front, and the members of an object in the order in which
--- they stand, which is that of their names where a value is read. This profile's own rule.
+-- The first number of a JSON value that isn't whole, from -2^63 to 2^64 - 1. An array is walked from its front, and the members of an
+-- object in the order in which they stand, which is that of their names where a value is read. This profile's own rule.
 use Rattle.std.specs.Prelude.{ℕ, ◌+◌, ◌^◌, nat_lt, pos, negsuc, [], Bool, false, if◌then◌else◌, Option, Some, None}
 use Rattle.serde_json.specs.Data.{Num, unsigned, negative, float, Data, number, array, object, Items, no_items, item, Members, no_members, member}
 use Rattle.aas_json_table.specs.Rows.{Pointer, in_member, in_item, first_of, below}

@@ -2,23 +2,22 @@
 ghost use Rattle.std.specs.Prelude.{◌≡◌, ◌∷◌, [], bytes_eq, Ok};
 ghost use Rattle.aas_json_table.specs.TooDeep.{limits};
 ghost use Rattle.aas_json_spelling.specs.Reads.{ReadsBytes};
-ghost use Rattle.aas_json_mapping.specs.Trees.{asset_informations};
-ghost use Rattle.aas_command.specs.declared.command.Command.TheVariants.{SetAsset};
-ghost use Rattle.aas_command.specs.declared.question.Question.TheVariants as question;
-ghost use Rattle.aas_api.specs.Asked.{AsksAsset, AsksCollection, AsksDocument, ByBody, ById, ByMethod, IsCommand, IsQuestion, OnGet, OrNoMemory, Shows, if_same};
+ghost use Rattle.aas_target.specs.Routes.{IsOneOf};
+ghost use Rattle.aas_target.specs.declared.method.Method.TheVariants.{Get, Post, Put, Delete};
+ghost use Rattle.aas_api.specs.Asked.{AsksCollection, AsksDocument, ByBody, ById, IsCommand, OrNoMemory, Shows, if_same};
 ghost use Rattle.aas_api.specs.Interfaces.{Interface, concept_interface, shell_interface, submodel_interface};
-ghost use Rattle.aas_api.specs.Routes.{get, post, put, delete};
 ghost use Rattle.aas_api.specs.declared.ask.Ask.TheVariants.{Act};
 
-use crate::ask::{Ask, not_allowed, only_get};
-use crate::query::{Modifiers, Parameter, read_query};
-use crate::segments::identifier;
-use aas_command::{Command, Question, Refusal};
-use aas_json_read::{read_asset_information, read_concept, read_shell, read_submodel};
+use crate::ask::Ask;
+use crate::segments::{given_by, identifier};
+use aas_command::{Command, Refusal};
+use aas_json_read::{read_concept, read_shell, read_submodel};
 use aas_model::{Concept, ReadFault, Shell, Submodel, Text};
+use aas_question::Question;
+use aas_target::{Given, Method, Resource};
 use std::alloc::Global;
 
-/// A document that an interface of the repository holds, and the commands and the question of that interface
+/// A document that an interface of the repository holds, and the commands and the questions of that interface
 /// (IDTA-01002-3-0).
 pub(crate) trait Document: Drop + Sized {
     ghost interface: { Interface Self };
@@ -39,9 +38,13 @@ pub(crate) trait Document: Drop + Sized {
     fn delete(id: Text) -> Command
         ensures { result ≡ interface.delete id };
 
-    /// What a GET of the document asks, with this query.
-    fn get(alloc: Global, id: Text, query: &[u8]) -> Result<Ask, Refusal>
-        ensures { OrNoMemory (Shows interface.parameters query.now (interface.get id)) result };
+    /// What a GET of all documents asks, by what the query gives.
+    fn list(given: Given) -> Question
+        ensures { result ≡ interface.list given };
+
+    /// What a GET of the document asks.
+    fn get(id: Text, given: &Given) -> Question
+        ensures { result ≡ interface.get id given.now };
 }
 
 impl Document for Shell {
@@ -67,10 +70,14 @@ impl Document for Shell {
         Command::DeleteShell { id }
     }
 
-    fn get(_alloc: Global, id: Text, _query: &[u8]) -> Result<Ask, Refusal> {
-        Ok(Ask::Answer {
-            question: Question::Shell { id },
-        })
+    fn list(given: Given) -> Question {
+        Question::Shells {
+            selection: given.into_selection(),
+        }
+    }
+
+    fn get(id: Text, _given: &Given) -> Question {
+        Question::Shell { id }
     }
 }
 
@@ -97,15 +104,20 @@ impl Document for Submodel {
         Command::DeleteSubmodel { id }
     }
 
-    fn get(alloc: Global, id: Text, query: &[u8]) -> Result<Ask, Refusal> {
-        let Modifiers { level, extent } = read_query(
-            alloc,
-            query,
-            &[Parameter::Level, Parameter::Extent],
-        )?;
-        Ok(Ask::Answer {
-            question: Question::Submodel { id, level, extent },
-        })
+    fn list(given: Given) -> Question {
+        Question::Submodels {
+            level: given.level(),
+            extent: given.extent(),
+            selection: given.into_selection(),
+        }
+    }
+
+    fn get(id: Text, given: &Given) -> Question {
+        Question::Submodel {
+            id,
+            level: given.level(),
+            extent: given.extent(),
+        }
     }
 }
 
@@ -132,79 +144,63 @@ impl Document for Concept {
         Command::DeleteConcept { id }
     }
 
-    fn get(_alloc: Global, id: Text, _query: &[u8]) -> Result<Ask, Refusal> {
-        Ok(Ask::Answer {
-            question: Question::Concept { id },
-        })
+    fn list(given: Given) -> Question {
+        Question::Concepts {
+            selection: given.into_selection(),
+        }
+    }
+
+    fn get(id: Text, _given: &Given) -> Question {
+        Question::Concept { id }
     }
 }
 
 /// What is asked of all documents of an interface.
 pub(crate) fn ask_collection<D: Document>(
     alloc: Global,
-    method: &str,
+    resource: Resource,
+    method: Method,
+    query: &[u8],
     body: &[u8],
 ) -> Result<Ask, Refusal>
-    ensures { OrNoMemory (ByMethod method.now (post ∷ []) (AsksCollection D.interface body.now)) result }
+    requires { IsOneOf method (Get ∷ Post ∷ []) }
+    ensures { OrNoMemory (AsksCollection D.interface resource query.now body.now method) result }
 {
-    if method == "POST" {
-        create::<D>(alloc, body)
-    } else {
-        Err(not_allowed(alloc, "POST"))
+    match method {
+        Method::Get => list::<D>(alloc, resource, query),
+        Method::Post => create::<D>(alloc, body),
+        _ => unreachable!(),
     }
 }
 
 /// What is asked of one document of an interface, whose identifier is in the segment.
 pub(crate) fn ask_document<D: Document>(
     alloc: Global,
-    method: &str,
+    resource: Resource,
     segment: &[u8],
+    method: Method,
     query: &[u8],
     body: &[u8],
 ) -> Result<Ask, Refusal>
-    ensures { OrNoMemory (ByMethod method.now (get ∷ put ∷ delete ∷ []) (AsksDocument D.interface segment.now query.now body.now)) result }
+    requires { IsOneOf method (Get ∷ Put ∷ Delete ∷ []) }
+    ensures { OrNoMemory (AsksDocument D.interface resource segment.now query.now body.now method) result }
 {
-    if method == "GET" {
-        get::<D>(alloc, segment, query)
-    } else if method == "PUT" {
-        replace::<D>(alloc, segment, body)
-    } else if method == "DELETE" {
-        delete::<D>(alloc, segment)
-    } else {
-        Err(not_allowed(alloc, "GET, PUT, DELETE"))
+    match method {
+        Method::Get => get::<D>(alloc, resource, segment, query),
+        Method::Put => replace::<D>(alloc, segment, body),
+        Method::Delete => delete::<D>(alloc, segment),
+        _ => unreachable!(),
     }
 }
 
-/// What is asked of the asset information of the shell whose identifier is in the segment.
-pub(crate) fn ask_asset(
-    alloc: Global,
-    method: &str,
-    segment: &[u8],
-    body: &[u8],
-) -> Result<Ask, Refusal>
-    ensures { OrNoMemory (ByMethod method.now (get ∷ put ∷ []) (AsksAsset segment.now body.now)) result }
-{
-    if method == "GET" {
-        get_asset(alloc, segment)
-    } else if method == "PUT" {
-        set_asset(alloc, segment, body)
-    } else {
-        Err(not_allowed(alloc, "GET, PUT"))
-    }
-}
+// ---- one function a method
 
-/// What is asked of the reference to the shell whose identifier is in the segment.
-pub(crate) fn ask_shell_reference(
-    alloc: Global,
-    method: &str,
-    segment: &[u8],
-) -> Result<Ask, Refusal>
-    ensures { OrNoMemory (ByMethod method.now (get ∷ []) (OnGet (ById segment.now (λ id. IsQuestion (question.ShellReference id))))) result }
+fn list<D: Document>(alloc: Global, resource: Resource, query: &[u8]) -> Result<Ask, Refusal>
+    ensures { OrNoMemory (Shows resource query.now D.interface.list) result }
 {
-    only_get(alloc, method)?;
-    let id = identifier(alloc, segment)?;
+    let given = given_by(alloc, resource, query)?;
     Ok(Ask::Answer {
-        question: Question::ShellReference { id },
+        question: D::list(given),
     })
 }
 
@@ -217,11 +213,19 @@ fn create<D: Document>(alloc: Global, body: &[u8]) -> Result<Ask, Refusal>
     })
 }
 
-fn get<D: Document>(alloc: Global, segment: &[u8], query: &[u8]) -> Result<Ask, Refusal>
-    ensures { OrNoMemory (ById segment.now (λ id. Shows D.interface.parameters query.now (D.interface.get id))) result }
+fn get<D: Document>(
+    alloc: Global,
+    resource: Resource,
+    segment: &[u8],
+    query: &[u8],
+) -> Result<Ask, Refusal>
+    ensures { OrNoMemory (ById segment.now (λ id. Shows resource query.now (D.interface.get id))) result }
 {
     let id = identifier(alloc, segment)?;
-    D::get(alloc, id, query)
+    let given = given_by(alloc, resource, query)?;
+    Ok(Ask::Answer {
+        question: D::get(id, &given),
+    })
 }
 
 fn replace<D: Document>(alloc: Global, segment: &[u8], body: &[u8]) -> Result<Ask, Refusal>
@@ -245,25 +249,4 @@ fn delete<D: Document>(alloc: Global, segment: &[u8]) -> Result<Ask, Refusal>
     Ok(Ask::Act {
         command: D::delete(id),
     })
-}
-
-fn get_asset(alloc: Global, segment: &[u8]) -> Result<Ask, Refusal>
-    ensures { OrNoMemory (ById segment.now (λ id. IsQuestion (question.Asset id))) result }
-{
-    let id = identifier(alloc, segment)?;
-    Ok(Ask::Answer {
-        question: Question::Asset { id },
-    })
-}
-
-fn set_asset(alloc: Global, segment: &[u8], body: &[u8]) -> Result<Ask, Refusal>
-    ensures { OrNoMemory (ById segment.now (λ id. ByBody asset_informations limits body.now (λ asset. Ok (Act (SetAsset id asset))))) result }
-{
-    let shell = identifier(alloc, segment)?;
-    match read_asset_information(alloc, body) {
-        Ok(asset) => Ok(Ask::Act {
-            command: Command::SetAsset { shell, asset },
-        }),
-        Err(fault) => Err(fault.into()),
-    }
 }

@@ -1,93 +1,118 @@
-// What is asked of elements of a submodel. The segments are those of the submodel's identifier and of the element's path.
+// What is asked of elements of a submodel.
 ghost use Rattle.std.specs.Prelude.{◌≡◌, ◌∷◌, ◌+◌, ◌-◌, [], None};
 ghost use Rattle.std.specs.Option.{option_copied};
 ghost use Rattle.std.specs.List.{last_or};
 ghost use Rattle.aas_command.specs.declared.command.Command.TheVariants.{DeleteElement, ReplaceElement};
-ghost use Rattle.aas_command.specs.declared.question.Question.TheVariants as question;
-ghost use Rattle.aas_api.specs.Asked.{AsksElement, AsksElements, AtElement, ById, ByMethod, Inserts, IsCommand, IsQuestion, OnGet, OrNoMemory, Replaces, Shows, has_last, if_same};
-ghost use Rattle.aas_api.specs.Routes.{get, post, put, delete, parameters_of, texts_from};
-ghost use Rattle.aas_api.specs.declared.routes.Resource.TheVariants as resource;
+ghost use Rattle.aas_question.specs.declared.question.Question.TheVariants as question;
+ghost use Rattle.aas_target.specs.Given.{extent_of, level_of, span_of};
+ghost use Rattle.aas_target.specs.Routes.{IsOneOf};
+ghost use Rattle.aas_target.specs.Seen.{texts_of};
+ghost use Rattle.aas_target.specs.declared.method.Method.TheVariants.{Get, Post, Put, Delete};
+ghost use Rattle.aas_target.specs.declared.routes.Resource.TheVariants as resource;
+ghost use Rattle.aas_api.specs.Asked.{AsksElement, AsksElements, AtElement, ById, Inserts, IsCommand, IsQuestion, OrNoMemory, Replaces, Shows, has_last, if_same, root};
 
-use crate::ask::{Ask, not_allowed, only_get};
-use crate::query::{Modifiers, Parameter, read_query};
-use crate::segments::{element_path, identifier};
-use aas_command::{Command, Question, Refusal};
+use crate::ask::Ask;
+use crate::segments::{element_path, given_by, identifier};
+use aas_command::{Command, Refusal};
 use aas_json_read::read_element;
 use aas_model::{Element, Many, Path, PathStep, Text};
+use aas_question::Question;
+use aas_target::{Method, Resource, Texts};
 use std::alloc::Global;
 
-/// What is asked of all elements of a submodel.
+/// What is asked of the children of the submodel whose identifier is in the segment.
 pub(crate) fn ask_elements(
     alloc: Global,
-    method: &str,
     submodel: &[u8],
+    method: Method,
+    query: &[u8],
     body: &[u8],
 ) -> Result<Ask, Refusal>
-    ensures { OrNoMemory (ByMethod method.now (post ∷ []) (AsksElements submodel.now body.now)) result }
+    requires { IsOneOf method (Get ∷ Post ∷ []) }
+    ensures { OrNoMemory (AsksElements submodel.now query.now body.now method) result }
 {
-    if method == "POST" {
-        add_element(alloc, submodel, body)
-    } else {
-        Err(not_allowed(alloc, "POST"))
+    match method {
+        Method::Get => list_elements(alloc, submodel, query),
+        Method::Post => add_element(alloc, submodel, body),
+        _ => unreachable!(),
     }
+}
+
+/// What is asked of their metadata forms.
+pub(crate) fn ask_elements_metadata(
+    alloc: Global,
+    submodel: &[u8],
+    query: &[u8],
+) -> Result<Ask, Refusal>
+    ensures { OrNoMemory (ById submodel.now (λ id. Shows resource.ElementsMetadata query.now
+        (λ given. question.ElementsMetadata id (span_of given)))) result }
+{
+    let id = identifier(alloc, submodel)?;
+    let given = given_by(alloc, Resource::ElementsMetadata, query)?;
+    Ok(Ask::Answer {
+        question: Question::ElementsMetadata {
+            id,
+            span: given.span(),
+        },
+    })
+}
+
+/// What is asked of references to them.
+pub(crate) fn ask_elements_reference(
+    alloc: Global,
+    submodel: &[u8],
+    query: &[u8],
+) -> Result<Ask, Refusal>
+    ensures { OrNoMemory (ById submodel.now (λ id. Shows resource.ElementsReference query.now
+        (λ given. question.ElementsReference id (span_of given)))) result }
+{
+    let id = identifier(alloc, submodel)?;
+    let given = given_by(alloc, Resource::ElementsReference, query)?;
+    Ok(Ask::Answer {
+        question: Question::ElementsReference {
+            id,
+            span: given.span(),
+        },
+    })
 }
 
 /// What is asked of an element.
 pub(crate) fn ask_element(
     alloc: Global,
-    method: &str,
-    submodel: &[u8],
-    path: &[u8],
+    texts: Texts<'_>,
+    method: Method,
     query: &[u8],
     body: &[u8],
 ) -> Result<Ask, Refusal>
-    ensures { OrNoMemory (ByMethod method.now (get ∷ post ∷ put ∷ delete ∷ [])
-        (AsksElement (texts_from submodel.now path.now) query.now body.now)) result }
+    requires { IsOneOf method (Get ∷ Post ∷ Put ∷ Delete ∷ []) }
+    ensures { OrNoMemory (AsksElement (texts_of texts.entry) query.now body.now method) result }
 {
-    if method == "GET" {
-        get_element(alloc, submodel, path, query)
-    } else if method == "POST" {
-        insert_element(alloc, submodel, path, body)
-    } else if method == "PUT" {
-        replace_element(alloc, submodel, path, body)
-    } else if method == "DELETE" {
-        delete_element(alloc, submodel, path)
-    } else {
-        Err(not_allowed(alloc, "GET, POST, PUT, DELETE"))
+    match method {
+        Method::Get => get_element(alloc, texts, query),
+        Method::Post => insert_element(alloc, texts, body),
+        Method::Put => replace_element(alloc, texts, body),
+        Method::Delete => delete_element(alloc, texts),
+        _ => unreachable!(),
     }
 }
 
 /// What is asked of the element's metadata form.
-pub(crate) fn ask_element_metadata(
-    alloc: Global,
-    method: &str,
-    submodel: &[u8],
-    path: &[u8],
-) -> Result<Ask, Refusal>
-    ensures { OrNoMemory (ByMethod method.now (get ∷ []) (OnGet (AtElement (texts_from submodel.now path.now)
-        (λ id path. IsQuestion (question.ElementMetadata id path))))) result }
+pub(crate) fn ask_element_metadata(alloc: Global, texts: Texts<'_>) -> Result<Ask, Refusal>
+    ensures { OrNoMemory (AtElement (texts_of texts.entry) (λ id path. IsQuestion (question.ElementMetadata id path))) result }
 {
-    only_get(alloc, method)?;
-    let id = identifier(alloc, submodel)?;
-    let path = element_path(alloc, path)?;
+    let id = identifier(alloc, texts.id)?;
+    let path = element_path(alloc, texts.path)?;
     Ok(Ask::Answer {
         question: Question::ElementMetadata { id, path },
     })
 }
 
 /// What is asked of the reference to the element.
-pub(crate) fn ask_element_reference(
-    alloc: Global,
-    method: &str,
-    submodel: &[u8],
-    path: &[u8],
-) -> Result<Ask, Refusal>
-    ensures { OrNoMemory (ByMethod method.now (get ∷ []) (OnGet (AtElement (texts_from submodel.now path.now)
-        (λ id path. IsQuestion (question.ElementReference id path))))) result }
+pub(crate) fn ask_element_reference(alloc: Global, texts: Texts<'_>) -> Result<Ask, Refusal>
+    ensures { OrNoMemory (AtElement (texts_of texts.entry) (λ id path. IsQuestion (question.ElementReference id path))) result }
 {
-    only_get(alloc, method)?;
-    let id = identifier(alloc, submodel)?;
-    let path = element_path(alloc, path)?;
+    let id = identifier(alloc, texts.id)?;
+    let path = element_path(alloc, texts.path)?;
     Ok(Ask::Answer {
         question: Question::ElementReference { id, path },
     })
@@ -96,49 +121,45 @@ pub(crate) fn ask_element_reference(
 /// What is asked of the paths of the element and of all below it.
 pub(crate) fn ask_element_paths(
     alloc: Global,
-    method: &str,
-    submodel: &[u8],
-    path: &[u8],
+    texts: Texts<'_>,
     query: &[u8],
 ) -> Result<Ask, Refusal>
-    ensures { OrNoMemory (ByMethod method.now (get ∷ []) (OnGet (AtElement (texts_from submodel.now path.now)
-        (λ id path. Shows (parameters_of resource.ElementPaths) query.now (λ modifiers. question.ElementPaths id path modifiers.level))))) result }
+    ensures { OrNoMemory (AtElement (texts_of texts.entry) (λ id path. Shows resource.ElementPaths query.now
+        (λ given. question.ElementPaths id path (level_of given)))) result }
 {
-    only_get(alloc, method)?;
-    let id = identifier(alloc, submodel)?;
-    let path = element_path(alloc, path)?;
-    let Modifiers { level, .. } = read_query(alloc, query, &[Parameter::Level])?;
+    let id = identifier(alloc, texts.id)?;
+    let path = element_path(alloc, texts.path)?;
+    let given = given_by(alloc, Resource::ElementPaths, query)?;
     Ok(Ask::Answer {
-        question: Question::ElementPaths { id, path, level },
+        question: Question::ElementPaths {
+            id,
+            path,
+            level: given.level(),
+        },
     })
 }
 
 // ---- one function a method
 
-fn get_element(alloc: Global, submodel: &[u8], path: &[u8], query: &[u8]) -> Result<Ask, Refusal>
-    ensures { OrNoMemory (AtElement (texts_from submodel.now path.now)
-        (λ id path. Shows (parameters_of resource.Element) query.now (λ modifiers. question.Element id path modifiers.level modifiers.extent))) result }
+fn list_elements(alloc: Global, submodel: &[u8], query: &[u8]) -> Result<Ask, Refusal>
+    ensures { OrNoMemory (ById submodel.now (λ id. Shows resource.Elements query.now
+        (λ given. question.Elements id (span_of given) (level_of given) (extent_of given)))) result }
 {
     let id = identifier(alloc, submodel)?;
-    let path = element_path(alloc, path)?;
-    let Modifiers { level, extent } = read_query(
-        alloc,
-        query,
-        &[Parameter::Level, Parameter::Extent],
-    )?;
+    let given = given_by(alloc, Resource::Elements, query)?;
     Ok(Ask::Answer {
-        question: Question::Element {
+        question: Question::Elements {
             id,
-            path,
-            level,
-            extent,
+            span: given.span(),
+            level: given.level(),
+            extent: given.extent(),
         },
     })
 }
 
 /// Adds an element of the submodel itself.
 fn add_element(alloc: Global, submodel: &[u8], body: &[u8]) -> Result<Ask, Refusal>
-    ensures { OrNoMemory (ById submodel.now (λ id. Inserts id (record { steps = [] }) body.now)) result }
+    ensures { OrNoMemory (ById submodel.now (λ id. Inserts id root body.now)) result }
 {
     let id = identifier(alloc, submodel)?;
     let root = Path {
@@ -147,27 +168,44 @@ fn add_element(alloc: Global, submodel: &[u8], body: &[u8]) -> Result<Ask, Refus
     insert(alloc, id, root, body)
 }
 
-fn insert_element(alloc: Global, submodel: &[u8], path: &[u8], body: &[u8]) -> Result<Ask, Refusal>
-    ensures { OrNoMemory (AtElement (texts_from submodel.now path.now) (λ id path. Inserts id path body.now)) result }
+fn get_element(alloc: Global, texts: Texts<'_>, query: &[u8]) -> Result<Ask, Refusal>
+    ensures { OrNoMemory (AtElement (texts_of texts.entry) (λ id path. Shows resource.Element query.now
+        (λ given. question.Element id path (level_of given) (extent_of given)))) result }
 {
-    let id = identifier(alloc, submodel)?;
-    let path = element_path(alloc, path)?;
+    let id = identifier(alloc, texts.id)?;
+    let path = element_path(alloc, texts.path)?;
+    let given = given_by(alloc, Resource::Element, query)?;
+    Ok(Ask::Answer {
+        question: Question::Element {
+            id,
+            path,
+            level: given.level(),
+            extent: given.extent(),
+        },
+    })
+}
+
+fn insert_element(alloc: Global, texts: Texts<'_>, body: &[u8]) -> Result<Ask, Refusal>
+    ensures { OrNoMemory (AtElement (texts_of texts.entry) (λ id path. Inserts id path body.now)) result }
+{
+    let id = identifier(alloc, texts.id)?;
+    let path = element_path(alloc, texts.path)?;
     insert(alloc, id, path, body)
 }
 
-fn replace_element(alloc: Global, submodel: &[u8], path: &[u8], body: &[u8]) -> Result<Ask, Refusal>
-    ensures { OrNoMemory (AtElement (texts_from submodel.now path.now) (λ id path. Replaces id path body.now)) result }
+fn replace_element(alloc: Global, texts: Texts<'_>, body: &[u8]) -> Result<Ask, Refusal>
+    ensures { OrNoMemory (AtElement (texts_of texts.entry) (λ id path. Replaces id path body.now)) result }
 {
-    let id = identifier(alloc, submodel)?;
-    let path = element_path(alloc, path)?;
+    let id = identifier(alloc, texts.id)?;
+    let path = element_path(alloc, texts.path)?;
     replace(alloc, id, path, body)
 }
 
-fn delete_element(alloc: Global, submodel: &[u8], path: &[u8]) -> Result<Ask, Refusal>
-    ensures { OrNoMemory (AtElement (texts_from submodel.now path.now) (λ id path. IsCommand (DeleteElement id path))) result }
+fn delete_element(alloc: Global, texts: Texts<'_>) -> Result<Ask, Refusal>
+    ensures { OrNoMemory (AtElement (texts_of texts.entry) (λ id path. IsCommand (DeleteElement id path))) result }
 {
-    let submodel = identifier(alloc, submodel)?;
-    let path = element_path(alloc, path)?;
+    let submodel = identifier(alloc, texts.id)?;
+    let path = element_path(alloc, texts.path)?;
     Ok(Ask::Act {
         command: Command::DeleteElement { submodel, path },
     })

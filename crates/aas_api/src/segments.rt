@@ -1,14 +1,20 @@
-// The parameters of paths.
+// The parameters of paths and of queries.
 ghost use Rattle.std.specs.Prelude.{◌≡◌, ◌⊎◌, ℕ, List, IfErr, IfOk};
+ghost use Rattle.std.specs.Str.{chars};
 ghost use Rattle.percent_encoding.specs.Percent.{percent_decode};
 ghost use Rattle.aas_path.specs.PathText.{IsNoPath, IsPath};
-ghost use Rattle.aas_command.specs.declared.refusal.Refusal.TheVariants.{BadIdentifier, BadPath, NoMemory};
+ghost use Rattle.aas_command.specs.declared.refusal.Refusal.TheVariants.{BadIdentifier, BadPath, BadQuery, NoMemory};
 ghost use Rattle.aas_page.specs.Segment.{StandsFor};
+ghost use Rattle.aas_target.specs.Given.{Gives, IsBadIn};
+ghost use Rattle.aas_target.specs.Query.{parameter_name};
+ghost use Rattle.aas_target.specs.Routes.{parameters_of};
+ghost use Rattle.aas_target.specs.declared.parameter.Parameter.{Parameter};
 
 use aas_command::Refusal;
 use aas_model::{Path, Text};
 use aas_page::{SegmentFault, id_from_segment};
 use aas_path::parse_path;
+use aas_target::{Given, Parameter, QueryFault, Resource, read_query};
 use percent_encoding::percent_decode;
 use std::alloc::Global;
 
@@ -36,5 +42,27 @@ pub(crate) fn element_path(alloc: Global, segment: &[u8]) -> Result<Path, Refusa
     match parse_path(alloc, &text) {
         Ok(path) => Ok(path),
         Err(fault) => Err(fault.into()),
+    }
+}
+
+/// What a query gives of the parameters that the resource lists.
+pub(crate) fn given_by(alloc: Global, resource: Resource, query: &[u8]) -> Result<Given, Refusal>
+    ensures ok { IfOk result (λ given. Gives (parameters_of resource) query.now given) }
+    ensures err { IfErr result (λ refusal. (refusal ≡ NoMemory) ⊎ ((parameter : Parameter)
+        × IsBadIn (parameters_of resource) query.now parameter × (refusal ≡ BadQuery (chars (parameter_name parameter))))) }
+{
+    match read_query(alloc, query, resource.parameters()) {
+        Ok(given) => Ok(given),
+        Err(QueryFault::BadQuery { parameter }) => Err(bad_query(alloc, parameter)),
+        Err(QueryFault::NoMemory) => Err(Refusal::NoMemory),
+    }
+}
+
+fn bad_query(alloc: Global, parameter: Parameter) -> Refusal
+    ensures { (result ≡ NoMemory) ⊎ (result ≡ BadQuery (chars (parameter_name parameter))) }
+{
+    match Text::from_str(alloc, parameter.name()) {
+        Ok(name) => Refusal::BadQuery { name },
+        Err(_) => Refusal::NoMemory,
     }
 }

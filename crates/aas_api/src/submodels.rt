@@ -1,25 +1,59 @@
-// What is asked of the forms of a submodel. The segment is that of its identifier.
-ghost use Rattle.std.specs.Prelude.{◌∷◌, []};
-ghost use Rattle.aas_command.specs.declared.question.Question.TheVariants as question;
-ghost use Rattle.aas_api.specs.Asked.{ById, ByMethod, IsQuestion, OnGet, OrNoMemory, Shows};
-ghost use Rattle.aas_api.specs.Routes.{get, parameters_of};
-ghost use Rattle.aas_api.specs.declared.routes.Resource.TheVariants as resource;
+// What is asked of the forms of submodels. The segment is that of a submodel's identifier.
+ghost use Rattle.aas_question.specs.declared.question.Question.TheVariants as question;
+ghost use Rattle.aas_target.specs.Given.{extent_of, level_of, selection_of};
+ghost use Rattle.aas_target.specs.declared.routes.Resource.TheVariants as resource;
+ghost use Rattle.aas_api.specs.Asked.{ById, IsQuestion, OrNoMemory, Shows};
 
-use crate::ask::{Ask, only_get};
-use crate::query::{Modifiers, Parameter, read_query};
-use crate::segments::identifier;
-use aas_command::{Question, Refusal};
+use crate::ask::Ask;
+use crate::segments::{given_by, identifier};
+use aas_command::Refusal;
+use aas_question::Question;
+use aas_target::Resource;
 use std::alloc::Global;
 
-/// What is asked of the submodel's metadata form.
-pub(crate) fn ask_submodel_metadata(
-    alloc: Global,
-    method: &str,
-    segment: &[u8],
-) -> Result<Ask, Refusal>
-    ensures { OrNoMemory (ByMethod method.now (get ∷ []) (OnGet (ById segment.now (λ id. IsQuestion (question.SubmodelMetadata id))))) result }
+/// What is asked of the metadata forms of submodels.
+pub(crate) fn ask_submodels_metadata(alloc: Global, query: &[u8]) -> Result<Ask, Refusal>
+    ensures { OrNoMemory (Shows resource.SubmodelsMetadata query.now (λ given. question.SubmodelsMetadata (selection_of given))) result }
 {
-    only_get(alloc, method)?;
+    let given = given_by(alloc, Resource::SubmodelsMetadata, query)?;
+    Ok(Ask::Answer {
+        question: Question::SubmodelsMetadata {
+            selection: given.into_selection(),
+        },
+    })
+}
+
+/// What is asked of the value forms of submodels.
+pub(crate) fn ask_submodels_value(alloc: Global, query: &[u8]) -> Result<Ask, Refusal>
+    ensures { OrNoMemory (Shows resource.SubmodelsValue query.now
+        (λ given. question.SubmodelsValue (selection_of given) (level_of given) (extent_of given))) result }
+{
+    let given = given_by(alloc, Resource::SubmodelsValue, query)?;
+    Ok(Ask::Answer {
+        question: Question::SubmodelsValue {
+            level: given.level(),
+            extent: given.extent(),
+            selection: given.into_selection(),
+        },
+    })
+}
+
+/// What is asked of references to submodels.
+pub(crate) fn ask_submodels_reference(alloc: Global, query: &[u8]) -> Result<Ask, Refusal>
+    ensures { OrNoMemory (Shows resource.SubmodelsReference query.now (λ given. question.SubmodelsReference (selection_of given))) result }
+{
+    let given = given_by(alloc, Resource::SubmodelsReference, query)?;
+    Ok(Ask::Answer {
+        question: Question::SubmodelsReference {
+            selection: given.into_selection(),
+        },
+    })
+}
+
+/// What is asked of the submodel's metadata form.
+pub(crate) fn ask_submodel_metadata(alloc: Global, segment: &[u8]) -> Result<Ask, Refusal>
+    ensures { OrNoMemory (ById segment.now (λ id. IsQuestion (question.SubmodelMetadata id))) result }
+{
     let id = identifier(alloc, segment)?;
     Ok(Ask::Answer {
         question: Question::SubmodelMetadata { id },
@@ -27,14 +61,9 @@ pub(crate) fn ask_submodel_metadata(
 }
 
 /// What is asked of the reference to the submodel.
-pub(crate) fn ask_submodel_reference(
-    alloc: Global,
-    method: &str,
-    segment: &[u8],
-) -> Result<Ask, Refusal>
-    ensures { OrNoMemory (ByMethod method.now (get ∷ []) (OnGet (ById segment.now (λ id. IsQuestion (question.SubmodelReference id))))) result }
+pub(crate) fn ask_submodel_reference(alloc: Global, segment: &[u8]) -> Result<Ask, Refusal>
+    ensures { OrNoMemory (ById segment.now (λ id. IsQuestion (question.SubmodelReference id))) result }
 {
-    only_get(alloc, method)?;
     let id = identifier(alloc, segment)?;
     Ok(Ask::Answer {
         question: Question::SubmodelReference { id },
@@ -44,17 +73,18 @@ pub(crate) fn ask_submodel_reference(
 /// What is asked of the paths of the submodel's elements.
 pub(crate) fn ask_submodel_paths(
     alloc: Global,
-    method: &str,
     segment: &[u8],
     query: &[u8],
 ) -> Result<Ask, Refusal>
-    ensures { OrNoMemory (ByMethod method.now (get ∷ []) (OnGet (ById segment.now (λ id. Shows (parameters_of resource.SubmodelPaths) query.now
-        (λ modifiers. question.SubmodelPaths id modifiers.level))))) result }
+    ensures { OrNoMemory (ById segment.now (λ id. Shows resource.SubmodelPaths query.now
+        (λ given. question.SubmodelPaths id (level_of given)))) result }
 {
-    only_get(alloc, method)?;
     let id = identifier(alloc, segment)?;
-    let Modifiers { level, .. } = read_query(alloc, query, &[Parameter::Level])?;
+    let given = given_by(alloc, Resource::SubmodelPaths, query)?;
     Ok(Ask::Answer {
-        question: Question::SubmodelPaths { id, level },
+        question: Question::SubmodelPaths {
+            id,
+            level: given.level(),
+        },
     })
 }

@@ -1,115 +1,104 @@
-// What is asked of value forms, and the values that are sent to them. The segments are those of the submodel's identifier and of
-// the element's path.
+// What is asked of value forms, and the values that are sent to them.
 ghost use Rattle.std.specs.Prelude.{◌≡◌, ◌⊎◌, ◌∷◌, ℕ, List, [], Some, None, IfErr, IfOk, OnOk};
 ghost use Rattle.serde_json.specs.Data.{Data};
 ghost use Rattle.serde_json.specs.View.{view};
 ghost use Rattle.aas_json_spelling.specs.Reading.{reading};
 ghost use Rattle.aas_json_spelling.specs.Reads.{IsPointer};
-ghost use Rattle.aas_command.specs.declared.question.Question.TheVariants as question;
 ghost use Rattle.aas_command.specs.declared.refusal.Refusal.TheVariants.{NoMemory, NotJson, NotMapping};
-ghost use Rattle.aas_api.specs.Asked.{AsksElementValue, AsksSubmodelValue, AtElement, ById, ByMethod, OrNoMemory, Shows, Updates};
+ghost use Rattle.aas_question.specs.declared.question.Question.TheVariants as question;
+ghost use Rattle.aas_target.specs.Given.{extent_of, level_of};
+ghost use Rattle.aas_target.specs.Routes.{IsOneOf};
+ghost use Rattle.aas_target.specs.Seen.{texts_of};
+ghost use Rattle.aas_target.specs.declared.method.Method.TheVariants.{Get, Patch};
+ghost use Rattle.aas_target.specs.declared.routes.Resource.TheVariants as resource;
+ghost use Rattle.aas_api.specs.Asked.{AsksElementValue, AsksSubmodelValue, AtElement, ById, OrNoMemory, Shows, Updates, root};
 ghost use Rattle.aas_api.specs.Numbers.{broken_number};
-ghost use Rattle.aas_api.specs.Routes.{get, patch, parameters_of, texts_from};
-ghost use Rattle.aas_api.specs.declared.routes.Resource.TheVariants as resource;
 
-use crate::ask::{Ask, not_allowed};
+use crate::ask::Ask;
 use crate::numbers::broken_number;
-use crate::query::{Modifiers, Parameter, read_query};
-use crate::segments::{element_path, identifier};
-use aas_command::{Command, Question, Refusal, SentValue};
+use crate::segments::{element_path, given_by, identifier};
+use aas_command::{Command, Refusal, SentValue};
 use aas_json_input::read_value;
 use aas_json_table::pointer::pointer;
 use aas_model::{Many, Path, Text};
+use aas_question::Question;
+use aas_target::{Method, Resource, Texts};
 use serde_json::Value;
 use std::alloc::Global;
 
-/// What is asked of the submodel's value form.
+/// What is asked of the value form of the submodel whose identifier is in the segment.
 pub(crate) fn ask_submodel_value(
     alloc: Global,
-    method: &str,
     submodel: &[u8],
+    method: Method,
     query: &[u8],
     body: &[u8],
 ) -> Result<Ask, Refusal>
-    ensures { OrNoMemory (ByMethod method.now (get ∷ patch ∷ []) (AsksSubmodelValue submodel.now query.now body.now)) result }
+    requires { IsOneOf method (Get ∷ Patch ∷ []) }
+    ensures { OrNoMemory (AsksSubmodelValue submodel.now query.now body.now method) result }
 {
-    if method == "GET" {
-        get_submodel_value(alloc, submodel, query)
-    } else if method == "PATCH" {
-        update_submodel(alloc, submodel, body)
-    } else {
-        Err(not_allowed(alloc, "GET, PATCH"))
+    match method {
+        Method::Get => get_submodel_value(alloc, submodel, query),
+        Method::Patch => update_submodel(alloc, submodel, body),
+        _ => unreachable!(),
     }
 }
 
 /// What is asked of the element's value form.
 pub(crate) fn ask_element_value(
     alloc: Global,
-    method: &str,
-    submodel: &[u8],
-    path: &[u8],
+    texts: Texts<'_>,
+    method: Method,
     query: &[u8],
     body: &[u8],
 ) -> Result<Ask, Refusal>
-    ensures { OrNoMemory (ByMethod method.now (get ∷ patch ∷ [])
-        (AsksElementValue (texts_from submodel.now path.now) query.now body.now)) result }
+    requires { IsOneOf method (Get ∷ Patch ∷ []) }
+    ensures { OrNoMemory (AsksElementValue (texts_of texts.entry) query.now body.now method) result }
 {
-    if method == "GET" {
-        get_element_value(alloc, submodel, path, query)
-    } else if method == "PATCH" {
-        update_element(alloc, submodel, path, body)
-    } else {
-        Err(not_allowed(alloc, "GET, PATCH"))
+    match method {
+        Method::Get => get_element_value(alloc, texts, query),
+        Method::Patch => update_element(alloc, texts, body),
+        _ => unreachable!(),
     }
 }
 
 // ---- one function a method
 
 fn get_submodel_value(alloc: Global, submodel: &[u8], query: &[u8]) -> Result<Ask, Refusal>
-    ensures { OrNoMemory (ById submodel.now (λ id. Shows (parameters_of resource.SubmodelValue) query.now
-        (λ modifiers. question.SubmodelValue id modifiers.level modifiers.extent))) result }
+    ensures { OrNoMemory (ById submodel.now (λ id. Shows resource.SubmodelValue query.now
+        (λ given. question.SubmodelValue id (level_of given) (extent_of given)))) result }
 {
     let id = identifier(alloc, submodel)?;
-    let Modifiers { level, extent } = read_query(
-        alloc,
-        query,
-        &[Parameter::Level, Parameter::Extent],
-    )?;
+    let given = given_by(alloc, Resource::SubmodelValue, query)?;
     Ok(Ask::Answer {
-        question: Question::SubmodelValue { id, level, extent },
+        question: Question::SubmodelValue {
+            id,
+            level: given.level(),
+            extent: given.extent(),
+        },
     })
 }
 
-fn get_element_value(
-    alloc: Global,
-    submodel: &[u8],
-    path: &[u8],
-    query: &[u8],
-) -> Result<Ask, Refusal>
-    ensures { OrNoMemory (AtElement (texts_from submodel.now path.now)
-        (λ id path. Shows (parameters_of resource.ElementValue) query.now
-        (λ modifiers. question.ElementValue id path modifiers.level modifiers.extent))) result }
+fn get_element_value(alloc: Global, texts: Texts<'_>, query: &[u8]) -> Result<Ask, Refusal>
+    ensures { OrNoMemory (AtElement (texts_of texts.entry) (λ id path. Shows resource.ElementValue query.now
+        (λ given. question.ElementValue id path (level_of given) (extent_of given)))) result }
 {
-    let id = identifier(alloc, submodel)?;
-    let path = element_path(alloc, path)?;
-    let Modifiers { level, extent } = read_query(
-        alloc,
-        query,
-        &[Parameter::Level, Parameter::Extent],
-    )?;
+    let id = identifier(alloc, texts.id)?;
+    let path = element_path(alloc, texts.path)?;
+    let given = given_by(alloc, Resource::ElementValue, query)?;
     Ok(Ask::Answer {
         question: Question::ElementValue {
             id,
             path,
-            level,
-            extent,
+            level: given.level(),
+            extent: given.extent(),
         },
     })
 }
 
 /// Updates the values of the submodel itself.
 fn update_submodel(alloc: Global, submodel: &[u8], body: &[u8]) -> Result<Ask, Refusal>
-    ensures { OrNoMemory (ById submodel.now (λ id. Updates id (record { steps = [] }) body.now)) result }
+    ensures { OrNoMemory (ById submodel.now (λ id. Updates id root body.now)) result }
 {
     let id = identifier(alloc, submodel)?;
     let root = Path {
@@ -118,11 +107,11 @@ fn update_submodel(alloc: Global, submodel: &[u8], body: &[u8]) -> Result<Ask, R
     update(alloc, id, root, body)
 }
 
-fn update_element(alloc: Global, submodel: &[u8], path: &[u8], body: &[u8]) -> Result<Ask, Refusal>
-    ensures { OrNoMemory (AtElement (texts_from submodel.now path.now) (λ id path. Updates id path body.now)) result }
+fn update_element(alloc: Global, texts: Texts<'_>, body: &[u8]) -> Result<Ask, Refusal>
+    ensures { OrNoMemory (AtElement (texts_of texts.entry) (λ id path. Updates id path body.now)) result }
 {
-    let id = identifier(alloc, submodel)?;
-    let path = element_path(alloc, path)?;
+    let id = identifier(alloc, texts.id)?;
+    let path = element_path(alloc, texts.path)?;
     update(alloc, id, path, body)
 }
 

@@ -1,8 +1,8 @@
 -- Answers have an outcome of what is asked.
-use Rattle.std.proofs.Common.{inl, inr, ℕ, List, [], Result, Ok, Err, refl, sym, subst}
+use Rattle.std.proofs.Common.{◌≡◌, inl, inr, ℕ, List, [], Some, None, Result, Ok, Err, refl, sym, subst}
 use Rattle.std.proofs.lemmas.List.{append-nil}
 use Rattle.aas_command.specs.declared.command.Command.{Command}
-use Rattle.aas_command.specs.declared.question.Question.{Question}
+use Rattle.aas_question.specs.declared.question.Question.{Question}
 use Rattle.aas_command.specs.declared.refusal.Refusal.{Refusal}
 use Rattle.aas_http.specs.FirstRequest.{Message}
 use Rattle.aas_http.specs.declared.replies.Reply.{Reply}
@@ -18,20 +18,23 @@ use Rattle.aas_session.specs.Answers.{Answers}
 use Rattle.aas_session.specs.declared.machine.Stop.{Stop}
 use Rattle.aas_session.specs.declared.machine.Stop.TheVariants as stop
 use Rattle.aas_api.specs.Asked.{IsAsked, OrNoMemory}
-use Rattle.aas_api.specs.Replies.{refusal_reply}
+use Rattle.aas_api_service.specs.Replies.{refusal_reply}
+use Rattle.aas_api.specs.Submodels.{submodel_of}
 use Rattle.aas_api.specs.declared.ask.Ask.{Ask}
 use Rattle.aas_api.specs.declared.ask.Ask.TheVariants.{Act, Answer}
+use Rattle.aas_api.specs.declared.ask.Call.{Call}
 use Rattle.aas_api_service.specs.Finished.{Finishes, IsRefused, IsReply}
-use Rattle.aas_api_service.specs.Turns.{AskComesTo, Turns, answer_reply, outcome_of, success_reply, unchanged}
+use Rattle.aas_api_service.specs.Turns.{AskComesTo, CallComesTo, Turns, answer_reply, outcome_of, success_reply, unchanged, unreached}
 
 -- what was read is what is asked for
-pub asked_of : (m : Message) (ask : Ask) → OrNoMemory (IsAsked m) (Ok ask) → IsAsked m (Ok ask)
-asked_of m ask (inl none) = absurd (cc)
-asked_of m ask (inr asked) = asked
+pub asked_of : (m : Message) (call : Call) → OrNoMemory (IsAsked m) (Ok call) → IsAsked m (Ok call)
+asked_of m call (inl none) = absurd (cc)
+asked_of m call (inr asked) = asked
 
 module _ {I : Type 0} (room : Room) (stands_for : I → List (List ℕ) → Type 0) where
   -- nothing has been done
-  pub holds_still : (state : State Documents I) (records : List (List ℕ)) → IsSettledState stands_for state records → Holds stands_for records [] (repository_of state records) state.moment state
+  pub holds_still : (state : State Documents I) (records : List (List ℕ)) → IsSettledState stands_for state records
+      → Holds stands_for records [] (repository_of state records) state.moment state
   holds_still state records settled = record {
     documents = refl;
     kept = settled.told;
@@ -39,8 +42,8 @@ module _ {I : Type 0} (room : Room) (stands_for : I → List (List ℕ) → Type
   }
 
   -- nor by an outcome that changes nothing
-  holds_unchanged : (r : Repository Documents) (reply : Reply) (from : ℕ) (now : State Documents I) → Holds stands_for r.records [] r from now
-      → Holds stands_for r.records [] (after r (unchanged r reply)) from now
+  holds_unchanged : (r : Repository Documents) (reply : Reply) (from : ℕ) (now : State Documents I)
+      → Holds stands_for r.records [] r from now → Holds stands_for r.records [] (after r (unchanged r reply)) from now
   holds_unchanged r reply from now still = record {
     documents = still.documents;
     kept = subst now.kept (sym (append-nil r.records)) still.kept;
@@ -49,22 +52,26 @@ module _ {I : Type 0} (room : Room) (stands_for : I → List (List ℕ) → Type
 
   -- ---- questions
 
-  pub answers_question : (state : State Documents I) (records : List (List ℕ)) → IsSettledState stands_for state records → (q : Question) (answer : Result Reply Stop)
-      → IsReply (answer_reply (answer_of state.documents q)) answer → Answers (AskComesTo room) stands_for (repository_of state records) (Answer q) state.moment state answer
+  pub answers_question : (state : State Documents I) (records : List (List ℕ)) → IsSettledState stands_for state records → (q : Question)
+      (answer : Result Reply Stop) → IsReply (answer_reply (answer_of state.documents q)) answer
+      → Answers (AskComesTo room) stands_for (repository_of state records) (Answer q) state.moment state answer
   unfolding AskComesTo
   answers_question state records settled q answer (inl none) =
-      let P : Result Reply Stop → Type 0 = λ a. Answers (AskComesTo room) stands_for (repository_of state records) (Answer q) state.moment state a in
+      let P : Result Reply Stop → Type 0 =
+      λ a. Answers (AskComesTo room) stands_for (repository_of state records) (Answer q) state.moment state a in
       subst P (sym none) (holds_still state records settled)
   answers_question state records settled q answer (inr is) =
-      let P : Result Reply Stop → Type 0 = λ a. Answers (AskComesTo room) stands_for (repository_of state records) (Answer q) state.moment state a in
+      let P : Result Reply Stop → Type 0 =
+      λ a. Answers (AskComesTo room) stands_for (repository_of state records) (Answer q) state.moment state a in
       let r = repository_of state records in
       let reply = answer_reply (answer_of state.documents q) in
       subst P (sym is) (unchanged r reply, refl, refl, holds_unchanged r reply state.moment state (holds_still state records settled))
 
   -- ---- commands
 
-  pub answers_command : (r : Repository Documents) (from : ℕ) (now : State Documents I) (c : Command) (done : Result Done Refusal) → Acts room stands_for r c from now done
-      → (answer : Result Reply Stop) → Finishes done (success_reply c) answer → Answers (AskComesTo room) stands_for r (Act c) from now answer
+  pub answers_command : (r : Repository Documents) (from : ℕ) (now : State Documents I) (c : Command) (done : Result Done Refusal)
+      → Acts room stands_for r c from now done → (answer : Result Reply Stop) → Finishes done (success_reply c) answer
+      → Answers (AskComesTo room) stands_for r (Act c) from now answer
   unfolding AskComesTo
   answers_command r from now c (Ok done) acts answer is =
       let P : Result Reply Stop → Type 0 = λ a. Answers (AskComesTo room) stands_for r (Act c) from now a in
@@ -79,19 +86,48 @@ module _ {I : Type 0} (room : Room) (stands_for : I → List (List ℕ) → Type
       subst P (sym is) (acts.1 no_fault)
   answers_command r from now c (Err why) acts answer (inr (no_fault, inr (some, is))) =
       let P : Result Reply Stop → Type 0 = λ a. Answers (AskComesTo room) stands_for r (Act c) from now a in
-      subst P (sym is) (outcome_of r c (refused why), (refused why, acts.2 no_fault some, tt, refl), refl, holds_unchanged r (refusal_reply why) from now (acts.1 no_fault))
+      let still = holds_unchanged r (refusal_reply why) from now (acts.1 no_fault) in
+      subst P (sym is) (outcome_of r c (refused why), (refused why, acts.2 no_fault some, tt, refl), refl, still)
+
+  -- ---- calls
+
+  -- no shell is in the way
+  pub answers_reached : (r : Repository Documents) (from : ℕ) (now : State Documents I) (call : Call) (answer : Result Reply Stop)
+      → unreached r.documents call.through (submodel_of call.ask) ≡ None → Answers (AskComesTo room) stands_for r call.ask from now answer
+      → Answers (CallComesTo room) stands_for r call from now answer
+  unfolding CallComesTo
+  answers_reached r from now call (Ok reply) reached (outcome, comes, is, holds) = (outcome, rw reached comes, is, holds)
+  answers_reached r from now call (Err stop.NoMemory) reached holds = holds
+  answers_reached r from now call (Err stop.StorageFault) reached (outcome, comes, faulted) = (outcome, rw reached comes, faulted)
+
+  pub answers_unreached : (state : State Documents I) (records : List (List ℕ)) → IsSettledState stands_for state records → (call : Call)
+      (why : Refusal) (answer : Result Reply Stop) → unreached state.documents call.through (submodel_of call.ask) ≡ Some why
+      → IsRefused why answer → Answers (CallComesTo room) stands_for (repository_of state records) call state.moment state answer
+  unfolding CallComesTo
+  answers_unreached state records settled call why answer is (inl none) =
+      let P : Result Reply Stop → Type 0 =
+      λ a. Answers (CallComesTo room) stands_for (repository_of state records) call state.moment state a in
+      subst P (sym none) (holds_still state records settled)
+  answers_unreached state records settled call why answer cause (inr (some, is)) =
+      let P : Result Reply Stop → Type 0 =
+      λ a. Answers (CallComesTo room) stands_for (repository_of state records) call state.moment state a in
+      let r = repository_of state records in
+      let still = holds_unchanged r (refusal_reply why) state.moment state (holds_still state records settled) in
+      subst P (sym is) (unchanged r (refusal_reply why), rw cause refl, refl, still)
 
   -- ---- requests
 
-  pub answers_asked : (r : Repository Documents) (from : ℕ) (now : State Documents I) (m : Message) (ask : Ask) (answer : Result Reply Stop) → IsAsked m (Ok ask)
-      → Answers (AskComesTo room) stands_for r ask from now answer → Answers (Turns room) stands_for r m from now answer
+  pub answers_asked : (r : Repository Documents) (from : ℕ) (now : State Documents I) (m : Message) (call : Call)
+      (answer : Result Reply Stop) → IsAsked m (Ok call) → Answers (CallComesTo room) stands_for r call from now answer
+      → Answers (Turns room) stands_for r m from now answer
   unfolding Turns
-  answers_asked r from now m ask (Ok reply) asked (outcome, comes, is, holds) = (outcome, (Ok ask, asked, comes), is, holds)
-  answers_asked r from now m ask (Err stop.NoMemory) asked holds = holds
-  answers_asked r from now m ask (Err stop.StorageFault) asked (outcome, comes, faulted) = (outcome, (Ok ask, asked, comes), faulted)
+  answers_asked r from now m call (Ok reply) asked (outcome, comes, is, holds) = (outcome, (Ok call, asked, comes), is, holds)
+  answers_asked r from now m call (Err stop.NoMemory) asked holds = holds
+  answers_asked r from now m call (Err stop.StorageFault) asked (outcome, comes, faulted) = (outcome, (Ok call, asked, comes), faulted)
 
-  pub answers_refused : (state : State Documents I) (records : List (List ℕ)) → IsSettledState stands_for state records → (m : Message) (why : Refusal) (answer : Result Reply Stop)
-      → OrNoMemory (IsAsked m) (Err why) → IsRefused why answer → Answers (Turns room) stands_for (repository_of state records) m state.moment state answer
+  pub answers_refused : (state : State Documents I) (records : List (List ℕ)) → IsSettledState stands_for state records → (m : Message)
+      (why : Refusal) (answer : Result Reply Stop) → OrNoMemory (IsAsked m) (Err why) → IsRefused why answer
+      → Answers (Turns room) stands_for (repository_of state records) m state.moment state answer
   unfolding Turns
   answers_refused state records settled m why answer asked (inl none) =
       let P : Result Reply Stop → Type 0 = λ a. Answers (Turns room) stands_for (repository_of state records) m state.moment state a in
@@ -100,5 +136,5 @@ module _ {I : Type 0} (room : Room) (stands_for : I → List (List ℕ) → Type
   answers_refused state records settled m why answer (inr asked) (inr (some, is)) =
       let P : Result Reply Stop → Type 0 = λ a. Answers (Turns room) stands_for (repository_of state records) m state.moment state a in
       let r = repository_of state records in
-      subst P (sym is)
-      (unchanged r (refusal_reply why), (Err why, asked, refl), refl, holds_unchanged r (refusal_reply why) state.moment state (holds_still state records settled))
+      let still = holds_unchanged r (refusal_reply why) state.moment state (holds_still state records settled) in
+      subst P (sym is) (unchanged r (refusal_reply why), (Err why, asked, refl), refl, still)

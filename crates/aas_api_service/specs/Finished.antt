@@ -6,7 +6,7 @@ use Rattle.aas_http.specs.declared.replies.Reply.{Reply}
 use Rattle.aas_repo.specs.declared.repo.Done.{Done}
 use Rattle.aas_session.specs.declared.machine.Stop.{Stop}
 use Rattle.aas_session.specs.declared.machine.Stop.TheVariants as stop
-use Rattle.aas_api.specs.Replies.{refusal_reply}
+use Rattle.aas_api_service.specs.Replies.{refusal_reply}
 
 -- it is this reply, or memory was refused
 abbrev pub IsReply : Reply → Result Reply Stop → Type 0

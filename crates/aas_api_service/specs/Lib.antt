@@ -1,4 +1,5 @@
 pub mod Finished
 pub mod Laws
+pub mod Replies
 pub mod Turns
 pub mod WellFormed

@@ -1,23 +1,27 @@
--- What a request comes to in a repository (IDTA-01002-3-0, HTTP/REST API): it is refused, or a question is answered, or a command is done. Which status and which body
--- a reply has is this profile's own rule.
-use Rattle.std.specs.Prelude.{◌≡◌, ℕ, List, [], ◌∷◌, false, Result, Ok, Err, ⊤}
+-- What a request comes to in a repository (IDTA-01002-3-0, HTTP/REST API): it is refused, or a question is answered, or a command is done.
+-- Which status and which body a reply has is this profile's own rule.
+use Rattle.std.specs.Prelude.{◌≡◌, ℕ, List, [], ◌∷◌, false, Option, Some, None, Result, Ok, Err, ⊤}
 use Rattle.aas_json_spelling.specs.Spells.{canonical_text}
 use Rattle.aas_json_mapping.specs.Trees.{concepts, elements, shells, submodels}
+use Rattle.aas_reference.specs.Trees.{references}
 use Rattle.aas_command.specs.Commands.{payload_of}
 use Rattle.aas_command.specs.Encoding.{HasFields}
 use Rattle.aas_command.specs.declared.command.Command.{Command}
-use Rattle.aas_command.specs.declared.command.Command.TheVariants.{CreateShell, CreateSubmodel, CreateConcept, InsertElement}
+use Rattle.aas_command.specs.declared.command.Command.TheVariants.{CreateShell, CreateSubmodel, CreateConcept, AddReference, InsertElement}
 use Rattle.aas_command.specs.declared.refusal.Refusal.{Refusal}
 use Rattle.aas_http.specs.FirstRequest.{Message}
 use Rattle.aas_http.specs.declared.replies.Reply.{Reply}
 use Rattle.aas_rule.specs.Rule.{Repository, Room, Rule, Outcome}
 use Rattle.aas_store.specs.Documents.{Documents}
+use Rattle.aas_step.specs.Causes.{Cause, first_of, reference_causes}
 use Rattle.aas_step.specs.Step.{Result as StepResult, accepted, refused, Steps}
 use Rattle.aas_repo.specs.Answers.{answer_of}
-use Rattle.aas_api.specs.Asked.{Asked, IsAsked}
-use Rattle.aas_api.specs.Replies.{refusal_reply}
+use Rattle.aas_api.specs.Asked.{Called, IsAsked}
+use Rattle.aas_api_service.specs.Replies.{refusal_reply}
+use Rattle.aas_api.specs.Submodels.{submodel_of}
 use Rattle.aas_api.specs.declared.ask.Ask.{Ask}
 use Rattle.aas_api.specs.declared.ask.Ask.TheVariants.{Act, Answer}
+use Rattle.aas_api.specs.declared.ask.Call.{Call}
 
 -- ---- replies
 
@@ -34,6 +38,7 @@ abbrev pub success_reply : Command → Reply
 success_reply (CreateShell d) = reply_with 201 (canonical_text shells d)
 success_reply (CreateSubmodel d) = reply_with 201 (canonical_text submodels d)
 success_reply (CreateConcept d) = reply_with 201 (canonical_text concepts d)
+success_reply (AddReference id r) = reply_with 201 (canonical_text references r)
 success_reply (InsertElement id p e) = reply_with 201 (canonical_text elements e)
 success_reply c = reply_with 204 []
 
@@ -58,10 +63,24 @@ unfoldable pub AskComesTo : Room → Repository Documents → Ask → Outcome Do
 AskComesTo room r (Answer q) outcome = outcome ≡ unchanged r (answer_reply (answer_of r.documents q))
 AskComesTo room r (Act c) outcome = (result : StepResult) × Steps room r c result × CanBeRead c result × (outcome ≡ outcome_of r c result)
 
-abbrev pub AskedComesTo : Room → Repository Documents → Asked → Outcome Documents Reply → Type 0
-AskedComesTo room r (Ok ask) outcome = AskComesTo room r ask outcome
-AskedComesTo room r (Err refusal) outcome = outcome ≡ unchanged r (refusal_reply refusal)
+-- why a submodel isn't reached through a shell, if it is asked about through one
+abbrev pub unreached : Documents → Option (List ℕ) → Option (List ℕ) → Cause
+unreached d (Some shell) (Some submodel) = first_of (reference_causes d shell submodel)
+unreached d shell submodel = None
+
+-- so, where that is no cause
+abbrev pub ComesUnless : Cause → Room → Repository Documents → Ask → Outcome Documents Reply → Type 0
+ComesUnless (Some refusal) room r ask outcome = outcome ≡ unchanged r (refusal_reply refusal)
+ComesUnless None room r ask outcome = AskComesTo room r ask outcome
+
+-- what is asked, through a shell or not, comes to
+unfoldable pub CallComesTo : Room → Repository Documents → Call → Outcome Documents Reply → Type 0
+CallComesTo room r call = ComesUnless (unreached r.documents call.through (submodel_of call.ask)) room r call.ask
+
+abbrev pub CalledComesTo : Room → Repository Documents → Called → Outcome Documents Reply → Type 0
+CalledComesTo room r (Ok call) outcome = CallComesTo room r call outcome
+CalledComesTo room r (Err refusal) outcome = outcome ≡ unchanged r (refusal_reply refusal)
 
 -- a request, where the keeper has this rule for room
 unfoldable pub Turns : Room → Rule Documents Message Reply
-Turns room r message outcome = (asked : Asked) × IsAsked message asked × AskedComesTo room r asked outcome
+Turns room r message outcome = (called : Called) × IsAsked message called × CalledComesTo room r called outcome

@@ -3,12 +3,14 @@ ghost use Rattle.aas_api_service.specs.Laws.{AsksWellFormed, OneOutcome, Session
 
 use aas_page::segments_stand_for_one;
 use aas_step::{commands_come_to_one_result, documents_stay_valid};
+use aas_target::queries_say_one;
 
 /// Where documents are valid, a request comes to one thing alone.
 pub fn requests_come_to_one_outcome()
     ensures { OneOutcome }
 {
     segments_stand_for_one();
+    queries_say_one();
     commands_come_to_one_result();
 }
 
@@ -21,6 +23,5 @@ pub fn asks_are_well_formed()
 pub fn sessions_stay_valid()
     ensures { SessionsStayValid }
 {
-    asks_are_well_formed();
     documents_stay_valid();
 }

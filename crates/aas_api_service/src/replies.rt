@@ -5,8 +5,10 @@ ghost use Rattle.aas_http.specs.ReplyText.{phrase};
 ghost use Rattle.aas_api_service.specs.Finished.{Finishes, IsRefused, IsReply};
 ghost use Rattle.aas_api_service.specs.Turns.{answer_reply, reply_with, success_reply};
 
-use aas_api::refused;
-use aas_command::{Command, Refusal, concept_text, element_text, shell_text, submodel_text};
+use crate::refusals::refused;
+use aas_command::{
+    Command, Refusal, concept_text, element_text, reference_text, shell_text, submodel_text,
+};
 use aas_http::Reply;
 use aas_json_write::whole_trees_are_in_order;
 use aas_model::{Many, NoMemory, Text};
@@ -40,6 +42,9 @@ pub(crate) fn success(alloc: Global, command: &Command) -> Result<Reply, NoMemor
         Command::CreateShell { document } => created(alloc, shell_text(alloc, document)?),
         Command::CreateSubmodel { document } => created(alloc, submodel_text(alloc, document)?),
         Command::CreateConcept { document } => created(alloc, concept_text(alloc, document)?),
+        Command::AddReference { reference, .. } => {
+            created(alloc, reference_text(alloc, reference)?)
+        }
         Command::InsertElement { element, .. } => {
             whole_trees_are_in_order();
             created(alloc, element_text(alloc, element)?)

@@ -1,5 +1,5 @@
 // The repository behind its interface.
-ghost use Rattle.std.specs.Prelude.{◌≡◌, ◌≢◌, ◌≤◌, ◌⊎◌, ℕ, List, false, Err, IfOk, IsSome};
+ghost use Rattle.std.specs.Prelude.{◌≡◌, ◌≢◌, ◌≤◌, ◌⊎◌, ℕ, List, false, None, Some, Err, IfOk, IsSome, MatchResult};
 ghost use Rattle.aas_api.specs.declared.ask.Ask.TheVariants.{Act};
 ghost use Rattle.aas_command.specs.Commands.{IsWellFormed};
 ghost use Rattle.aas_http.specs.ReplyText.{phrase};
@@ -10,15 +10,17 @@ ghost use Rattle.aas_repo.specs.Answers.{answer_of};
 ghost use Rattle.aas_repo.specs.Held.{state_of};
 ghost use Rattle.aas_session.specs.Answers.{Answers};
 ghost use Rattle.aas_session.specs.declared.machine.Stop.TheVariants.{StorageFault};
-ghost use Rattle.aas_api_service.specs.Turns.{AskComesTo, Turns};
+ghost use Rattle.aas_api.specs.Submodels.{submodel_of};
+ghost use Rattle.aas_api_service.specs.Turns.{AskComesTo, CallComesTo, Turns, unreached};
 ghost use Rattle.aas_api_service.specs.WellFormed.{IsWellFormedAsk};
 
 use crate::replies::{finish, refuse, success, told};
-use aas_api::{Ask, read_ask};
-use aas_command::{Command, Question, Refusal};
+use aas_api::{Ask, Call, read_call};
+use aas_command::{Command, Refusal};
 use aas_http::{Reply, Request};
 use aas_model::{Many, NoMemory};
 use aas_outside::Keeper;
+use aas_question::Question;
 use aas_repo::Repo;
 use aas_session::{Machine, Stop};
 use aas_store::Store;
@@ -63,20 +65,60 @@ impl<S: Store, K: Keeper> Machine for Service<S, K> {
     ghost stopped = { λ service. service.repo.stopped };
 
     fn answer(&mut self, request: &Request) -> Result<Reply, Stop> {
-        match read_ask(self.alloc, request) {
-            Ok(ask) => answer(self.alloc, &mut self.repo, ask),
+        match read_call(self.alloc, request) {
+            Ok(call) => answer(self.alloc, &mut self.repo, call),
             Err(refusal) => refuse(self.alloc, refusal),
         }
     }
 }
 
-/// Does what is asked, and answers the reply, whose `close` is false. The success reply to a command is made before the
-/// command is taken, so that nothing is kept which can't be answered.
+/// Does what is asked, unless it is asked through a shell that doesn't reach the submodel, and answers the reply, whose `close`
+/// is false. The success reply to a command is made before the command is taken, so that nothing is kept which can't be
+/// answered.
 ///
 /// # Errors
 ///
 /// Want of memory, which leaves everything as it was, or a fault of the keeper.
 pub fn answer<S: Store, K: Keeper>(
+    alloc: Global,
+    repo: &mut Repo<S, K>,
+    call: Call,
+) -> Result<Reply, Stop>
+    requires open { repo.old.stopped ≡ false }
+    requires well_formed { IsWellFormedAsk call.ask }
+    ensures answered { (records : List (List ℕ)) →
+        IsSettledState K.stands_for (state_of K.kept K.moment K.left_at repo.old) records →
+        Answers (CallComesTo (K.room_behind repo.old.keeper)) K.stands_for
+        (repository_of (state_of K.kept K.moment K.left_at repo.old) records) call
+        (K.moment repo.old.keeper) (state_of K.kept K.moment K.left_at repo.new) result }
+    ensures reply { IfOk result (λ reply. IsSome (phrase reply.status)) }
+    ensures room { K.room_behind repo.new.keeper ≡ K.room_behind repo.old.keeper }
+    ensures past { PassesTo (state_of K.kept K.moment K.left_at repo.old) (state_of K.kept K.moment K.left_at repo.new) }
+    ensures stopped { result ≢ Err StorageFault → repo.new.stopped ≡ false }
+    ensures later { K.faults repo.old.keeper ≤ K.faults repo.new.keeper }
+    ensures fault { result ≡ Err StorageFault → Rose (K.faults repo.old.keeper) (K.faults repo.new.keeper) }
+{
+    match reach(repo, &call) {
+        Ok(()) => answer_ask(alloc, repo, call.ask),
+        Err(refusal) => refuse(alloc, refusal),
+    }
+}
+
+/// Asks whether the submodel is reached, where it is asked about through a shell; or why not.
+fn reach<S: Store, K: Keeper>(repo: &Repo<S, K>, call: &Call) -> Result<(), Refusal>
+    requires { repo.now.stopped ≡ false }
+    ensures { MatchResult result
+        (λ _. unreached repo.now.documents call.now.through (submodel_of call.now.ask) ≡ None)
+        (λ refusal. unreached repo.now.documents call.now.through (submodel_of call.now.ask) ≡ Some refusal) }
+{
+    match (&call.through, call.ask.submodel()) {
+        (Some(shell), Some(submodel)) => repo.refers(shell, submodel),
+        _ => Ok(()),
+    }
+}
+
+/// Takes the command, or answers the question.
+fn answer_ask<S: Store, K: Keeper>(
     alloc: Global,
     repo: &mut Repo<S, K>,
     ask: Ask,

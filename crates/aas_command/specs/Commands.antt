@@ -1,5 +1,5 @@
 -- Which commands are well formed, and the payloads in which they are kept: a tag byte, and then fields, each with its length as four bytes, greatest first, before
--- it. Documents and elements are canonical texts, values compact ones, identifiers and paths are UTF-8. This profile's own rule.
+-- it. Documents, elements and references are canonical texts, values compact ones, identifiers and paths are UTF-8. This profile's own rule.
 use Rattle.std.specs.Prelude.{ℕ, ◌+◌, ◌≤◌, List, [], ◌∷◌, ◌++◌, length, flat_map, ⊤}
 use Rattle.std.specs.Int.{to_be_bytes, w32}
 use Rattle.std.specs.Str.{encode_utf8_all}
@@ -14,8 +14,9 @@ use Rattle.aas_model.specs.declared.path.PathStep.{PathStep}
 use Rattle.aas_path.specs.PathText.{path_text}
 use Rattle.aas_path_trees.specs.PathRule.{KeepsRule}
 use Rattle.aas_edit_laws.specs.Laws.{at_level}
+use Rattle.aas_reference.specs.Trees.{references}
 use Rattle.aas_command.specs.declared.command.Command.{Command}
-use Rattle.aas_command.specs.declared.command.Command.TheVariants.{CreateShell, CreateSubmodel, CreateConcept, ReplaceShell, ReplaceSubmodel, ReplaceConcept, DeleteShell, DeleteSubmodel, DeleteConcept, SetAsset, InsertElement, ReplaceElement, DeleteElement, UpdateValue}
+use Rattle.aas_command.specs.declared.command.Command.TheVariants.{CreateShell, CreateSubmodel, CreateConcept, ReplaceShell, ReplaceSubmodel, ReplaceConcept, DeleteShell, DeleteSubmodel, DeleteConcept, SetAsset, AddReference, DropReference, InsertElement, ReplaceElement, DeleteElement, UpdateValue}
 
 -- a path that can be written, or the empty one, which leads to the submodel
 abbrev pub IsPlace : List PathStep → Type 0
@@ -41,6 +42,8 @@ IsWellFormed (DeleteShell id) = ⊤
 IsWellFormed (DeleteSubmodel id) = ⊤
 IsWellFormed (DeleteConcept id) = ⊤
 IsWellFormed (SetAsset shell asset) = asset_informations.IsWhole limits asset
+IsWellFormed (AddReference shell reference) = references.IsWhole limits reference
+IsWellFormed (DropReference shell submodel) = ⊤
 IsWellFormed (InsertElement id p e) = IsPlace p.steps × elements.IsWhole (at_level (length p.steps + 1)) e
 IsWellFormed (ReplaceElement id p e) = KeepsRule p.steps × elements.IsWhole (at_level (length p.steps)) e
 IsWellFormed (DeleteElement id p) = KeepsRule p.steps
@@ -65,6 +68,8 @@ tagged_of (DeleteShell id) = tagged 7 (encode_utf8_all id ∷ [])
 tagged_of (DeleteSubmodel id) = tagged 8 (encode_utf8_all id ∷ [])
 tagged_of (DeleteConcept id) = tagged 9 (encode_utf8_all id ∷ [])
 tagged_of (SetAsset shell asset) = tagged 10 (encode_utf8_all shell ∷ canonical_text asset_informations asset ∷ [])
+tagged_of (AddReference shell reference) = tagged 11 (encode_utf8_all shell ∷ canonical_text references reference ∷ [])
+tagged_of (DropReference shell submodel) = tagged 12 (encode_utf8_all shell ∷ encode_utf8_all submodel ∷ [])
 tagged_of (InsertElement id p e) = tagged 13 (encode_utf8_all id ∷ path_text p.steps ∷ canonical_text elements e ∷ [])
 tagged_of (ReplaceElement id p e) = tagged 14 (encode_utf8_all id ∷ path_text p.steps ∷ canonical_text elements e ∷ [])
 tagged_of (DeleteElement id p) = tagged 15 (encode_utf8_all id ∷ path_text p.steps ∷ [])

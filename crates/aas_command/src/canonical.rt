@@ -1,16 +1,18 @@
-// Canonical texts of whole documents and elements.
+// Canonical texts of whole documents, elements and references.
 ghost use Rattle.std.specs.Prelude.{◌≡◌, true, IfOk};
 ghost use Rattle.std.specs.Str.{IsUtf8};
 ghost use Rattle.aas_json_spelling.specs.Spells.{canonical_text};
 ghost use Rattle.aas_json_mapping.specs.Trees.{asset_informations, concepts, elements, shells, submodels};
 ghost use Rattle.aas_json_table.specs.TooDeep.{limits};
 ghost use Rattle.aas_json_write.specs.Order.{element_in_order};
+ghost use Rattle.aas_reference.specs.Trees.{references};
 
 use aas_json_write::{
     whole_trees_are_in_order, write_asset_information, write_concept, write_element, write_shell,
     write_submodel,
 };
-use aas_model::{AssetInformation, Concept, Element, NoMemory, Shell, Submodel};
+use aas_model::{AssetInformation, Concept, Element, NoMemory, Reference, Shell, Submodel};
+use aas_reference::write_reference;
 use std::alloc::Global;
 
 /// The canonical text of a shell.
@@ -56,6 +58,16 @@ pub fn asset_text(alloc: Global, asset: &AssetInformation) -> Result<Vec<u8>, No
 {
     let mut text = Vec::new(alloc);
     write_asset_information(alloc, asset, &mut text)?;
+    Ok(text)
+}
+
+/// The canonical text of a reference.
+pub fn reference_text(alloc: Global, reference: &Reference) -> Result<Vec<u8>, NoMemory>
+    ensures text { IfOk result (λ text. text.items ≡ canonical_text references reference.now) }
+    ensures utf8 { IfOk result (λ text. IsUtf8 text.items) }
+{
+    let mut text = Vec::new(alloc);
+    write_reference(alloc, reference, &mut text)?;
     Ok(text)
 }
 

@@ -1,5 +1,5 @@
 use crate::SentValue;
-use aas_model::{AssetInformation, Concept, Element, Path, Shell, Submodel, Text};
+use aas_model::{AssetInformation, Concept, Element, Path, Reference, Shell, Submodel, Text};
 
 /// A change of the repository.
 ///
@@ -40,6 +40,16 @@ pub enum Command {
     SetAsset {
         shell: Text,
         asset: AssetInformation,
+    },
+    /// Post a reference to a submodel: the last of the shell's.
+    AddReference {
+        shell: Text,
+        reference: Reference,
+    },
+    /// Delete each of the shell's references to the submodel of the identifier.
+    DropReference {
+        shell: Text,
+        submodel: Text,
     },
     /// Post an element: the last child of the element to which the path leads, or of the submodel where the path is empty.
     InsertElement {

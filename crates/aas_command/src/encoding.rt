@@ -3,7 +3,6 @@ ghost use Rattle.std.specs.Prelude.{◌≡◌, ◌++◌, [], ◌∷◌, IfErr, I
 ghost use Rattle.std.specs.Str.{IsUtf8};
 ghost use Rattle.aas_command.specs.Commands.{IsPlace, IsWellFormed, bytes_of, field, payload_of, tagged};
 ghost use Rattle.aas_command.specs.Encoding.{HasFields, IsFaultOf, IsField};
-ghost use Rattle.aas_command.specs.declared.command.Command.TheVariants.{SetAsset};
 ghost use Rattle.aas_json_mapping.specs.Trees.{elements};
 ghost use Rattle.aas_json_spelling.specs.Spells.{canonical_text};
 ghost use Rattle.aas_json_spelling.specs.Values.{HasWholeNumbers};
@@ -12,10 +11,12 @@ ghost use Rattle.aas_json_table.specs.TooDeep.{Levels};
 ghost use Rattle.aas_path.specs.PathText.{path_text};
 ghost use Rattle.std.specs.Str.{encode_utf8_all};
 
-use crate::canonical::{asset_text, concept_text, element_text, shell_text, submodel_text};
+use crate::canonical::{
+    asset_text, concept_text, element_text, reference_text, shell_text, submodel_text,
+};
 use crate::{Command, SentValue};
 use aas_json_write::whole_trees_are_in_order;
-use aas_model::{AssetInformation, Element, NoMemory, Path, Text};
+use aas_model::{Element, NoMemory, Path, Text};
 use aas_outside::Frame;
 use aas_path::print_path;
 use std::alloc::{AllocError, Global};
@@ -88,7 +89,24 @@ fn payload(alloc: Global, command: &Command) -> Result<Vec<u8>, EncodeFault>
         Command::DeleteShell { id } => one_field(alloc, 7, id.as_str().as_bytes()),
         Command::DeleteSubmodel { id } => one_field(alloc, 8, id.as_str().as_bytes()),
         Command::DeleteConcept { id } => one_field(alloc, 9, id.as_str().as_bytes()),
-        Command::SetAsset { shell, asset } => asset_payload(alloc, shell, asset),
+        Command::SetAsset { shell, asset } => two_fields(
+            alloc,
+            10,
+            shell.as_str().as_bytes(),
+            &asset_text(alloc, asset)?,
+        ),
+        Command::AddReference { shell, reference } => two_fields(
+            alloc,
+            11,
+            shell.as_str().as_bytes(),
+            &reference_text(alloc, reference)?,
+        ),
+        Command::DropReference { shell, submodel } => two_fields(
+            alloc,
+            12,
+            shell.as_str().as_bytes(),
+            submodel.as_str().as_bytes(),
+        ),
         Command::InsertElement {
             submodel,
             path,
@@ -106,23 +124,6 @@ fn payload(alloc: Global, command: &Command) -> Result<Vec<u8>, EncodeFault>
             value,
         } => value_payload(alloc, submodel, path, value),
     }
-}
-
-/// The payload of the command that sets the asset information of a shell.
-#[tactic(auto, using(crate::proofs::Payloads::longer), unfolding(crate::specs::Commands::payload_of, crate::specs::Encoding::HasFields))]
-fn asset_payload(
-    alloc: Global,
-    shell: &Text,
-    asset: &AssetInformation,
-) -> Result<Vec<u8>, EncodeFault>
-    ensures payload { MatchResult result
-        (λ payload. payload.items ≡ payload_of (SetAsset shell.now asset.now))
-        (IsFaultOf (payload_of (SetAsset shell.now asset.now))) }
-    ensures fields { OnOk result (HasFields (SetAsset shell.now asset.now)) }
-{
-    let mut payload = one_field(alloc, 10, shell.as_str().as_bytes())?;
-    push_field(&mut payload, &asset_text(alloc, asset)?)?;
-    Ok(payload)
 }
 
 /// The payload of a command on the element to which a path leads, with an element that is whole.
@@ -174,7 +175,6 @@ fn value_payload(
 }
 
 /// The payload of a command on the element to which a path leads.
-#[tactic(auto, using(crate::proofs::Payloads::longer))]
 fn path_payload(
     alloc: Global,
     tag: u8,
@@ -187,9 +187,12 @@ fn path_payload(
         (IsFaultOf (bytes_of (tagged tag (encode_utf8_all submodel.now ∷ path_text path.now.steps ∷ [])))) }
     ensures fields { OnOk result (IsField (encode_utf8_all submodel.now) × IsField (path_text path.now.steps)) }
 {
-    let mut payload = one_field(alloc, tag, submodel.as_str().as_bytes())?;
-    push_field(&mut payload, &written(alloc, path)?)?;
-    Ok(payload)
+    two_fields(
+        alloc,
+        tag,
+        submodel.as_str().as_bytes(),
+        &written(alloc, path)?,
+    )
 }
 
 /// The text of a path, which can be written.
@@ -214,6 +217,21 @@ fn one_field(alloc: Global, tag: u8, content: &[u8]) -> Result<Vec<u8>, EncodeFa
 {
     let mut payload = Vec::from_slice(alloc, &[tag])?;
     push_field(&mut payload, content)?;
+    Ok(payload)
+}
+
+/// The payload of a tag and two fields, whose contents are UTF-8.
+#[tactic(auto, using(crate::proofs::Payloads::longer))]
+fn two_fields(alloc: Global, tag: u8, first: &[u8], second: &[u8]) -> Result<Vec<u8>, EncodeFault>
+    requires first { IsUtf8 first.now }
+    requires second { IsUtf8 second.now }
+    ensures payload { MatchResult result
+        (λ payload. payload.items ≡ bytes_of (tagged tag (first.now ∷ second.now ∷ [])))
+        (IsFaultOf (bytes_of (tagged tag (first.now ∷ second.now ∷ [])))) }
+    ensures fields { OnOk result (IsField first.now × IsField second.now) }
+{
+    let mut payload = one_field(alloc, tag, first)?;
+    push_field(&mut payload, second)?;
     Ok(payload)
 }
 

@@ -1,5 +1,5 @@
-//! Commands, which change a repository, with the payloads in which they are kept; questions, which change nothing; and why
-//! a command or a request is refused: each refusal with its code and its text.
+//! Commands, which change a repository, with the payloads in which they are kept; and why a command or a request is refused: each
+//! refusal with its code and its text.
 //!
 //! What a command comes to is said above (`aas_step`), and so is the reply that tells a refusal.
 
@@ -8,14 +8,14 @@
 mod canonical;
 mod command;
 mod encoding;
-mod question;
 mod refusal;
 mod sent_value;
 mod text;
 
-pub use canonical::{asset_text, concept_text, element_text, shell_text, submodel_text};
+pub use canonical::{
+    asset_text, concept_text, element_text, reference_text, shell_text, submodel_text,
+};
 pub use command::Command;
 pub use encoding::{EncodeFault, encode};
-pub use question::Question;
 pub use refusal::{Absent, Refusal};
 pub use sent_value::SentValue;

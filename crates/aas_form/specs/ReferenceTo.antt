@@ -56,6 +56,13 @@ submodel_key d = record { key_type = key_type.Submodel; value = d.head.id }
 abbrev pub reference_to : Submodel → List PathStep → Option Reference
 reference_to d p = option_map (λ keys. model_reference (submodel_key d ∷ keys)) (keys_in false p d.kids)
 
+-- the reference to the submodel, and that to a child of it
+abbrev pub submodel_reference : Submodel → Reference
+submodel_reference d = model_reference (submodel_key d ∷ [])
+
+abbrev pub child_reference : Submodel → Element → Reference
+child_reference d e = model_reference (submodel_key d ∷ element_key false (0, e) ∷ [])
+
 -- the reference to a shell
 abbrev pub shell_reference : Shell → Reference
 shell_reference s = model_reference (record { key_type = key_type.AssetAdministrationShell; value = s.head.id } ∷ [])

@@ -19,4 +19,6 @@ pub use laws::{forms_can_be_written, references_are_there};
 pub use level::{cut, cut_element};
 pub use metadata_form::{metadata, metadata_of};
 pub use path_form::{paths, paths_of_element, paths_of_submodel};
-pub use reference_form::{reference_of, reference_of_shell};
+pub use reference_form::{
+    reference_of, reference_of_child, reference_of_shell, reference_of_submodel,
+};

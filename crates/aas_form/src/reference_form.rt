@@ -1,7 +1,8 @@
 ghost use Rattle.std.specs.Prelude.{◌≡◌, ◌++◌, ◌↔◌, Some, Err, IfOk, IfSome, IsSome, OnOk, decimal};
 ghost use Rattle.aas_model.specs.declared.path.Missing.{Missing};
 ghost use Rattle.aas_path.specs.Refusals.{IsMissing};
-ghost use Rattle.aas_form.specs.ReferenceTo.{key_type_of, key_value, element_key, keys_in, reference_to, shell_reference};
+ghost use Rattle.aas_form.specs.ReferenceTo.{child_reference, model_reference, reference_to, shell_reference, submodel_reference};
+ghost use Rattle.aas_form.specs.ReferenceTo.{element_key, key_type_of, key_value, keys_in, submodel_key};
 
 use crate::form_fault::FormFault;
 use aas_model::{
@@ -73,6 +74,26 @@ fn element_key(
     })
 }
 
+/// The key that names a submodel.
+fn submodel_key(submodel: &Submodel) -> Result<Key, NoMemory>
+    ensures { IfOk result (λ key. key ≡ submodel_key submodel.now) }
+{
+    Ok(Key {
+        key_type: KeyType::Submodel,
+        value: submodel.head.id.copy()?,
+    })
+}
+
+fn model_reference(keys: Many<Key>) -> Reference
+    ensures { result ≡ model_reference keys }
+{
+    Reference {
+        ref_type: ReferenceType::ModelReference,
+        keys,
+        referred: None,
+    }
+}
+
 /// Adds the keys of the elements on a path, from the children of a list or of something else on, if it leads to an element.
 fn add_keys(
     alloc: Global,
@@ -114,10 +135,7 @@ fn reference(alloc: Global, submodel: &Submodel, path: &Path) -> Result<Referenc
     ensures { IfOk result (λ made. IfSome (reference_to submodel.now path.now.steps) (λ found. made ≡ found)) }
 {
     let mut keys = Many::new(alloc);
-    keys.push(Key {
-        key_type: KeyType::Submodel,
-        value: submodel.head.id.copy()?,
-    })?;
+    keys.push(submodel_key(submodel)?)?;
     add_keys(
         alloc,
         &mut keys,
@@ -125,11 +143,7 @@ fn reference(alloc: Global, submodel: &Submodel, path: &Path) -> Result<Referenc
         path.steps.as_slice(),
         &submodel.kids,
     )?;
-    Ok(Reference {
-        ref_type: ReferenceType::ModelReference,
-        keys,
-        referred: None,
-    })
+    Ok(model_reference(keys))
 }
 
 /// A reference to the element at a path, or for the empty path to the submodel.
@@ -159,9 +173,32 @@ pub fn reference_of_shell(alloc: Global, shell: &Shell) -> Result<Reference, NoM
         key_type: KeyType::AssetAdministrationShell,
         value: shell.head.id.copy()?,
     })?;
-    Ok(Reference {
-        ref_type: ReferenceType::ModelReference,
-        keys,
-        referred: None,
-    })
+    Ok(model_reference(keys))
+}
+
+/// A reference to the submodel, for which its identifier alone counts.
+///
+/// IDTA-01002-3-0, content modifier Reference.
+pub fn reference_of_submodel(alloc: Global, submodel: &Submodel) -> Result<Reference, NoMemory>
+    ensures { IfOk result (λ reference. reference ≡ submodel_reference submodel.now) }
+{
+    let mut keys = Many::new(alloc);
+    keys.push(submodel_key(submodel)?)?;
+    Ok(model_reference(keys))
+}
+
+/// A reference to a child of the submodel, of which the identifier alone counts.
+///
+/// IDTA-01002-3-0, content modifier Reference.
+pub fn reference_of_child(
+    alloc: Global,
+    submodel: &Submodel,
+    child: &Element,
+) -> Result<Reference, NoMemory>
+    ensures { IfOk result (λ reference. reference ≡ child_reference submodel.now child.now) }
+{
+    let mut keys = Many::new(alloc);
+    keys.push(submodel_key(submodel)?)?;
+    keys.push(element_key(alloc, false, 0, child)?)?;
+    Ok(model_reference(keys))
 }

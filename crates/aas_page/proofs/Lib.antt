@@ -1,1 +1,4 @@
-mod Coding
+pub mod Coding
+mod Following
+mod Paged
+mod Walked

@@ -1,8 +1,18 @@
-//! What the queries and the paths of requests spell: identifiers in segments. Pages and their cursors belong here too;
-//! routes don't.
+//! Pages of a collection's documents, and the filters that these pass; the segments of paths that stand for identifiers, and the
+//! cursors that do.
 
 #![tactic(auto)]
 
+mod filter;
+mod filtering;
+mod pages;
+mod paging;
 mod segment;
 
-pub use segment::{SegmentFault, id_from_segment, id_to_segment, segments_stand_for_one};
+pub use filter::{Filter, Selection, Span};
+pub use pages::Page;
+pub use paging::{page, walks_list_each_once};
+pub use segment::{
+    SegmentFault, from_base64url, id_from_cursor, id_from_segment, id_to_segment,
+    segments_stand_for_one,
+};

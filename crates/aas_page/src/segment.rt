@@ -1,8 +1,8 @@
-ghost use Rattle.std.specs.Prelude.{◌≡◌, ◌++◌, ◌⊎◌, ℕ, List, Err, IfOk, OnOk, OnErr};
+ghost use Rattle.std.specs.Prelude.{◌≡◌, ◌++◌, ◌⊎◌, ℕ, List, Err, IfNone, IfOk, IfSome, OnOk, OnErr};
 ghost use Rattle.base64.specs.Engines.{url_safe_no_pad};
 ghost use Rattle.base64.specs.GeneralPurpose.{encode_of, IsBytes};
 ghost use Rattle.aas_page.specs.Laws.{SegmentsStandForOne};
-ghost use Rattle.aas_page.specs.Segment.{IsBase64Url, StandsFor};
+ghost use Rattle.aas_page.specs.Segment.{IsBase64Url, IsCursor, IsIdentifierCode, IsIdentifierText, StandsFor};
 ghost use Rattle.aas_page.specs.declared.segment.SegmentFault.TheVariants.{BadIdentifier};
 
 use aas_lexical::is_identifier;
@@ -33,31 +33,61 @@ pub fn id_from_segment(alloc: Global, segment: &[u8]) -> Result<Text, SegmentFau
     if percent_decode(segment).append_to(&mut coded).is_err() {
         return Err(SegmentFault::NoMemory);
     }
-    let utf8 = decoded(alloc, &coded)?;
-    let Ok(text) = str::from_utf8(&utf8) else {
-        return Err(SegmentFault::BadIdentifier);
-    };
-    if !is_identifier(text) {
-        return Err(SegmentFault::BadIdentifier);
-    }
-    match Text::from_str(alloc, text) {
-        Ok(id) => Ok(id),
+    match id_from_base64url(alloc, &coded) {
+        Ok(Some(id)) => Ok(id),
+        Ok(None) => Err(SegmentFault::BadIdentifier),
         Err(NoMemory) => Err(SegmentFault::NoMemory),
     }
 }
 
-/// The bytes for which base64url stands, with all its padding or with none.
-fn decoded(alloc: Global, text: &[u8]) -> Result<Vec<u8>, SegmentFault>
-    ensures ok { IfOk result (λ bytes. IsBytes bytes.items × IsBase64Url text.now bytes.items) }
-    ensures bad { result ≡ Err BadIdentifier → (bytes : List ℕ) → IsBytes bytes → ¬ IsBase64Url text.now bytes }
+/// The identifier that a cursor over documents tells: base64url without padding of UTF-8, with 1 to 2048 characters. Nothing
+/// where it tells none.
+pub fn id_from_cursor(alloc: Global, cursor: &[u8]) -> Result<Option<Text>, NoMemory>
+    ensures some { IfOk result (λ found. IfSome found (IsCursor cursor.now)) }
+    ensures none { IfOk result (λ found. IfNone found ((id : List ℕ) → ¬ IsCursor cursor.now id)) }
+{
+    match URL_SAFE_NO_PAD.decode(alloc, cursor) {
+        Ok(utf8) => identifier(alloc, &utf8),
+        Err(DecodeAllocError::OutOfMemory) => Err(NoMemory),
+        Err(DecodeAllocError::DecodeError(_)) => Ok(None),
+    }
+}
+
+/// The identifier for which base64url stands, with all its padding or with none. Nothing where it stands for none.
+fn id_from_base64url(alloc: Global, text: &[u8]) -> Result<Option<Text>, NoMemory>
+    ensures some { IfOk result (λ found. IfSome found (IsIdentifierCode text.now)) }
+    ensures none { IfOk result (λ found. IfNone found ((id : List ℕ) → ¬ IsIdentifierCode text.now id)) }
+{
+    match from_base64url(alloc, text)? {
+        Some(utf8) => identifier(alloc, &utf8),
+        None => Ok(None),
+    }
+}
+
+/// The identifier whose UTF-8 the bytes are. Nothing where they are that of none.
+fn identifier(alloc: Global, utf8: &[u8]) -> Result<Option<Text>, NoMemory>
+    requires { IsBytes utf8.now }
+    ensures some { IfOk result (λ found. IfSome found (IsIdentifierText utf8.now)) }
+    ensures none { IfOk result (λ found. IfNone found ((id : List ℕ) → ¬ IsIdentifierText utf8.now id)) }
+{
+    match str::from_utf8(utf8) {
+        Ok(text) if is_identifier(text) => Ok(Some(Text::from_str(alloc, text)?)),
+        _ => Ok(None),
+    }
+}
+
+/// The bytes for which base64url stands, with all its padding or with none. Nothing where it stands for none.
+pub fn from_base64url(alloc: Global, text: &[u8]) -> Result<Option<Vec<u8>>, NoMemory>
+    ensures some { IfOk result (λ found. IfSome found (λ bytes. IsBytes bytes.items × IsBase64Url text.now bytes.items)) }
+    ensures none { IfOk result (λ found. IfNone found ((bytes : List ℕ) → IsBytes bytes → ¬ IsBase64Url text.now bytes)) }
 {
     match URL_SAFE_NO_PAD.decode(alloc, text) {
-        Ok(bytes) => Ok(bytes),
-        Err(DecodeAllocError::OutOfMemory) => Err(SegmentFault::NoMemory),
+        Ok(bytes) => Ok(Some(bytes)),
+        Err(DecodeAllocError::OutOfMemory) => Err(NoMemory),
         Err(DecodeAllocError::DecodeError(_)) => match URL_SAFE.decode(alloc, text) {
-            Ok(bytes) => Ok(bytes),
-            Err(DecodeAllocError::OutOfMemory) => Err(SegmentFault::NoMemory),
-            Err(DecodeAllocError::DecodeError(_)) => Err(SegmentFault::BadIdentifier),
+            Ok(bytes) => Ok(Some(bytes)),
+            Err(DecodeAllocError::OutOfMemory) => Err(NoMemory),
+            Err(DecodeAllocError::DecodeError(_)) => Ok(None),
         },
     }
 }

@@ -7,9 +7,9 @@ use Rattle.aas_json_spelling.specs.Lists.{Each}
 use Rattle.aas_command.specs.Commands.{IsWellFormed, bytes_of, field, payload_of, tagged, tagged_of}
 use Rattle.aas_command.specs.Encoding.{HasFields, IsField}
 use Rattle.aas_command.specs.declared.command.Command.{Command}
-use Rattle.aas_command.specs.declared.command.Command.TheVariants.{CreateShell, CreateSubmodel, CreateConcept, ReplaceShell, ReplaceSubmodel, ReplaceConcept, DeleteShell, DeleteSubmodel, DeleteConcept, SetAsset, InsertElement, ReplaceElement, DeleteElement, UpdateValue}
+use Rattle.aas_command.specs.declared.command.Command.TheVariants.{CreateShell, CreateSubmodel, CreateConcept, ReplaceShell, ReplaceSubmodel, ReplaceConcept, DeleteShell, DeleteSubmodel, DeleteConcept, SetAsset, AddReference, DropReference, InsertElement, ReplaceElement, DeleteElement, UpdateValue}
 use Rattle.aas_record.specs.Fields.{Begins}
-use Rattle.aas_record.specs.Forms.{Form, identifier, shell, submodel, concept, asset_information, path, place, element, child, value, HasForm, forms_of}
+use Rattle.aas_record.specs.Forms.{Form, identifier, shell, submodel, concept, asset_information, reference, path, place, element, child, value, HasForm, forms_of}
 use Rattle.aas_record.specs.Records.{IsRecord, IsNoRecord, IsRecordFault, FailsAt}
 use Rattle.aas_record.specs.Reading.{IsFieldFault, IsLastFault}
 use Rattle.aas_record.specs.declared.fault.RecordFault.{RecordFault}
@@ -42,6 +42,10 @@ right_payload (DeleteSubmodel id) at whole is = right_fields 8 (identifier ∷ [
 right_payload (DeleteConcept id) at whole is = right_fields 9 (identifier ∷ []) _ at refl (alone identifier _ is.0 is.0.utf8)
 right_payload (SetAsset id asset) at whole is = right_fields 10 (identifier ∷ asset_information ∷ []) _ at refl
     (_, _, begins _ _ is.0, is.0.utf8, (_, [], begins _ [] is.1.0, (is.1.0.utf8, (asset, whole, refl)), refl))
+right_payload (AddReference id r) at whole is = right_fields 11 (identifier ∷ reference ∷ []) _ at refl
+    (_, _, begins _ _ is.0, is.0.utf8, (_, [], begins _ [] is.1.0, (is.1.0.utf8, (r, whole, refl)), refl))
+right_payload (DropReference id submodel_id) at whole is = right_fields 12 (identifier ∷ identifier ∷ []) _ at refl
+    (_, _, begins _ _ is.0, is.0.utf8, (_, [], begins _ [] is.1.0, is.1.0.utf8, refl))
 right_payload (InsertElement id p e) at whole is = right_fields 13 (identifier ∷ place ∷ child ∷ []) _ at refl
     (_, _, begins _ _ is.0, is.0.utf8, (_, _, begins _ _ is.1.0, (p.steps, whole.0, refl), (_, [], begins _ [] is.1.1.0, (p.steps, whole.0, refl, (is.1.1.0.utf8, (e, whole.1, refl))), refl)))
 right_payload (ReplaceElement id p e) at whole is = right_fields 14 (identifier ∷ path ∷ element ∷ []) _ at refl

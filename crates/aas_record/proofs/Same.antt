@@ -12,10 +12,12 @@ use Rattle.aas_json_mapping.proofs.ElementsLaws.{elements_laws}
 use Rattle.aas_model.specs.declared.path.PathStep.{PathStep}
 use Rattle.aas_edit_laws.specs.Laws.{at_level}
 use Rattle.aas_json_mapping.proofs.PartsLaws.{asset_informations_laws}
+use Rattle.aas_reference.proofs.Facts.{laws}
+use Rattle.aas_reference.specs.Trees.{references}
 use Rattle.aas_command.specs.Commands.{IsWellFormed, field, payload_of, tagged_of}
 use Rattle.aas_command.specs.Encoding.{HasFields, IsField}
 use Rattle.aas_command.specs.declared.command.Command.{Command}
-use Rattle.aas_command.specs.declared.command.Command.TheVariants.{CreateShell, CreateSubmodel, CreateConcept, ReplaceShell, ReplaceSubmodel, ReplaceConcept, DeleteShell, DeleteSubmodel, DeleteConcept, SetAsset, InsertElement, ReplaceElement, DeleteElement, UpdateValue}
+use Rattle.aas_command.specs.declared.command.Command.TheVariants.{CreateShell, CreateSubmodel, CreateConcept, ReplaceShell, ReplaceSubmodel, ReplaceConcept, DeleteShell, DeleteSubmodel, DeleteConcept, SetAsset, AddReference, DropReference, InsertElement, ReplaceElement, DeleteElement, UpdateValue}
 use Rattle.aas_record.specs.Records.{IsRecord, IsRecordFault}
 use Rattle.aas_record.specs.declared.fault.RecordFault.{RecordFault}
 use Rattle.aas_record.specs.declared.fault.RecordFault.TheVariants.{NotARecord, NoMemory}
@@ -52,6 +54,12 @@ same_tagged (DeleteConcept s) (DeleteConcept t) a b is tags e = ap DeleteConcept
 same_tagged (SetAsset i s) (SetAsset j t) a b is tags e =
     ap (λ x. SetAsset x s) (encodes_same i j (first _ _ _ _ e))
     ∙ ap (SetAsset j) (same_by_text asset_informations AnyShape asset_informations_laws _ at_limits s t a b is.1.0.utf8 (first _ _ _ _ (same_tails _ _ _ _ e)))
+same_tagged (AddReference i r) (AddReference j s) a b is tags e =
+    ap (λ x. AddReference x r) (encodes_same i j (first _ _ _ _ e))
+    ∙ ap (AddReference j) (same_by_text references AnyShape laws _ at_limits r s a b is.1.0.utf8 (first _ _ _ _ (same_tails _ _ _ _ e)))
+same_tagged (DropReference i s) (DropReference j t) a b is tags e =
+    ap (λ x. DropReference x s) (encodes_same i j (first _ _ _ _ e))
+    ∙ ap (DropReference j) (encodes_same s t (first _ _ _ _ (same_tails _ _ _ _ e)))
 same_tagged (InsertElement i p s) (InsertElement j q t) a b is tags e =
     let paths = one_place p.steps q.steps a.0 b.0 (first _ _ _ _ (same_tails _ _ _ _ e)) in
     let left = at_level (length p.steps + 1) in

@@ -11,6 +11,7 @@ use Rattle.aas_edit_laws.specs.Laws.{at_level}
 use Rattle.aas_path.specs.PathText.{IsPath, path_text}
 use Rattle.aas_path_trees.specs.PathRule.{KeepsRule}
 use Rattle.aas_command.specs.Commands.{IsPlace, IsSendable}
+use Rattle.aas_reference.specs.Trees.{references}
 
 -- what a field may hold
 pub data Form : Type 0 where
@@ -19,6 +20,7 @@ pub data Form : Type 0 where
   submodel : Form
   concept : Form
   asset_information : Form
+  reference : Form
   -- the path of an element
   path : Form
   -- the same, or nothing, which is the submodel
@@ -50,6 +52,7 @@ HasForm shell before content = IsCanonical shells limits content
 HasForm submodel before content = IsCanonical submodels limits content
 HasForm concept before content = IsCanonical concepts limits content
 HasForm asset_information before content = IsCanonical asset_informations limits content
+HasForm reference before content = IsCanonical references limits content
 HasForm path before content = (p : List PathStep) × IsPath content p
 HasForm place before content = (p : List PathStep) × IsPlace p × (content ≡ path_text p)
 HasForm element before content = (p : List PathStep) × KeepsRule p × IsBehind before p × IsCanonical elements (at_level (length p)) content
@@ -77,6 +80,8 @@ rows =
     ∷ row 8 (identifier ∷ [])
     ∷ row 9 (identifier ∷ [])
     ∷ row 10 (identifier ∷ asset_information ∷ [])
+    ∷ row 11 (identifier ∷ reference ∷ [])
+    ∷ row 12 (identifier ∷ identifier ∷ [])
     ∷ row 13 (identifier ∷ place ∷ child ∷ [])
     ∷ row 14 (identifier ∷ path ∷ element ∷ [])
     ∷ row 15 (identifier ∷ path ∷ [])

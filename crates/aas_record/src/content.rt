@@ -12,18 +12,23 @@ ghost use Rattle.aas_path_trees.specs.PathRule.{KeepsRule};
 ghost use Rattle.aas_command.specs.Commands.{IsPlace, IsSendable};
 ghost use Rattle.serde_json.specs.Written.{compact_text};
 ghost use Rattle.aas_model.specs.declared.read_fault.ReadFault.TheVariants as read_fault;
+ghost use Rattle.aas_reference.specs.Trees.{references};
 ghost use Rattle.aas_record.specs.Forms.{IsCanonical, IsCompact};
 
-use aas_command::{SentValue, asset_text, concept_text, element_text, shell_text, submodel_text};
+use aas_command::{
+    SentValue, asset_text, concept_text, element_text, reference_text, shell_text, submodel_text,
+};
 use aas_json_input::read_value;
 use aas_json_read::{
     read_asset_information, read_concept, read_element, read_shell, read_submodel,
 };
 use aas_json_write::whole_trees_are_in_order;
 use aas_model::{
-    AssetInformation, Concept, Element, Many, NoMemory, Path, ReadFault, Shell, Submodel, Text,
+    AssetInformation, Concept, Element, Many, NoMemory, Path, ReadFault, Reference, Shell,
+    Submodel, Text,
 };
 use aas_path::{PathFault, parse_path};
+use aas_reference::read_reference;
 use std::alloc::Global;
 
 /// What a field may hold.
@@ -41,7 +46,7 @@ pub(crate) trait Content: Drop + Sized {
             (λ value. is_whole value × has_form bytes.now × (bytes.now ≡ bytes_of value))) };
 }
 
-/// A tree that is written as its canonical text: a document, or an element at a level.
+/// A tree that is written as its canonical text: a document, a part of one, or an element at a level.
 pub(crate) trait Tree: Drop + Sized {
     ghost trees: { Trees Self };
 
@@ -237,6 +242,21 @@ impl Tree for AssetInformation {
 
     fn text(&self, alloc: Global) -> Result<Vec<u8>, NoMemory> {
         asset_text(alloc, self)
+    }
+}
+
+impl Tree for Reference {
+    ghost trees = { references };
+
+    ghost left = { λ _. limits };
+
+    fn read(alloc: Global, bytes: &[u8], _level: u32) -> Result<Reference, ReadFault> {
+        let value = read_value(alloc, bytes)?;
+        read_reference(alloc, &value)
+    }
+
+    fn text(&self, alloc: Global) -> Result<Vec<u8>, NoMemory> {
+        reference_text(alloc, self)
     }
 }
 

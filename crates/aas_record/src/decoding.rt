@@ -5,6 +5,7 @@ ghost use Rattle.aas_record.specs.Records.{IsRecord, IsRecordFault};
 use crate::RecordFault;
 use crate::elements::{deletion, insertion, replacement, update};
 use crate::fields::{field, last_field};
+use crate::references::{addition, removal};
 use aas_command::Command;
 use std::alloc::Global;
 
@@ -55,6 +56,8 @@ pub fn decode(alloc: Global, payload: &[u8]) -> Result<Command, RecordFault>
                 asset: last_field(alloc, rest, at)?,
             })
         }
+        11 => addition(alloc, payload, fields),
+        12 => removal(alloc, payload, fields),
         13 => insertion(alloc, payload, fields),
         14 => replacement(alloc, payload, fields),
         15 => deletion(alloc, payload, fields),

@@ -12,6 +12,7 @@ mod elements;
 mod fault;
 mod fields;
 mod laws;
+mod references;
 
 pub use decoding::decode;
 pub use fault::RecordFault;

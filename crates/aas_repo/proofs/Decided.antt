@@ -8,7 +8,7 @@ use Rattle.aas_command.specs.Refusals.{refusal_of_fault}
 use Rattle.aas_command.specs.declared.command.Command.{Command}
 use Rattle.aas_command.specs.declared.command.Command.TheVariants.{SetAsset}
 use Rattle.aas_command.specs.declared.refusal.Refusal.{Refusal}
-use Rattle.aas_command.specs.declared.refusal.Refusal.TheVariants.{Conflict, Constraint, Lexical, NotFound, StorageFault, StorageFull, TooMany}
+use Rattle.aas_command.specs.declared.refusal.Refusal.TheVariants.{Conflict, Constraint, Lexical, NoMemory, NotFound, StorageFault, StorageFull, TooMany}
 use Rattle.aas_constraint_laws.specs.Valid.{IsValid, is_whole}
 use Rattle.aas_constraint_rules.specs.Faults.{Document, faults_of, shell}
 use Rattle.aas_json_mapping.specs.Whole.{is_whole_shell, whole_asset_information}
@@ -25,7 +25,7 @@ use Rattle.aas_step.specs.Made.{with_document}
 use Rattle.aas_step.specs.Step.{accepted, refused, result_of, later_causes, ComesBy, ComesTo}
 use Rattle.aas_step.specs.Valid.{AreValid}
 use Rattle.aas_store.specs.Documents.{Documents, has, without}
-use Rattle.aas_repo.specs.Decisions.{Deletes, IsDecision, Makes, Puts, with_asset}
+use Rattle.aas_repo.specs.Decisions.{Deletes, IsDecision, Makes, Puts, decision_of, with_asset}
 use Rattle.aas_repo.specs.declared.decision.Decision.TheVariants as decision
 
 -- ---- the first of the causes
@@ -68,6 +68,15 @@ comes_without has_room d c k id deletes there =
     alone : (o : Cause) → o ≡ first_of (o ∷ [])
     alone None = refl
     alone (Some refusal) = refl
+
+-- the first cause in what is there, or want of memory
+pub is_refused_or_no_memory : (has_room : Bool) (d new : Documents) (c : Command) (refusal : Refusal)
+    → (refusal ≢ NoMemory → (refusal ≢ StorageFault) × (first_of (causes d c) ≡ Some refusal)) → new ≡ d
+    → IsDecision has_room d c new (decision_of refusal)
+is_refused_or_no_memory has_room d new c NoMemory why same = same
+is_refused_or_no_memory has_room d new c refusal why same =
+    let cause = why (λ e. absurd (cc)) in
+    (same, cause.0, refused_by has_room d c refusal (causes d c) refl cause.1)
 
 -- ---- by what is there
 

@@ -23,7 +23,7 @@ use Rattle.aas_step.proofs.Validity.{replaced_whole}
 use Rattle.aas_step.specs.Causes.{Cause, absent_of, causes, delete_causes, first_of, insert_causes, replace_causes, unless}
 use Rattle.aas_step.specs.Valid.{AreValid}
 use Rattle.aas_store.specs.Documents.{Documents}
-use Rattle.aas_repo.proofs.Decided.{refused_by}
+use Rattle.aas_repo.proofs.Decided.{is_refused_or_no_memory, refused_by}
 use Rattle.aas_repo.specs.Decisions.{Edits, IsDecision, Makes, decision_of}
 use Rattle.aas_repo.specs.declared.decision.Decision.TheVariants as decision
 
@@ -57,15 +57,9 @@ module _ (d : Documents) (c : Command) (id : List ℕ) (causes_in : Submodel →
   is_missing has_room new is same = (same, λ fault. absurd (cc), refused_by has_room d c _ (causes d c) refl (first_by None is))
 
   pub is_refused : (has_room : Bool) (new : Documents) (s : Submodel) (refusal : Refusal) → map.get d.submodels (encode_utf8_all id) ≡ Some s
-      → refusal ≢ StorageFault → first_of (causes_in s) ≡ Some refusal → new ≡ d → IsDecision has_room d c new (decision.Refused refusal)
-  is_refused has_room new s refusal is other why same = (same, other, refused_by has_room d c refusal (causes d c) refl (first_by (Some s) is ∙ why))
-
-  -- or want of memory
-  pub is_refused_or_no_memory : (has_room : Bool) (new : Documents) (s : Submodel) (refusal : Refusal) → map.get d.submodels (encode_utf8_all id) ≡ Some s
       → (refusal ≢ NoMemory → (refusal ≢ StorageFault) × (first_of (causes_in s) ≡ Some refusal)) → new ≡ d → IsDecision has_room d c new (decision_of refusal)
-  is_refused_or_no_memory has_room new s NoMemory is why same = same
-  is_refused_or_no_memory has_room new s refusal is why same =
-      let cause = why (λ e. absurd (cc)) in is_refused has_room new s refusal is cause.0 cause.1 same
+  is_refused has_room new s refusal is why same =
+      is_refused_or_no_memory has_room d new c refusal (λ other. let cause = why other in (cause.0, first_by (Some s) is ∙ cause.1)) same
 
   pub makes_one : (s : Submodel) → map.get d.submodels (encode_utf8_all id) ≡ Some s → first_of (causes_in s) ≡ None → Makes d c (submodel (changed s))
   makes_one s is none = record {

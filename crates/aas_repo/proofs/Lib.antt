@@ -3,6 +3,8 @@ mod Bodies
 mod Counted
 mod Decided
 mod Edited
+mod Pages
 mod Planned
 mod Reached
+mod Referred
 mod Updated

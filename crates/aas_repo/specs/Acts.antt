@@ -3,7 +3,7 @@ use Rattle.std.specs.Prelude.{◌≡◌, ◌≢◌, ℕ, List, [], ◌∷◌, �
 use Rattle.aas_command.specs.Commands.{payload_of}
 use Rattle.aas_command.specs.Encoding.{HasFields}
 use Rattle.aas_command.specs.declared.command.Command.{Command}
-use Rattle.aas_command.specs.declared.command.Command.TheVariants.{CreateShell, CreateSubmodel, CreateConcept, InsertElement}
+use Rattle.aas_command.specs.declared.command.Command.TheVariants.{CreateShell, CreateSubmodel, CreateConcept, AddReference, InsertElement}
 use Rattle.aas_command.specs.declared.refusal.Refusal.{Refusal}
 use Rattle.aas_command.specs.declared.refusal.Refusal.TheVariants.{NoMemory, StorageFault}
 use Rattle.aas_rule.specs.Rule.{Repository, Room}
@@ -18,6 +18,7 @@ abbrev pub done_of : Command → Done
 done_of (CreateShell d) = Created
 done_of (CreateSubmodel d) = Created
 done_of (CreateConcept d) = Created
+done_of (AddReference id r) = Created
 done_of (InsertElement id p e) = Created
 done_of c = Changed
 

@@ -1,9 +1,13 @@
--- What a question is answered in some documents: the text of what it asks for, or why there is none (IDTA-01002-3-0, the operations that get a document by its
--- identifier and an element by its path, with the content modifiers Normal, Metadata, Value, Reference and Path).
-use Rattle.std.specs.Prelude.{ℕ, List, [], take, Option, Some, None, Result, Ok, Err}
-use Rattle.std.specs.FinMap as map
+-- What a question is answered in some documents: the text of what it asks for, or why there is none (IDTA-01002-3-0, the operations that get a page
+-- of documents or of a submodel's children, a document by its identifier and an element by its path, with the content modifiers Normal, Metadata,
+-- Value, Reference and Path).
+use Rattle.std.specs.Prelude.{ℕ, ◌+◌, List, [], ◌++◌, map, take, codes, decimal, Option, Some, None, option_map, Result, Ok, Err, if◌then◌else◌}
+use Rattle.std.specs.FinMap as fin
+use Rattle.std.specs.List.{join_by, last_or}
 use Rattle.std.specs.Option.{option_map_or}
 use Rattle.std.specs.Str.{encode_utf8_all}
+use Rattle.base64.specs.Engines.{url_safe_no_pad}
+use Rattle.base64.specs.GeneralPurpose.{encode_of}
 use Rattle.serde_json.specs.Data.{Data, string}
 use Rattle.serde_json.specs.Written.{compact_text}
 use Rattle.aas_json_spelling.specs.Spells.{canonical_text}
@@ -20,16 +24,22 @@ use Rattle.aas_value.specs.ValueForm.{array_of, submodel_value, value_form}
 use Rattle.aas_form.specs.CoreForm.{core_form, submodel_core}
 use Rattle.aas_form.specs.MetadataForm.{metadata_form, submodel_metadata}
 use Rattle.aas_form.specs.PathsFrom.{element_paths, submodel_paths}
-use Rattle.aas_form.specs.ReferenceTo.{reference_to, shell_reference}
+use Rattle.aas_form.specs.ReferenceTo.{child_reference, reference_to, shell_reference, submodel_reference}
 use Rattle.aas_form.specs.WithoutBlobs.{submodel_without_blobs, without_blobs}
 use Rattle.aas_path.specs.PathText.{path_text}
 use Rattle.aas_path_trees.specs.ElementAt.{depth_found, element_at}
-use Rattle.aas_command.specs.declared.question.Question.{Question}
-use Rattle.aas_command.specs.declared.question.Question.TheVariants as question
+use Rattle.aas_question.specs.declared.question.Question.{Question}
+use Rattle.aas_question.specs.declared.question.Question.TheVariants as question
 use Rattle.aas_command.specs.declared.refusal.Absent.TheVariants as absent
 use Rattle.aas_command.specs.declared.refusal.Refusal.{Refusal}
 use Rattle.aas_command.specs.declared.refusal.Refusal.TheVariants.{NotFound, NoValueForm}
-use Rattle.aas_store.specs.Documents.{Documents}
+use Rattle.aas_model_names.specs.declared.modifiers.Extent.{Extent}
+use Rattle.aas_model_names.specs.declared.modifiers.Level.{Level}
+use Rattle.aas_page.specs.Filters.{passes_concept, passes_shell, passes_submodel}
+use Rattle.aas_page.specs.Pages.{PageOf, page_after, page_from}
+use Rattle.aas_page.specs.declared.filter.Selection.{Selection}
+use Rattle.aas_page.specs.declared.filter.Span.{Span}
+use Rattle.aas_store.specs.Documents.{Documents, Identifier}
 
 -- a body, or a refusal
 abbrev pub Answer : Type 0
@@ -52,13 +62,13 @@ value_answer (Some form) = Ok (compact_text form)
 -- ---- what is asked about
 
 abbrev pub of_shell : Documents → List ℕ → (Shell → Answer) → Answer
-of_shell d id answer = option_map_or answer (map.get d.shells (encode_utf8_all id)) (Err (NotFound absent.Shell))
+of_shell d id answer = option_map_or answer (fin.get d.shells (encode_utf8_all id)) (Err (NotFound absent.Shell))
 
 abbrev pub of_submodel : Documents → List ℕ → (Submodel → Answer) → Answer
-of_submodel d id answer = option_map_or answer (map.get d.submodels (encode_utf8_all id)) (Err (NotFound absent.Submodel))
+of_submodel d id answer = option_map_or answer (fin.get d.submodels (encode_utf8_all id)) (Err (NotFound absent.Submodel))
 
 abbrev pub of_concept : Documents → List ℕ → (Concept → Answer) → Answer
-of_concept d id answer = option_map_or answer (map.get d.concepts (encode_utf8_all id)) (Err (NotFound absent.Concept))
+of_concept d id answer = option_map_or answer (fin.get d.concepts (encode_utf8_all id)) (Err (NotFound absent.Concept))
 
 -- the path leads to nothing
 abbrev pub lost : List PathStep → Submodel → Answer
@@ -70,20 +80,78 @@ of_element d id p answer = of_submodel d id (λ s. option_map_or answer (element
 abbrev pub of_reference : Option Reference → Answer → Answer
 of_reference found none = option_map_or (λ r. Ok (reference_text r)) found none
 
+-- ---- forms of a submodel and of an element
+
+abbrev pub submodel_shown : Level → Extent → Submodel → List ℕ
+submodel_shown level extent s = canonical_text submodels (submodel_without_blobs extent (submodel_core level s))
+
+abbrev pub submodel_valued : Level → Extent → Submodel → List ℕ
+submodel_valued level extent s = compact_text (submodel_value extent (submodel_core level s))
+
+abbrev pub element_shown : Level → Extent → Element → List ℕ
+element_shown level extent e = canonical_text elements (without_blobs extent (core_form level e))
+
+-- ---- pages
+
+-- where a further entry follows, the cursor of the next page
+abbrev pub cursor_text : Option (List ℕ) → List ℕ
+cursor_text None = codes "{}"
+cursor_text (Some cursor) = codes "{\"cursor\":\"" ++ cursor ++ codes "\"}"
+
+-- the text of a page up to its entries
+abbrev pub page_begin : Option (List ℕ) → List ℕ
+page_begin cursor = codes "{\"paging_metadata\":" ++ cursor_text cursor ++ codes ",\"result\":["
+
+-- the text of each of the entries of a page, and the cursor of the next page, where a further entry follows
+abbrev pub page_text : {X : Type 0} → (X → List ℕ) → Option (List ℕ) → PageOf X → List ℕ
+page_text text cursor p = page_begin (if p.more then cursor else None) ++ join_by text (codes ",") p.entries ++ codes "]}"
+
+-- documents, the last of which is the cursor
+abbrev pub documents_page : {X : Type 0} → (X → List ℕ) → PageOf (Identifier × X) → Answer
+documents_page text p = Ok (page_text (λ e. text e.1) (option_map (encode_of url_safe_no_pad) (last_or None (map (λ e. e.0) p.entries))) p)
+
+-- entries at places, the next of which is the cursor
+abbrev pub places_page : {X : Type 0} → (X → List ℕ) → Span → List X → Answer
+places_page text span xs = Ok (page_text text (Some (decimal (span.from + span.limit))) (page_from span.from span.limit xs))
+
+abbrev pub of_shells : Documents → Selection → (Shell → List ℕ) → Answer
+of_shells d s text = documents_page text (page_after (passes_shell s.filter) (option_map encode_utf8_all s.after) s.limit d.shells)
+
+abbrev pub of_submodels : Documents → Selection → (Submodel → List ℕ) → Answer
+of_submodels d s text = documents_page text (page_after (passes_submodel s.filter) (option_map encode_utf8_all s.after) s.limit d.submodels)
+
+abbrev pub of_concepts : Documents → Selection → (Concept → List ℕ) → Answer
+of_concepts d s text = documents_page text (page_after (passes_concept s.filter) (option_map encode_utf8_all s.after) s.limit d.concepts)
+
+-- of the children of a submodel
+abbrev pub of_children : Documents → List ℕ → Span → (Submodel → Element → List ℕ) → Answer
+of_children d id span text = of_submodel d id (λ s. places_page (text s) span s.kids)
+
 -- ---- one row a question
 
 unfoldable pub answer_of : Documents → Question → Answer
+answer_of d (question.Shells s) = of_shells d s (canonical_text shells)
+answer_of d (question.ShellsReference s) = of_shells d s (λ x. reference_text (shell_reference x))
+answer_of d (question.ReferencesOf id span) = of_shell d id (λ s. places_page reference_text span s.submodels)
+answer_of d (question.Submodels s level extent) = of_submodels d s (submodel_shown level extent)
+answer_of d (question.SubmodelsMetadata s) = of_submodels d s (λ x. canonical_text submodels (submodel_metadata x))
+answer_of d (question.SubmodelsValue s level extent) = of_submodels d s (submodel_valued level extent)
+answer_of d (question.SubmodelsReference s) = of_submodels d s (λ x. reference_text (submodel_reference x))
+answer_of d (question.Elements id span level extent) = of_children d id span (λ s. element_shown level extent)
+answer_of d (question.ElementsMetadata id span) = of_children d id span (λ s e. canonical_text elements (metadata_form e))
+answer_of d (question.ElementsReference id span) = of_children d id span (λ s e. reference_text (child_reference s e))
+answer_of d (question.Concepts s) = of_concepts d s (canonical_text concepts)
 answer_of d (question.Shell id) = of_shell d id (λ s. Ok (canonical_text shells s))
 answer_of d (question.ShellReference id) = of_shell d id (λ s. Ok (reference_text (shell_reference s)))
 answer_of d (question.Asset id) = of_shell d id (λ s. Ok (canonical_text asset_informations s.asset))
 answer_of d (question.Submodel id level extent) =
-    of_submodel d id (λ s. Ok (canonical_text submodels (submodel_without_blobs extent (submodel_core level s))))
+    of_submodel d id (λ s. Ok (submodel_shown level extent s))
 answer_of d (question.SubmodelMetadata id) = of_submodel d id (λ s. Ok (canonical_text submodels (submodel_metadata s)))
-answer_of d (question.SubmodelValue id level extent) = of_submodel d id (λ s. Ok (compact_text (submodel_value extent (submodel_core level s))))
+answer_of d (question.SubmodelValue id level extent) = of_submodel d id (λ s. Ok (submodel_valued level extent s))
 answer_of d (question.SubmodelReference id) = of_submodel d id (λ s. of_reference (reference_to s []) (lost [] s))
 answer_of d (question.SubmodelPaths id level) = of_submodel d id (λ s. Ok (paths_text (submodel_paths (submodel_core level s))))
 answer_of d (question.Element id p level extent) =
-    of_element d id p.steps (λ e. Ok (canonical_text elements (without_blobs extent (core_form level e))))
+    of_element d id p.steps (λ e. Ok (element_shown level extent e))
 answer_of d (question.ElementMetadata id p) = of_element d id p.steps (λ e. Ok (canonical_text elements (metadata_form e)))
 answer_of d (question.ElementValue id p level extent) = of_element d id p.steps (λ e. value_answer (value_form extent (core_form level e)))
 answer_of d (question.ElementReference id p) = of_submodel d id (λ s. of_reference (reference_to s p.steps) (lost p.steps s))

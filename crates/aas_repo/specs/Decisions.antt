@@ -1,8 +1,8 @@
 -- What is decided on a command, and done in the store, before it is kept. This profile's own rule.
-use Rattle.std.specs.Prelude.{◌≡◌, ◌≢◌, ℕ, Bool, true, List, [], ◌∷◌, None, IsTrue, length}
+use Rattle.std.specs.Prelude.{◌≡◌, ◌≢◌, ℕ, Bool, true, List, [], ◌∷◌, Some, None, Result, Ok, Err, IsTrue, length}
 use Rattle.std.specs.Str.{encode_utf8_all}
 use Rattle.aas_model_names.specs.declared.collection.Collection.{Collection}
-use Rattle.aas_constraint_rules.specs.Faults.{Document}
+use Rattle.aas_constraint_rules.specs.Faults.{Document, shell}
 use Rattle.aas_command.specs.Commands.{payload_of}
 use Rattle.aas_command.specs.Encoding.{HasFields}
 use Rattle.aas_command.specs.declared.command.Command.{Command}
@@ -13,8 +13,8 @@ use Rattle.aas_model.specs.declared.documents.Shell.{Shell}
 use Rattle.aas_model.specs.declared.documents.Submodel.{Submodel}
 use Rattle.aas_rule.specs.Rule.{Room}
 use Rattle.aas_store.specs.Documents.{Documents, without}
-use Rattle.aas_step.specs.Causes.{Cause, causes, first_of, in_submodel, is_absent}
-use Rattle.aas_step.specs.Made.{IsMade, changed_submodel, left}
+use Rattle.aas_step.specs.Causes.{Cause, causes, first_of, in_shell, in_submodel, is_absent}
+use Rattle.aas_step.specs.Made.{IsMade, changed_shell, changed_submodel, left}
 use Rattle.aas_step.specs.Step.{ComesTo, Steps, accepted, refused}
 use Rattle.aas_repo.specs.declared.decision.Decision.{Decision}
 use Rattle.aas_repo.specs.declared.decision.Decision.TheVariants as decision
@@ -69,3 +69,9 @@ pub record Deletes (d : Documents) (c : Command) (collection : Collection) (id :
 
 abbrev pub with_asset : AssetInformation → Shell → Shell
 with_asset asset s = record s { asset = asset }
+
+-- The shell of an identifier, changed; or why it isn't, where memory isn't refused: the first cause in what is there.
+abbrev pub IsChangedShell : Documents → List ℕ → (Shell → Cause) → (Shell → Shell) → Result Shell Refusal → Type 0
+IsChangedShell d id cause_in change (Ok new) = (first_of (in_shell d id cause_in) ≡ None) × (changed_shell d id change ≡ shell new ∷ [])
+IsChangedShell d id cause_in change (Err refusal) =
+    refusal ≢ NoMemory → (refusal ≢ StorageFault) × (first_of (in_shell d id cause_in) ≡ Some refusal)

@@ -2,4 +2,5 @@ pub mod Acts
 pub mod Answers
 pub mod Decisions
 pub mod Held
+pub mod Listed
 pub mod Patches

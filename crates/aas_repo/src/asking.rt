@@ -5,15 +5,19 @@ ghost use Rattle.aas_step.specs.Valid.{AreValid};
 ghost use Rattle.aas_repo.specs.Answers.{answer_of};
 
 use crate::answers::{asset_answer, concept_answer, shell_answer, shell_reference_answer};
+use crate::document_pages::documents_answer;
 use crate::element_answers::{
     element_answer, element_metadata_answer, element_paths_answer, element_value_answer,
 };
+use crate::forms::{ChildForm, DocumentForm, ShellForm, SubmodelForm};
+use crate::place_pages::{children_answer, references_answer};
 use crate::submodel_answers::{
     reference_answer, submodel_answer, submodel_metadata_answer, submodel_paths_answer,
     submodel_reference_answer, submodel_value_answer,
 };
-use aas_command::{Question, Refusal};
+use aas_command::Refusal;
 use aas_model::Many;
+use aas_question::Question;
 use aas_store::Store;
 use std::alloc::Global;
 
@@ -28,6 +32,74 @@ pub(crate) fn tell<S: Store>(
     ensures { (result ≡ Err NoMemory) ⊎ (result ≡ answer_of (S.documents store.now) question.now) }
 {
     match question {
+        Question::Shells { selection } => {
+            documents_answer(
+                alloc,
+                store,
+                selection,
+                DocumentForm::Shell(ShellForm::Whole),
+            )
+        }
+        Question::ShellsReference { selection } => {
+            documents_answer(
+                alloc,
+                store,
+                selection,
+                DocumentForm::Shell(ShellForm::Reference),
+            )
+        }
+        Question::ReferencesOf { shell, span } => references_answer(alloc, store, shell, *span),
+        Question::Submodels {
+            selection,
+            level,
+            extent,
+        } => {
+            let form = SubmodelForm::Whole {
+                level: *level,
+                extent: *extent,
+            };
+            documents_answer(alloc, store, selection, DocumentForm::Submodel(form))
+        }
+        Question::SubmodelsMetadata { selection } => {
+            let form = SubmodelForm::Metadata;
+            documents_answer(alloc, store, selection, DocumentForm::Submodel(form))
+        }
+        Question::SubmodelsValue {
+            selection,
+            level,
+            extent,
+        } => {
+            let form = SubmodelForm::Value {
+                level: *level,
+                extent: *extent,
+            };
+            documents_answer(alloc, store, selection, DocumentForm::Submodel(form))
+        }
+        Question::SubmodelsReference { selection } => {
+            let form = SubmodelForm::Reference;
+            documents_answer(alloc, store, selection, DocumentForm::Submodel(form))
+        }
+        Question::Elements {
+            id,
+            span,
+            level,
+            extent,
+        } => {
+            let form = ChildForm::Whole {
+                level: *level,
+                extent: *extent,
+            };
+            children_answer(alloc, store, id, *span, form)
+        }
+        Question::ElementsMetadata { id, span } => {
+            children_answer(alloc, store, id, *span, ChildForm::Metadata)
+        }
+        Question::ElementsReference { id, span } => {
+            children_answer(alloc, store, id, *span, ChildForm::Reference)
+        }
+        Question::Concepts { selection } => {
+            documents_answer(alloc, store, selection, DocumentForm::Concept)
+        }
         Question::Shell { id } => shell_answer(alloc, store, id),
         Question::ShellReference { id } => shell_reference_answer(alloc, store, id),
         Question::Asset { id } => asset_answer(alloc, store, id),

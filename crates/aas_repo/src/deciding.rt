@@ -16,6 +16,7 @@ ghost use Rattle.aas_repo.specs.Decisions.{Deletes, IsDecision, Makes, with_asse
 
 use crate::decision::Decision;
 use crate::editing::{Deletion, Insertion, Replacement, make_edit};
+use crate::references::{add_reference, drop_reference};
 use crate::stored::Stored;
 use crate::updating::update;
 use aas_command::{Absent, Command, Refusal};
@@ -46,6 +47,12 @@ pub(crate) fn decide<S: Store>(
         Command::DeleteSubmodel { id } => delete(store, Collection::Submodels, id, has_room),
         Command::DeleteConcept { id } => delete(store, Collection::Concepts, id, has_room),
         Command::SetAsset { shell, asset } => set_asset(alloc, store, shell, asset, has_room),
+        Command::AddReference { shell, reference } => {
+            add_reference(alloc, store, shell, reference, has_room)
+        }
+        Command::DropReference { shell, submodel } => {
+            drop_reference(alloc, store, shell, submodel, has_room)
+        }
         Command::InsertElement {
             submodel,
             path,

@@ -1,23 +1,22 @@
 // The bodies of replies to questions about elements.
-ghost use Rattle.std.specs.Prelude.{◌≡◌, ◌⊎◌, Ok, Err, IfErr, IfOk, true};
+ghost use Rattle.std.specs.Prelude.{◌≡◌, ◌++◌, ◌⊎◌, true, Ok, Err, IfErr, IfOk, OnOk};
 ghost use Rattle.aas_command.specs.declared.refusal.Refusal.TheVariants as refused;
 ghost use Rattle.aas_form.specs.CoreForm.{core_form};
 ghost use Rattle.aas_form.specs.MetadataForm.{metadata_form};
 ghost use Rattle.aas_form.specs.PathsFrom.{element_paths};
-ghost use Rattle.aas_form.specs.WithoutBlobs.{without_blobs};
 ghost use Rattle.aas_json_mapping.specs.Trees.{elements};
 ghost use Rattle.aas_json_spelling.specs.Spells.{canonical_text};
 ghost use Rattle.aas_json_write.specs.Order.{element_in_order};
 ghost use Rattle.aas_model.specs.declared.element.Element as trees;
 ghost use Rattle.aas_step.specs.Valid.{AreValid};
 ghost use Rattle.aas_value.specs.ValueForm.{value_form};
-ghost use Rattle.aas_repo.specs.Answers.{Answer, of_element, paths_text, value_answer};
+ghost use Rattle.aas_repo.specs.Answers.{Answer, element_shown, of_element, paths_text, value_answer};
 
 use crate::containers::not_found;
 use crate::texts::{paths_text, value_text};
-use aas_command::{Absent, Refusal, element_text};
+use aas_command::{Absent, Refusal};
 use aas_form::{cut_element, forms_can_be_written, metadata, paths_of_element, strip_element};
-use aas_json_write::whole_trees_are_in_order;
+use aas_json_write::{whole_trees_are_in_order, write_element};
 use aas_model::{Element, Extent, Level, Many, NoMemory, Path, Text};
 use aas_store::{Lack, Store};
 use aas_value::value_form;
@@ -54,24 +53,28 @@ pub(crate) fn element_answer<S: Store>(
 ) -> Result<Many<u8>, Refusal>
     requires { AreValid (S.documents store.now) }
     ensures { (result ≡ Err refused.NoMemory) ⊎ (result ≡ of_element (S.documents store.now) id.now path.now.steps
-        (λ e. Ok (canonical_text elements (without_blobs extent (core_form level e))))) }
+        (λ e. Ok (element_shown level extent e))) }
 {
     let element = stored(alloc, store, id, path)?;
-    Ok(shown(alloc, element, level, extent)?)
+    let mut text = Vec::new(alloc);
+    append_shown(alloc, element, level, extent, &mut text)?;
+    Ok(Many::from(text))
 }
 
-fn shown(
+/// Appends the text of the element, at a level and to an extent.
+pub(crate) fn append_shown(
     alloc: Global,
     element: Element,
     level: Level,
     extent: Extent,
-) -> Result<Many<u8>, NoMemory>
+    text: &mut Vec<u8>,
+) -> Result<(), NoMemory>
     requires { element_in_order element ≡ true }
-    ensures { IfOk result (λ text. text ≡ canonical_text elements (without_blobs extent (core_form level element))) }
+    ensures { OnOk result (text.new.items ≡ text.old.items ++ element_shown level extent element) }
 {
     forms_can_be_written();
     let form = strip_element(cut_element(element, level), extent);
-    Ok(Many::from(element_text(alloc, &form)?))
+    write_element(alloc, &form, text)
 }
 
 /// The metadata of the element.
@@ -86,16 +89,23 @@ pub(crate) fn element_metadata_answer<S: Store>(
         (λ e. Ok (canonical_text elements (metadata_form e)))) }
 {
     let element = stored(alloc, store, id, path)?;
-    Ok(metadata_shown(alloc, &element)?)
+    let mut text = Vec::new(alloc);
+    append_metadata(alloc, &element, &mut text)?;
+    Ok(Many::from(text))
 }
 
-fn metadata_shown(alloc: Global, element: &Element) -> Result<Many<u8>, NoMemory>
+/// Appends the text of the metadata of the element.
+pub(crate) fn append_metadata(
+    alloc: Global,
+    element: &Element,
+    text: &mut Vec<u8>,
+) -> Result<(), NoMemory>
     requires { element_in_order element.now ≡ true }
-    ensures { IfOk result (λ text. text ≡ canonical_text elements (metadata_form element.now)) }
+    ensures { OnOk result (text.new.items ≡ text.old.items ++ canonical_text elements (metadata_form element.now)) }
 {
     forms_can_be_written();
     let form = metadata(alloc, element)?;
-    Ok(Many::from(element_text(alloc, &form)?))
+    write_element(alloc, &form, text)
 }
 
 /// The value form of the element, at a level and to an extent.

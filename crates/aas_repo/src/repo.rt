@@ -1,9 +1,10 @@
 // Documents in a store, and the commands that made them in a keeper.
-ghost use Rattle.std.specs.Prelude.{◌≡◌, ◌≢◌, ◌≤◌, ◌⊎◌, ℕ, List, false, Err};
+ghost use Rattle.std.specs.Prelude.{◌≡◌, ◌≢◌, ◌≤◌, ◌⊎◌, ℕ, List, None, Some, false, Err, MatchResult};
 ghost use Rattle.aas_command.specs.Commands.{IsWellFormed};
 ghost use Rattle.aas_command.specs.declared.refusal.Refusal.TheVariants.{NoMemory, StorageFault};
 ghost use Rattle.aas_outside.specs.Faults.{Rose};
 ghost use Rattle.aas_rule.specs.State.{IsSettledState, PassesTo, repository_of};
+ghost use Rattle.aas_step.specs.Causes.{first_of, reference_causes};
 ghost use Rattle.aas_step.specs.Valid.{AreValid};
 ghost use Rattle.aas_repo.specs.Acts.{Acts, done_of};
 ghost use Rattle.aas_repo.specs.Answers.{answer_of};
@@ -12,9 +13,11 @@ ghost use Rattle.aas_repo.specs.Held.{state_of};
 use crate::asking::tell;
 use crate::decision::Plan;
 use crate::planning::plan;
-use aas_command::{Command, Question, Refusal};
-use aas_model::Many;
+use crate::references::referring;
+use aas_command::{Command, Refusal};
+use aas_model::{Many, Text};
 use aas_outside::{Failed, Keeper};
+use aas_question::Question;
 use aas_store::Store;
 use std::alloc::Global;
 use std::marker::Model;
@@ -22,9 +25,9 @@ use std::marker::Model;
 /// What an accepted command did.
 #[derive(Clone, Copy, Debug, PartialEq, Eq, Drop)]
 pub enum Done {
-    /// It created a document.
+    /// It created a document, an element, or a reference of a shell.
     Created,
-    /// It changed or deleted one.
+    /// It changed or deleted something.
     Changed,
 }
 
@@ -121,6 +124,18 @@ impl<S: Store, K: Keeper> Repo<S, K> {
     {
         tell(self.alloc, &self.store, question)
     }
+
+    /// Asks whether a shell is there and has a reference to a submodel, as all that goes through the shell to the submodel
+    /// needs; or why not.
+    pub fn refers(&self, shell: &Text, submodel: &Text) -> Result<(), Refusal>
+        requires { self.now.stopped ≡ false }
+        ensures { MatchResult result
+            (λ _. first_of (reference_causes self.now.documents shell.now submodel.now) ≡ None)
+            (λ refusal. first_of (reference_causes self.now.documents shell.now submodel.now) ≡ Some refusal) }
+    {
+        referring(&self.store, shell, submodel)?;
+        Ok(())
+    }
 }
 
 impl<S: Store + Drop, K: Keeper> Repo<S, K> {
@@ -140,6 +155,7 @@ fn done_of(command: &Command) -> Done
         Command::CreateShell { .. } => Done::Created,
         Command::CreateSubmodel { .. } => Done::Created,
         Command::CreateConcept { .. } => Done::Created,
+        Command::AddReference { .. } => Done::Created,
         Command::InsertElement { .. } => Done::Created,
         _ => Done::Changed,
     }

@@ -1,8 +1,7 @@
 // The bodies of replies to questions about submodels.
-ghost use Rattle.std.specs.Prelude.{◌≡◌, ◌⊎◌, [], None, Some, Ok, Err, IfErr, IfOk};
+ghost use Rattle.std.specs.Prelude.{◌≡◌, ◌++◌, ◌⊎◌, [], None, Some, Ok, Err, IfErr, IfOk, OnOk};
 ghost use Rattle.std.specs.FinMap as map;
 ghost use Rattle.std.specs.Str.{encode_utf8_all};
-ghost use Rattle.serde_json.specs.Written.{compact_text};
 ghost use Rattle.aas_command.specs.declared.refusal.Absent.TheVariants as absent;
 ghost use Rattle.aas_command.specs.declared.refusal.Refusal.TheVariants as refused;
 ghost use Rattle.aas_constraint_laws.specs.Valid.{IsValid};
@@ -11,21 +10,20 @@ ghost use Rattle.aas_form.specs.CoreForm.{submodel_core};
 ghost use Rattle.aas_form.specs.MetadataForm.{submodel_metadata};
 ghost use Rattle.aas_form.specs.PathsFrom.{submodel_paths};
 ghost use Rattle.aas_form.specs.ReferenceTo.{reference_to};
-ghost use Rattle.aas_form.specs.WithoutBlobs.{submodel_without_blobs};
 ghost use Rattle.aas_json_mapping.specs.Trees.{submodels};
 ghost use Rattle.aas_json_spelling.specs.Spells.{canonical_text};
 ghost use Rattle.aas_step.specs.Valid.{AreValid};
-ghost use Rattle.aas_value.specs.ValueForm.{submodel_value};
-ghost use Rattle.aas_repo.specs.Answers.{of_submodel, of_reference, lost, paths_text};
+ghost use Rattle.aas_repo.specs.Answers.{lost, of_reference, of_submodel, paths_text, submodel_shown, submodel_valued};
+ghost use Rattle.aas_repo.specs.Listed.{HasValidHead};
 
 use crate::containers::not_found;
-use crate::texts::{form_text, paths_text, reference_text, value_text};
+use crate::texts::{paths_text, reference_text};
 use aas_command::{Absent, Refusal};
 use aas_form::{
     FormFault, cut, forms_can_be_written, metadata_of, paths_of_submodel, reference_of, strip,
 };
 use aas_json_members::Exact;
-use aas_json_write::whole_trees_are_in_order;
+use aas_json_write::{whole_trees_are_in_order, write_submodel};
 use aas_model::{Extent, Level, Many, NoMemory, Path, Submodel, Text};
 use aas_store::Store;
 use aas_value::value_of_submodel;
@@ -57,25 +55,29 @@ pub(crate) fn submodel_answer<S: Store>(
 ) -> Result<Many<u8>, Refusal>
     requires { AreValid (S.documents store.now) }
     ensures { (result ≡ Err refused.NoMemory) ⊎ (result ≡ of_submodel (S.documents store.now) id.now
-        (λ s. Ok (canonical_text submodels (submodel_without_blobs extent (submodel_core level s))))) }
+        (λ s. Ok (submodel_shown level extent s))) }
 {
     let submodel = stored(store, id)?;
-    Ok(shown(alloc, submodel, level, extent)?)
+    let mut text = Vec::new(alloc);
+    append_shown(alloc, submodel, level, extent, &mut text)?;
+    Ok(Many::from(text))
 }
 
-fn shown(
+/// Appends the text of the submodel, at a level and to an extent.
+pub(crate) fn append_shown(
     alloc: Global,
     submodel: Submodel,
     level: Level,
     extent: Extent,
-) -> Result<Many<u8>, NoMemory>
+    text: &mut Vec<u8>,
+) -> Result<(), NoMemory>
     requires { IsValid (faults.submodel submodel) }
-    ensures { IfOk result (λ text. text ≡ canonical_text submodels (submodel_without_blobs extent (submodel_core level submodel))) }
+    ensures { OnOk result (text.new.items ≡ text.old.items ++ submodel_shown level extent submodel) }
 {
     whole_trees_are_in_order();
     forms_can_be_written();
     let form = strip(cut(submodel, level), extent);
-    form_text(alloc, &form)
+    write_submodel(alloc, &form, text)
 }
 
 /// The metadata of the submodel of the identifier.
@@ -88,18 +90,29 @@ pub(crate) fn submodel_metadata_answer<S: Store>(
     ensures { (result ≡ Err refused.NoMemory) ⊎ (result ≡ of_submodel (S.documents store.now) id.now
         (λ s. Ok (canonical_text submodels (submodel_metadata s)))) }
 {
-    let submodel = stored(store, id)?;
-    Ok(metadata_shown(alloc, &submodel)?)
+    let Some(head) = store.submodel_head(id.as_str()) else {
+        return Err(Refusal::NotFound {
+            what: Absent::Submodel,
+        });
+    };
+    let mut text = Vec::new(alloc);
+    append_metadata(alloc, head, &mut text)?;
+    Ok(Many::from(text))
 }
 
-fn metadata_shown(alloc: Global, submodel: &Submodel) -> Result<Many<u8>, NoMemory>
-    requires { IsValid (faults.submodel submodel.now) }
-    ensures { IfOk result (λ text. text ≡ canonical_text submodels (submodel_metadata submodel.now)) }
+/// Appends the text of the metadata of the submodel, for which its children don't count.
+pub(crate) fn append_metadata(
+    alloc: Global,
+    submodel: &Submodel,
+    text: &mut Vec<u8>,
+) -> Result<(), NoMemory>
+    requires { HasValidHead submodel.now }
+    ensures { OnOk result (text.new.items ≡ text.old.items ++ canonical_text submodels (submodel_metadata submodel.now)) }
 {
     whole_trees_are_in_order();
     forms_can_be_written();
     let form = metadata_of(alloc, submodel)?;
-    form_text(alloc, &form)
+    write_submodel(alloc, &form, text)
 }
 
 /// The value form of the submodel of the identifier, at a level and to an extent.
@@ -111,23 +124,27 @@ pub(crate) fn submodel_value_answer<S: Store>(
     extent: Extent,
 ) -> Result<Many<u8>, Refusal>
     ensures { (result ≡ Err refused.NoMemory) ⊎ (result ≡ of_submodel (S.documents store.now) id.now
-        (λ s. Ok (compact_text (submodel_value extent (submodel_core level s))))) }
+        (λ s. Ok (submodel_valued level extent s))) }
 {
     let submodel = stored(store, id)?;
-    Ok(value_shown(alloc, submodel, level, extent)?)
+    let mut text = Vec::new(alloc);
+    append_value(alloc, submodel, level, extent, &mut text)?;
+    Ok(Many::from(text))
 }
 
-fn value_shown(
+/// Appends the text of the value form of the submodel, at a level and to an extent.
+pub(crate) fn append_value(
     alloc: Global,
     submodel: Submodel,
     level: Level,
     extent: Extent,
-) -> Result<Many<u8>, NoMemory>
-    ensures { IfOk result (λ text. text ≡ compact_text (submodel_value extent (submodel_core level submodel))) }
+    text: &mut Vec<u8>,
+) -> Result<(), NoMemory>
+    ensures { OnOk result (text.new.items ≡ text.old.items ++ submodel_valued level extent submodel) }
 {
     let form = cut(submodel, level);
     let value = value_of_submodel(alloc, &form, extent)?;
-    value_text(alloc, &Exact::new(value))
+    Exact::new(value).append_to(alloc, text)
 }
 
 /// A reference to the submodel of the identifier.

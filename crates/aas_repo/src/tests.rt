@@ -5,9 +5,10 @@ ghost use Rattle.aas_json_mapping.specs.Trees.{submodels};
 ghost use Rattle.aas_json_table.specs.TooDeep.{limits};
 
 use crate::{Done, Repo};
-use aas_command::{Absent, Command, Question, Refusal};
+use aas_command::{Absent, Command, Refusal};
 use aas_model::{Extent, Head, Level, Many, NoMemory, Semantics, Submodel, Text};
 use aas_outside::MemKeeper;
+use aas_question::Question;
 use aas_step::no_documents_are_valid;
 use aas_store::TreeStore;
 use std::alloc::Global;

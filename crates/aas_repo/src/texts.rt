@@ -1,38 +1,21 @@
 // The texts that make the bodies of replies to questions.
-ghost use Rattle.std.specs.Prelude.{◌≡◌, true, IfOk};
+ghost use Rattle.std.specs.Prelude.{◌≡◌, IfOk};
 ghost use Rattle.serde_json.specs.Data.{string};
 ghost use Rattle.serde_json.specs.Written.{compact_text};
-ghost use Rattle.aas_json_mapping.specs.Trees.{submodels};
 ghost use Rattle.aas_json_members.specs.Exact.{data_of};
-ghost use Rattle.aas_json_spelling.specs.Spells.{canonical_text};
-ghost use Rattle.aas_json_write.specs.Order.{submodel_in_order};
 ghost use Rattle.aas_path.specs.PathText.{path_text};
 ghost use Rattle.aas_repo.specs.Answers.{paths_text, reference_text};
 
 use aas_json_members::{Array, Exact, string_value};
-use aas_json_write::write_submodel;
-use aas_model::{Many, NoMemory, Path, Reference, Submodel};
+use aas_model::{Many, NoMemory, Path, Reference};
 use aas_path::print_path;
-use aas_reference::write_reference;
 use std::alloc::Global;
-
-/// The canonical text of a form of a submodel.
-pub(crate) fn form_text(alloc: Global, form: &Submodel) -> Result<Many<u8>, NoMemory>
-    requires { submodel_in_order form.now ≡ true }
-    ensures { IfOk result (λ text. text ≡ canonical_text submodels form.now) }
-{
-    let mut text = Vec::new(alloc);
-    write_submodel(alloc, form, &mut text)?;
-    Ok(Many::from(text))
-}
 
 /// The canonical text of a reference.
 pub(crate) fn reference_text(alloc: Global, reference: &Reference) -> Result<Many<u8>, NoMemory>
     ensures { IfOk result (λ text. text ≡ reference_text reference.now) }
 {
-    let mut text = Vec::new(alloc);
-    write_reference(alloc, reference, &mut text)?;
-    Ok(Many::from(text))
+    Ok(Many::from(aas_command::reference_text(alloc, reference)?))
 }
 
 /// The compact text of a JSON value.

@@ -13,7 +13,8 @@ use Rattle.aas_server.specs.Opening.{Opens, StopsAtGate, begun, damaged, not_ini
 
 -- ---- one repository
 
-pub same_repository : HaveOneList → OneReplay → (files : Files) (a b : Repository Documents) → Opens files (begun a) → Opens files (begun b) → a ≡ b
+pub same_repository : HaveOneList → OneReplay → (files : Files) (a b : Repository Documents) → Opens files (begun a)
+    → Opens files (begun b) → a ≡ b
 same_repository one_list one_replay files a b (image, replays) (other, too) =
     let records : a.records ≡ b.records = one_list files a.records b.records image other in
     let documents : a.documents ≡ b.documents =

@@ -35,7 +35,8 @@ use Rattle.aas_server.proofs.Since.{all_since, served_since}
 
 -- the files open as the repository of this state, which is settled
 abbrev pub IsOpened : State Documents Files → Files → Type 0
-IsOpened state files = (payloads : List (List ℕ)) × Opens files (begun (repository_of state payloads)) × IsSettledState IsBankImage state payloads
+IsOpened state files = (payloads : List (List ℕ)) × Opens files (begun (repository_of state payloads))
+    × IsSettledState IsBankImage state payloads
 
 pub has_begun : (start : DiskState) (state : State Documents Files) → IfSome start.seen (IsOpened state) → HasBegun start
 has_begun start state opened = IfSome_then start.seen opened (λ files is. (repository_of state is.0, is.1))
@@ -58,8 +59,8 @@ module _ (one_list : HaveOneList) (one_replay : OneReplay) (asks_well_formed : A
       Served (Turns has_room_behind) IsBankImage r input opened.moment now old.sent new.sent (Rose old.faults new.faults) end
 
   abbrev ServesConsole : Ended → ConsoleState → ConsoleState → Type 0
-  ServesConsole end old new = (input : List ℕ) (records : List (List ℕ)) → old.left ≡ Some input → IsSettledState IsBankImage opened records
-      → Session (repository_of opened records) input end old new
+  ServesConsole end old new = (input : List ℕ) (records : List (List ℕ)) → old.left ≡ Some input
+      → IsSettledState IsBankImage opened records → Session (repository_of opened records) input end old new
 
   abbrev Sessions : Repository Documents → Connections → List ℕ → ℕ → WireEnded → WireState → WireState → Type 0
   Sessions r c sent count end old new =
@@ -67,8 +68,9 @@ module _ (one_list : HaveOneList) (one_replay : OneReplay) (asks_well_formed : A
       new.connections new.sent (Rose old.faults new.faults) end
 
   abbrev ServesWire : ℕ → WireEnded → WireState → WireState → Type 0
-  ServesWire count end old new = (c : Connections) (sent : List ℕ) (records : List (List ℕ)) → old.connections ≡ Some c → old.sent ≡ Some sent
-      → IsSettledState IsBankImage opened records → Sessions (repository_of opened records) c sent count end old new
+  ServesWire count end old new = (c : Connections) (sent : List ℕ) (records : List (List ℕ)) → old.connections ≡ Some c
+      → old.sent ≡ Some sent → IsSettledState IsBankImage opened records
+      → Sessions (repository_of opened records) c sent count end old new
 
   -- ---- from the start on
 
@@ -86,11 +88,13 @@ module _ (one_list : HaveOneList) (one_replay : OneReplay) (asks_well_formed : A
     read : AreRead r
     read = opens.2.1
 
-    weaker : (image : Files) (payloads : List (List ℕ)) → Replay payloads → IsBankImage image payloads → StandsFor start r image payloads
+    weaker : (image : Files) (payloads : List (List ℕ)) → Replay payloads → IsBankImage image payloads
+        → StandsFor start r image payloads
     weaker image payloads (documents, replays) is =
         record { documents = documents; replays = replays; left = inl is; opens = λ anyway. (payloads, (is, replays)) }
 
-    before : (t : ℕ) → start.moment ≤ t → t ≤ opened.moment → (image : Files) → last.left_at t image → StandsFor start r image r.records
+    before : (t : ℕ) → start.moment ≤ t → t ≤ opened.moment → (image : Files) → last.left_at t image
+        → StandsFor start r image r.records
     before t since until image here =
         let from_start : MayLeave start image = images t since until image ((passed.past t until image).0 here) in
         record { documents = r.documents; replays = read; left = inr (refl, from_start); opens = λ anyway. anyway image from_start }
@@ -99,8 +103,9 @@ module _ (one_list : HaveOneList) (one_replay : OneReplay) (asks_well_formed : A
         → IsPiped end input r old new start last
     piped end old new serves input left = record {
       documents = d;
-      served = served_since asks_well_formed accepted_replay has_room_behind IsBankImage (StandsFor start r) weaker d last.moment last.left_at
-          kept (state_on last d).kept kept_opens start.moment opened.moment r read reads.later before input old.sent new.sent (Rose old.faults new.faults) end
+      served = served_since asks_well_formed accepted_replay has_room_behind IsBankImage (StandsFor start r) weaker
+          d last.moment last.left_at kept (state_on last d).kept kept_opens
+          start.moment opened.moment r read reads.later before input old.sent new.sent (Rose old.faults new.faults) end
           (subst (λ (x : Repository Documents). Session x input end old new) same (serves input here.0 left here.2));
       valid = valid;
     }
@@ -109,10 +114,12 @@ module _ (one_list : HaveOneList) (one_replay : OneReplay) (asks_well_formed : A
         → old.connections ≡ Some c → old.sent ≡ Some sent → IsServed count end c sent r old new start last
     served count end old new serves c sent known known_sent = record {
       documents = d;
-      served = all_since asks_well_formed accepted_replay has_room_behind IsBankImage (StandsFor start r) weaker d last.moment last.left_at
-          kept (state_on last d).kept kept_opens start.moment opened.moment r read reads.later before c.coming (sent_on_all c sent) count new.connections new.sent
+      served = all_since asks_well_formed accepted_replay has_room_behind IsBankImage (StandsFor start r) weaker
+          d last.moment last.left_at kept (state_on last d).kept kept_opens
+          start.moment opened.moment r read reads.later before c.coming (sent_on_all c sent) count new.connections new.sent
           (Rose old.faults new.faults) end
-          (subst (λ (x : Repository Documents). Sessions x c sent count end old new) same (serves c sent here.0 known known_sent here.2));
+          (subst (λ (x : Repository Documents). Sessions x c sent count end old new) same
+          (serves c sent here.0 known known_sent here.2));
       valid = valid;
     }
 
@@ -129,9 +136,9 @@ module _ (one_list : HaveOneList) (one_replay : OneReplay) (asks_well_formed : A
   }
 
   -- the wire served is as it was before it listened
-  pub wire_served : (count status : ℕ) (end : WireEnded) (old mid new : WireState) → mid.connections ≡ old.connections → mid.sent ≡ old.sent
-      → mid.faults ≡ old.faults → old.wire_faults ≤ mid.wire_faults → status ≡ serve_status end → ServesWire count end mid new
-      → (end ≡ wire.WireFault → Rose mid.wire_faults new.wire_faults) → (end ≡ wire.KeeperFault → Rose start.faults last.faults)
+  pub wire_served : (count status : ℕ) (end : WireEnded) (old mid new : WireState) → mid.connections ≡ old.connections
+      → mid.sent ≡ old.sent → mid.faults ≡ old.faults → old.wire_faults ≤ mid.wire_faults → status ≡ serve_status end
+      → ServesWire count end mid new → (end ≡ wire.WireFault → Rose mid.wire_faults new.wire_faults) → (end ≡ wire.KeeperFault → Rose start.faults last.faults)
       → IsWireServed count status old new start last
   wire_served count status end old mid new connections sent faults later is serves wire_fault keeper_fault = record {
     ended = end;

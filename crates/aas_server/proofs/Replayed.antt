@@ -1,12 +1,14 @@
 -- The records behind requests, sessions and connections replay to the documents then.
-use Rattle.std.proofs.Common.{◌≡◌, inl, inr, ℕ, ◌-◌, Bool, true, false, List, [], ◌∷◌, ◌++◌, Ok, Err, refl, sym, ap, ◌∙◌, subst, append_assoc}
+use Rattle.std.proofs.Common.{◌≡◌, inl, inr, ℕ, ◌-◌, Bool, true, false, List, [], ◌∷◌, ◌++◌, Ok, Err}
+use Rattle.std.proofs.Common.{refl, sym, ap, ◌∙◌, subst, append_assoc}
 use Rattle.std.specs.Prelude.{if◌then◌else◌, ⊤}
 use Rattle.std.proofs.lemmas.List.{append-nil}
 use Rattle.aas_http.specs.FirstRequest.{Message, FirstRequest, Nothing, Bad, TooLarge, NotImplemented, Whole}
 use Rattle.aas_http.specs.declared.replies.Reply.{Reply}
 use Rattle.aas_rule.specs.Rule.{Repository, Room, Outcome, after}
 use Rattle.aas_session.specs.Connections.{Connection, IsSessions, all_commands}
-use Rattle.aas_session.specs.Session.{End, Closed, NoMemory, Place, going, over, start, repository, Turn, refusal, closes, TurnAt, Takes, TakesAll, commands}
+use Rattle.aas_session.specs.Session.{End, Closed, NoMemory, Place, going, over, start, repository, commands}
+use Rattle.aas_session.specs.Session.{Turn, refusal, closes, TurnAt, Takes, TakesAll}
 use Rattle.aas_session.specs.Refusals.{bad_request, too_large, not_implemented, out_of_memory}
 use Rattle.aas_store.specs.Documents.{Documents, empty}
 use Rattle.aas_step.specs.Step.{accepted, refused}
@@ -51,20 +53,24 @@ then_more a b c first second is more = record {
   read = more.read;
 }
 
-pub all_replay : (r : Repository Documents) (kept : List (List ℕ)) (next : Repository Documents) → IsBehind r kept next → Replay (r.records ++ kept)
+pub all_replay : (r : Repository Documents) (kept : List (List ℕ)) (next : Repository Documents) → IsBehind r kept next
+    → Replay (r.records ++ kept)
 all_replay r kept next is = (next.documents, subst (λ (l : List (List ℕ)). Replays l next.documents) is.records is.read)
 
 -- ---- requests, turns and connections
 
 module _ (asks_well_formed : AsksWellFormed) (accepted_replay : AcceptedReplay) (room : Room) where
-  unchanged_read : (r : Repository Documents) (reply : Reply) (outcome : Outcome Documents Reply) → outcome ≡ unchanged r reply → AreRead r → AreRead (after r outcome)
-  unchanged_read r reply outcome is replays =
-      subst (λ (o : Outcome Documents Reply). AreRead (after r o)) (sym is) (subst (λ (l : List (List ℕ)). Replays l r.documents) (sym (append-nil r.records)) replays)
+  unchanged_read : (r : Repository Documents) (reply : Reply) (outcome : Outcome Documents Reply) → outcome ≡ unchanged r reply
+      → AreRead r → AreRead (after r outcome)
+  unchanged_read r reply outcome is replays = subst (λ (o : Outcome Documents Reply). AreRead (after r o)) (sym is)
+      (subst (λ (l : List (List ℕ)). Replays l r.documents) (sym (append-nil r.records)) replays)
 
-  outcome_read : (r : Repository Documents) (m : Message) (outcome : Outcome Documents Reply) → Turns room r m outcome → AreRead r → AreRead (after r outcome)
+  outcome_read : (r : Repository Documents) (m : Message) (outcome : Outcome Documents Reply) → Turns room r m outcome → AreRead r
+      → AreRead (after r outcome)
   unfolding Turns AskComesTo
   outcome_read r m outcome (Ok (Act c), asked, (accepted new, steps, fields, is)) replays =
-      subst (λ (o : Outcome Documents Reply). AreRead (after r o)) (sym is) (accepted_replay room r c new replays (asks_well_formed m c asked) fields steps)
+      subst (λ (o : Outcome Documents Reply). AreRead (after r o)) (sym is)
+      (accepted_replay room r c new replays (asks_well_formed m c asked) fields steps)
   outcome_read r m outcome (Ok (Act c), asked, (refused why, steps, read, is)) replays = unchanged_read r _ outcome is replays
   outcome_read r m outcome (Ok (Answer q), asked, is) replays = unchanged_read r _ outcome is replays
   outcome_read r m outcome (Err why, asked, is) replays = unchanged_read r _ outcome is replays
@@ -76,14 +82,14 @@ module _ (asks_well_formed : AsksWellFormed) (accepted_replay : AcceptedReplay) 
   abbrev Goes : Repository Documents → Turn → Place Documents → Type 0
   Goes r turn next = IsBehind r turn.kept (repository next)
 
-  refusal_goes : (r : Repository Documents) (text : List ℕ) (end : End) (turn : Turn) (next : Place Documents) → turn ≡ refusal text → next ≡ over r end
-      → AreRead r → Goes r turn next
+  refusal_goes : (r : Repository Documents) (text : List ℕ) (end : End) (turn : Turn) (next : Place Documents) → turn ≡ refusal text
+      → next ≡ over r end → AreRead r → Goes r turn next
   refusal_goes r text end turn next is next_is read =
       subst (λ (t : Turn). Goes r t next) (sym is)
       (subst (λ (p : Place Documents). IsBehind r [] (repository p)) (sym next_is) (none_more r read))
 
-  either_goes : (b : Bool) (r : Repository Documents) (requests : ℕ) (rest : List ℕ) (kept : List (List ℕ)) (new : Repository Documents) → IsBehind r kept new
-      → IsBehind r kept (repository (if b then over new Closed else going (requests - 1) new rest))
+  either_goes : (b : Bool) (r : Repository Documents) (requests : ℕ) (rest : List ℕ) (kept : List (List ℕ)) (new : Repository Documents)
+      → IsBehind r kept new → IsBehind r kept (repository (if b then over new Closed else going (requests - 1) new rest))
   either_goes true r requests rest kept new is = is
   either_goes false r requests rest kept new is = is
 
@@ -97,27 +103,30 @@ module _ (asks_well_formed : AsksWellFormed) (accepted_replay : AcceptedReplay) 
       subst (λ (t : Turn). Goes r t next) (sym is)
       (subst (λ (p : Place Documents). IsBehind r outcome.kept (repository p)) (sym next_is)
       (either_goes (closes requests message) r requests rest outcome.kept (after r outcome) (outcome_goes r message outcome comes read)))
-  turn_goes requests r (Whole message rest) turn next (inr (is, next_is)) read = refusal_goes r out_of_memory NoMemory turn next is next_is read
+  turn_goes requests r (Whole message rest) turn next (inr (is, next_is)) read =
+      refusal_goes r out_of_memory NoMemory turn next is next_is read
 
-  step_goes : (place : Place Documents) (turn : Turn) (next : Place Documents) → Takes (Turns room) place turn next → AreRead (repository place)
-      → Goes (repository place) turn next
+  step_goes : (place : Place Documents) (turn : Turn) (next : Place Documents) → Takes (Turns room) place turn next
+      → AreRead (repository place) → Goes (repository place) turn next
   step_goes (over r end) turn next taken read = absurd taken
   step_goes (going requests r bytes) turn next (first, is, at) read = turn_goes requests r first turn next at read
 
-  pub turns_go : (place : Place Documents) (turns : List Turn) (last : Place Documents) → TakesAll (Turns room) place turns last → AreRead (repository place)
-      → IsBehind (repository place) (commands turns) (repository last)
+  pub turns_go : (place : Place Documents) (turns : List Turn) (last : Place Documents) → TakesAll (Turns room) place turns last
+      → AreRead (repository place) → IsBehind (repository place) (commands turns) (repository last)
   turns_go place [] last taken read =
       subst (λ (p : Place Documents). IsBehind (repository place) [] (repository p)) (sym taken) (none_more (repository place) read)
   turns_go place (turn ∷ turns) last (next, first, rest) read =
       let goes = step_goes place turn next first read in
-      then_more (repository place) (repository next) (repository last) turn.kept (commands turns) goes (turns_go next turns last rest goes.read)
+      then_more (repository place) (repository next) (repository last) turn.kept (commands turns) goes
+      (turns_go next turns last rest goes.read)
 
   pub sessions_go : (link_failed : Type 0) (old : Repository Documents) (served : List (Connection Documents)) (last : Repository Documents)
       → IsSessions (Turns room) link_failed old served last → AreRead old → IsBehind old (all_commands served) last
   sessions_go link_failed old [] last same read = subst (λ (r : Repository Documents). IsBehind old [] r) (sym same) (none_more old read)
   sessions_go link_failed old (c ∷ cs) last (first, rest) read =
       let goes = turns_go (start old c.input) c.turns c.last first.0 read in
-      then_more old (repository c.last) last (commands c.turns) (all_commands cs) goes (sessions_go link_failed (repository c.last) cs last rest goes.read)
+      then_more old (repository c.last) last (commands c.turns) (all_commands cs) goes
+      (sessions_go link_failed (repository c.last) cs last rest goes.read)
 
 pub sessions_replay : AsksWellFormed → AcceptedReplay → SessionsReplay
 sessions_replay asks_well_formed accepted_replay room old mid served bytes turns last sessions taken read =

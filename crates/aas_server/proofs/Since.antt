@@ -17,7 +17,8 @@ use Rattle.aas_api_service.specs.Laws.{AsksWellFormed}
 use Rattle.aas_api_service.specs.Turns.{Turns}
 use Rattle.aas_repo_replay.specs.Laws.{AcceptedReplay}
 use Rattle.aas_repo_replay.specs.Replay.{Replays}
-use Rattle.aas_server.proofs.Replayed.{AreRead, IsBehind, Replay, all_replay, fronts_replay, none_more, outcome_goes, sessions_go, then_more, turns_go}
+use Rattle.aas_server.proofs.Replayed.{AreRead, IsBehind, Replay, all_replay, fronts_replay, none_more, then_more}
+use Rattle.aas_server.proofs.Replayed.{outcome_goes, sessions_go, turns_go}
 
 -- ---- payloads that are kept in turn
 
@@ -33,12 +34,14 @@ module _ {I : Type 0} (stands stands_then : I → List (List ℕ) → Type 0) (H
       (λ b. inr (weaker image (kept ++ more) has b))
       h
 
-  one_more : (kept : List (List ℕ)) (payload : List ℕ) (more : List (List ℕ)) → Has (kept ++ payload ∷ more) → Has ((kept ++ payload ∷ []) ++ more)
+  one_more : (kept : List (List ℕ)) (payload : List ℕ) (more : List (List ℕ)) → Has (kept ++ payload ∷ more)
+      → Has ((kept ++ payload ∷ []) ++ more)
   one_more kept payload more has = subst Has (sym (append_assoc kept (payload ∷ []) more)) has
 
   turn_weaker : (from to : ℕ) (kept added failed : List (List ℕ)) → Has (kept ++ (added ++ failed))
       → InTurn stands left_at from to kept added failed → InTurn stands_then left_at from to kept added failed
-  turn_weaker from to kept [] failed has turn = (turn.0, λ t since until image here. either image kept failed has (turn.1 t since until image here))
+  turn_weaker from to kept [] failed has turn =
+      (turn.0, λ t since until image here. either image kept failed has (turn.1 t since until image here))
   turn_weaker from to kept (payload ∷ added) failed has (next, since, first, rest) =
       let more : Has ((kept ++ payload ∷ []) ++ (added ++ failed)) = one_more kept payload (added ++ failed) has in (
         next,
@@ -88,8 +91,8 @@ module _ (asks_well_formed : AsksWellFormed) (accepted_replay : AcceptedReplay) 
   turns added failed new behind turn = turn_since stands stands_then Replay fronts_replay weaker left_at from mid r.records earlier before
       moment added failed (all_replay r (added ++ failed) new behind) turn
 
-  holds_since : (payloads : List (List ℕ)) (new : Repository Documents) → IsBehind r payloads new → Holds stands r.records payloads new mid now
-      → Holds stands_then r.records payloads new from then
+  holds_since : (payloads : List (List ℕ)) (new : Repository Documents) → IsBehind r payloads new
+      → Holds stands r.records payloads new mid now → Holds stands_then r.records payloads new from then
   holds_since payloads new behind h = record {
     documents = h.documents;
     kept = told new.records (subst (Replays new.records) (sym h.documents) behind.read) h.kept;
@@ -97,12 +100,13 @@ module _ (asks_well_formed : AsksWellFormed) (accepted_replay : AcceptedReplay) 
   }
 
   turns_behind : (payloads : List (List ℕ)) (old : Repository Documents) (input : List ℕ) (taken : List Turn) (last : Place Documents)
-      → IsBehind r payloads old → TakesAll (Turns room) (start old input) taken last → IsBehind r (payloads ++ commands taken) (repository last)
+      → IsBehind r payloads old → TakesAll (Turns room) (start old input) taken last
+      → IsBehind r (payloads ++ commands taken) (repository last)
   turns_behind payloads old input taken last behind all = then_more r old (repository last) payloads (commands taken) behind
       (turns_go asks_well_formed accepted_replay room (start old input) taken last all behind.read)
 
-  broken_since : (payloads : List (List ℕ)) (old : Repository Documents) (input : List ℕ) (sent_old sent_new : Option (List ℕ)) (link_failed : Type 0)
-      → IsBehind r payloads old → IsBroken (Turns room) stands r.records payloads old input mid now sent_old sent_new link_failed
+  broken_since : (payloads : List (List ℕ)) (old : Repository Documents) (input : List ℕ) (sent_old sent_new : Option (List ℕ))
+      (link_failed : Type 0) → IsBehind r payloads old → IsBroken (Turns room) stands r.records payloads old input mid now sent_old sent_new link_failed
       → IsBroken (Turns room) stands_then r.records payloads old input from then sent_old sent_new link_failed
   broken_since payloads old input sent_old sent_new link_failed behind b =
       let so_far : IsBehind r (payloads ++ commands b.turns) b.so_far =
@@ -134,7 +138,8 @@ module _ (asks_well_formed : AsksWellFormed) (accepted_replay : AcceptedReplay) 
   session_behind input taken last all = turns_behind [] r input taken last (none_more r read) all
 
   finished_since : (input : List ℕ) (sent_old sent_new : Option (List ℕ)) (end : End)
-      → IsFinished (Turns room) stands r input mid now sent_old sent_new end → IsFinished (Turns room) stands_then r input from then sent_old sent_new end
+      → IsFinished (Turns room) stands r input mid now sent_old sent_new end
+      → IsFinished (Turns room) stands_then r input from then sent_old sent_new end
   finished_since input sent_old sent_new end s = record {
     new = s.new;
     out = s.out;
@@ -158,26 +163,33 @@ module _ (asks_well_formed : AsksWellFormed) (accepted_replay : AcceptedReplay) 
     holds = holds_since (commands s.turns) (repository s.last) (session_behind input s.turns s.last s.taken) s.holds;
     gives = s.gives;
   }
-  served_since input sent_old sent_new link_failed ended.KeeperFault s = broken_since [] r input sent_old sent_new link_failed (none_more r read) s
+  served_since input sent_old sent_new link_failed ended.KeeperFault s =
+      broken_since [] r input sent_old sent_new link_failed (none_more r read) s
 
   -- ---- connections one after another
 
-  all_behind : (coming : List (List ℕ)) (link_failed : Type 0) (s : Serving (Turns room) link_failed r coming) → IsBehind r (all_commands s.served) s.last
+  all_behind : (coming : List (List ℕ)) (link_failed : Type 0) (s : Serving (Turns room) link_failed r coming)
+      → IsBehind r (all_commands s.served) s.last
   all_behind coming link_failed s = sessions_go asks_well_formed accepted_replay room link_failed r s.served s.last s.sessions read
 
-  ends_since : (coming sent_before : List (List ℕ)) (count : ℕ) (connections : Option Connections) (sent : Option (List ℕ)) (link_failed : Type 0)
-      (s : Serving (Turns room) link_failed r coming) (end : WireEnded)
+  ends_since : (coming sent_before : List (List ℕ)) (count : ℕ) (connections : Option Connections) (sent : Option (List ℕ))
+      (link_failed : Type 0) (s : Serving (Turns room) link_failed r coming) (end : WireEnded)
       → EndsServing (Turns room) stands r coming sent_before count mid now connections sent link_failed s end
       → EndsServing (Turns room) stands_then r coming sent_before count from then connections sent link_failed s end
   ends_since coming sent_before count connections sent link_failed s wire.Done (all, holds, tells) =
       (all, holds_since (all_commands s.served) s.last (all_behind coming link_failed s) holds, tells)
   ends_since coming sent_before count connections sent link_failed s wire.WireFault (holds, tells) =
       (holds_since (all_commands s.served) s.last (all_behind coming link_failed s) holds, tells)
-  ends_since coming sent_before count connections sent link_failed s wire.KeeperFault (input, rest, came, broken, is_begun) =
-      (input, rest, came, broken_since (all_commands s.served) s.last input _ sent link_failed (all_behind coming link_failed s) broken, is_begun)
+  ends_since coming sent_before count connections sent link_failed s wire.KeeperFault (input, rest, came, broken, is_begun) = (
+    input,
+    rest,
+    came,
+    broken_since (all_commands s.served) s.last input _ sent link_failed (all_behind coming link_failed s) broken,
+    is_begun,
+  )
 
-  pub all_since : (coming sent_before : List (List ℕ)) (count : ℕ) (connections : Option Connections) (sent : Option (List ℕ)) (link_failed : Type 0)
-      (end : WireEnded) → ServesAll (Turns room) stands r coming sent_before count mid now connections sent link_failed end
+  pub all_since : (coming sent_before : List (List ℕ)) (count : ℕ) (connections : Option Connections) (sent : Option (List ℕ))
+      (link_failed : Type 0) (end : WireEnded) → ServesAll (Turns room) stands r coming sent_before count mid now connections sent link_failed end
       → ServesAll (Turns room) stands_then r coming sent_before count from then connections sent link_failed end
   all_since coming sent_before count connections sent link_failed end s =
       record { serving = s.serving; ends = ends_since coming sent_before count connections sent link_failed s.serving end s.ends }

@@ -23,7 +23,8 @@ pipe_status NoMemory = 10
 
 -- Of the session on the input from this repository this was done, and the documents that it left are valid. From the start
 -- of the run on it is said for which payloads what a stop leaves stands, and as which documents it opens.
-pub record IsPiped (ended : Ended) (input : List ℕ) (r : Repository Documents) (old new : ConsoleState) (disk_old disk_new : DiskState) : Type 0 where
+pub record IsPiped (ended : Ended) (input : List ℕ) (r : Repository Documents) (old new : ConsoleState)
+    (disk_old disk_new : DiskState) : Type 0 where
   pub documents : Documents
   pub served : Served (Turns has_room_behind) (StandsFor disk_old r) r input disk_old.moment (state_on disk_new documents)
       old.sent new.sent (Rose old.faults new.faults) ended

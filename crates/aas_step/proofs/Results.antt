@@ -7,7 +7,7 @@ use Rattle.aas_model.specs.declared.documents.Submodel.{Submodel}
 use Rattle.aas_constraint_rules.specs.Faults.{Document, submodel}
 use Rattle.aas_command.specs.Commands.{payload_of}
 use Rattle.aas_command.specs.declared.command.Command.{Command}
-use Rattle.aas_command.specs.declared.command.Command.TheVariants.{CreateShell, CreateSubmodel, CreateConcept, ReplaceShell, ReplaceSubmodel, ReplaceConcept, DeleteShell, DeleteSubmodel, DeleteConcept, SetAsset, InsertElement, ReplaceElement, DeleteElement, UpdateValue}
+use Rattle.aas_command.specs.declared.command.Command.TheVariants.{CreateShell, CreateSubmodel, CreateConcept, ReplaceShell, ReplaceSubmodel, ReplaceConcept, DeleteShell, DeleteSubmodel, DeleteConcept, SetAsset, AddReference, DropReference, InsertElement, ReplaceElement, DeleteElement, UpdateValue}
 use Rattle.aas_store.specs.Documents.{Documents}
 use Rattle.aas_step.specs.Causes.{Cause, causes, first_of}
 use Rattle.aas_step.specs.Laws.{OneResult}
@@ -28,6 +28,8 @@ made_once d (DeleteShell id) a b valid first second = first ∙ sym second
 made_once d (DeleteSubmodel id) a b valid first second = first ∙ sym second
 made_once d (DeleteConcept id) a b valid first second = first ∙ sym second
 made_once d (SetAsset id asset) a b valid first second = first ∙ sym second
+made_once d (AddReference id r) a b valid first second = first ∙ sym second
+made_once d (DropReference id submodel_id) a b valid first second = first ∙ sym second
 made_once d (InsertElement id p e) a b valid first second = first ∙ sym second
 made_once d (ReplaceElement id p e) a b valid first second = first ∙ sym second
 made_once d (DeleteElement id p) a b valid first second = first ∙ sym second

@@ -1,6 +1,6 @@
 -- What a command that is accepted makes of valid documents is valid.
 use Rattle.std.proofs.Common.{◌≡◌, Bool, true, false, cond, List, [], ◌∷◌, ◌++◌, Option, Some, None, refl, sym, ap, ◌∙◌, subst, Ordering, Less, Equal, Greater}
-use Rattle.std.specs.Prelude.{◌&&◌, flat_map, length, option_map}
+use Rattle.std.specs.Prelude.{ℕ, ◌&&◌, filter, flat_map, length, not, option_map}
 use Rattle.std.specs.FinMap as map
 use Rattle.std.specs.FinMap.{get-empty, get-insert, get-remove, slice_cmp-IsAntisymmetric, nat_cmp-IsAntisymmetric}
 use Rattle.std.specs.List.{AllByRecursion, list_all}
@@ -8,7 +8,10 @@ use Rattle.std.specs.Option.{option_map_or}
 use Rattle.std.specs.Ordering.{nat_cmp, is_eq}
 use Rattle.std.specs.Cmp.Lexicographic.{slice_cmp, nat_list_cmp_total}
 use Rattle.std.specs.Str.{encode_utf8_all}
-use Rattle.std.proofs.lemmas.Bool.{and_parts}
+use Rattle.std.proofs.lemmas.Bool.{and_from, and_parts}
+use Rattle.std.proofs.lemmas.List.Elements.{All-filter}
+use Rattle.std.proofs.lemmas.List.Folds.{list_all-append}
+use Rattle.std.proofs.lemmas.List.Sums.{AllPass-from_list_all, list_all-from_AllPass}
 use Rattle.aas_json_table.specs.TooDeep.{limits}
 use Rattle.aas_reference.specs.Rules.{first}
 use Rattle.aas_reference.specs.Whole.{is_whole, whole_if_there}
@@ -19,6 +22,7 @@ use Rattle.aas_model.specs.declared.documents.Submodel.{Submodel}
 use Rattle.aas_model.specs.declared.element.Element.{Element}
 use Rattle.aas_model.specs.declared.path.Fault.{Fault}
 use Rattle.aas_model.specs.declared.path.PathStep.{PathStep}
+use Rattle.aas_model.specs.declared.reference.Reference.{Reference}
 use Rattle.aas_path_trees.specs.Children.{role_of, with_role}
 use Rattle.aas_path_trees.specs.Edits.{fits_role, inserted, removed, replaced}
 use Rattle.aas_path_trees.specs.ElementAt.{element_at}
@@ -31,14 +35,14 @@ use Rattle.aas_constraint_rules.specs.Faults.{Document, shell, submodel, concept
 use Rattle.aas_command.specs.Commands.{IsWellFormed}
 use Rattle.aas_command.specs.Refusals.{refusal_of_fault}
 use Rattle.aas_command.specs.declared.command.Command.{Command}
-use Rattle.aas_command.specs.declared.command.Command.TheVariants.{CreateShell, CreateSubmodel, CreateConcept, ReplaceShell, ReplaceSubmodel, ReplaceConcept, DeleteShell, DeleteSubmodel, DeleteConcept, SetAsset, InsertElement, ReplaceElement, DeleteElement, UpdateValue}
+use Rattle.aas_command.specs.declared.command.Command.TheVariants.{CreateShell, CreateSubmodel, CreateConcept, ReplaceShell, ReplaceSubmodel, ReplaceConcept, DeleteShell, DeleteSubmodel, DeleteConcept, SetAsset, AddReference, DropReference, InsertElement, ReplaceElement, DeleteElement, UpdateValue}
 use Rattle.aas_command.specs.declared.refusal.Refusal.TheVariants.{NotAContainer, TooMany}
 use Rattle.aas_command.specs.declared.refusal.Refusal.{Refusal}
 use Rattle.aas_value_update.proofs.WholeSubmodel.{update_stays_whole}
 use Rattle.aas_store.specs.Documents.{Documents, Identifier, Map, empty}
-use Rattle.aas_step.specs.Causes.{Cause, causes, document_causes, first_of, has_too_many, is_absent, is_lost, replace_causes, unless, when}
+use Rattle.aas_step.specs.Causes.{Cause, causes, document_causes, first_of, has_too_many, is_absent, is_lost, refers_to, replace_causes, unless, when}
 use Rattle.aas_step.specs.Laws.{StaysValid}
-use Rattle.aas_step.specs.Made.{IsMade, id_of, left, with_document, with_documents}
+use Rattle.aas_step.specs.Made.{IsMade, id_of, left, with_document, with_documents, with_reference, without_references}
 use Rattle.aas_step.specs.Step.{accepted, result_of, later_causes, ComesBy, ComesTo}
 use Rattle.aas_step.specs.Valid.{AreValid, IsValidAt}
 
@@ -126,10 +130,37 @@ whole_with_asset s a whole new =
     let old = (and_parts head (whole_asset_information limits s.asset) (and_parts (head && whole_asset_information limits s.asset) behind whole).0).1 in
     ap (λ b. head && b && behind) (new ∙ sym old) ∙ whole
 
-changed_whole : (d : Documents) (id : Identifier) (a : AssetInformation) (found : Option Shell) → AreValid d → whole_asset_information limits a ≡ true → map.get d.shells id ≡ found
-    → AllByRecursion IsWhole (option_map_or (λ (s : Shell). shell (record s { asset = a }) ∷ []) found [])
-changed_whole d id a None all whole is = tt
-changed_whole d id a (Some s) all whole is = (whole_with_asset s a (all.shells id s is).valid.whole whole, tt)
+-- one with other references, which are whole where its own are
+with_others : (s : Shell) (others : List Reference) → is_whole_shell limits s ≡ true
+    → (list_all (is_whole limits) s.submodels ≡ true → list_all (is_whole limits) others ≡ true)
+    → is_whole_shell limits (record s { submodels = others }) ≡ true
+with_others s others whole keeps =
+    let own : Bool = whole_head limits s.head && whole_if_there limits s.derived_from && whole_asset_information limits s.asset in
+    let parts = and_parts own (list_all (is_whole limits) s.submodels) whole in
+    and_from own (list_all (is_whole limits) others) parts.0 (keeps parts.1)
+
+-- a whole shell with a whole reference more
+pub whole_with_reference : (r : Reference) (s : Shell) → is_whole limits r ≡ true → is_whole_shell limits s ≡ true
+    → is_whole_shell limits (with_reference r s) ≡ true
+whole_with_reference r s new whole = with_others s (s.submodels ++ r ∷ []) whole
+    (λ own. list_all-append (is_whole limits) s.submodels (r ∷ [])
+    ∙ and_from (list_all (is_whole limits) s.submodels) (is_whole limits r && true) own
+    (and_from (is_whole limits r) true new refl))
+
+-- a whole shell with fewer references
+pub whole_without_references : (id : List ℕ) (s : Shell) → is_whole_shell limits s ≡ true
+    → is_whole_shell limits (without_references id s) ≡ true
+whole_without_references id s whole =
+    let stays : Reference → Bool = λ r. not (refers_to id r) in
+    with_others s (filter stays s.submodels) whole
+    (λ own. list_all-from_AllPass (is_whole limits) (filter stays s.submodels)
+    (All-filter stays (λ r. is_whole limits r ≡ true) s.submodels (AllPass-from_list_all (is_whole limits) s.submodels own)))
+
+changed_whole : (d : Documents) (id : Identifier) (change : Shell → Shell) (found : Option Shell) → AreValid d → map.get d.shells id ≡ found
+    → ((s : Shell) → is_whole_shell limits s ≡ true → is_whole_shell limits (change s) ≡ true)
+    → AllByRecursion IsWhole (option_map_or (λ s. shell (change s) ∷ []) found [])
+changed_whole d id change None all is keeps = tt
+changed_whole d id change (Some s) all is keeps = (keeps s (all.shells id s is).valid.whole, tt)
 
 -- ---- edits of a submodel
 
@@ -173,7 +204,17 @@ new_whole d (DeleteShell id) new whole all none made = subst (AllByRecursion IsW
 new_whole d (DeleteSubmodel id) new whole all none made = subst (AllByRecursion IsWhole) (sym made) tt
 new_whole d (DeleteConcept id) new whole all none made = subst (AllByRecursion IsWhole) (sym made) tt
 new_whole d (SetAsset id a) new whole all none made =
-    subst (AllByRecursion IsWhole) (sym made) (changed_whole d (encode_utf8_all id) a (map.get d.shells (encode_utf8_all id)) all whole refl)
+    subst (AllByRecursion IsWhole) (sym made)
+    (changed_whole d (encode_utf8_all id) (λ s. record s { asset = a }) (map.get d.shells (encode_utf8_all id)) all refl
+    (λ s old. whole_with_asset s a old whole))
+new_whole d (AddReference id r) new whole all none made =
+    subst (AllByRecursion IsWhole) (sym made)
+    (changed_whole d (encode_utf8_all id) (with_reference r) (map.get d.shells (encode_utf8_all id)) all refl
+    (λ s old. whole_with_reference r s whole old))
+new_whole d (DropReference id submodel_id) new whole all none made =
+    subst (AllByRecursion IsWhole) (sym made)
+    (changed_whole d (encode_utf8_all id) (without_references submodel_id) (map.get d.shells (encode_utf8_all id)) all refl
+    (whole_without_references submodel_id))
 new_whole d (InsertElement id p e) new whole all none made =
     subst (AllByRecursion IsWhole) (sym made)
     (edited_whole d (encode_utf8_all id) (λ s. inserted s p.steps e) (map.get d.submodels (encode_utf8_all id)) all refl

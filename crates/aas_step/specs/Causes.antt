@@ -1,21 +1,26 @@
 -- Why a command is refused: for each command what of it isn't there or is there already, and then the faults of the documents that it makes. Causes are tried from
 -- the left, and the first that applies is the refusal. This profile's own rule.
-use Rattle.std.specs.Prelude.{ℕ, nat_lt, Bool, true, false, ◌&&◌, is_some, List, [], ◌∷◌, ◌++◌, take, Option, Some, None, option_and_then, option_map, if◌then◌else◌}
+use Rattle.std.specs.Prelude.{ℕ, nat_lt, Bool, true, false, ◌&&◌, not, is_some, List, [], ◌∷◌, ◌++◌, take, Option, Some, None, option_and_then, option_map, if◌then◌else◌}
 use Rattle.std.specs.FinMap as map
+use Rattle.std.specs.List.{list_any}
 use Rattle.std.specs.Option.{option_map_or}
 use Rattle.std.specs.Str.{encode_utf8_all}
 use Rattle.serde_json.specs.Data.{Data}
+use Rattle.aas_model.specs.declared.documents.Shell.{Shell}
 use Rattle.aas_model.specs.declared.documents.Submodel.{Submodel}
 use Rattle.aas_model.specs.declared.element.Element.{Element, out-Element}
 use Rattle.aas_model.specs.declared.path.PathStep.{PathStep}
+use Rattle.aas_model.specs.declared.reference.Reference.{Reference, out-Reference}
+use Rattle.aas_model_names.specs.declared.key_type.KeyType.TheVariants as key_type
 use Rattle.aas_model_names.specs.declared.modifiers.Extent.TheVariants as extent
 use Rattle.aas_model_names.specs.declared.collection.Collection.{Collection}
 use Rattle.aas_model_names.specs.declared.collection.Collection.TheVariants.{Shells, Submodels, Concepts}
 use Rattle.aas_constraint_rules.specs.Faults.{Document, submodel, faults_of}
-use Rattle.aas_reference.specs.Rules.{first}
+use Rattle.aas_reference.specs.Rules.{first, is_external}
+use Rattle.aas_reference.specs.Same.{same, same_keys}
 use Rattle.aas_command.specs.Refusals.{refusal_of_fault}
 use Rattle.aas_command.specs.declared.command.Command.{Command}
-use Rattle.aas_command.specs.declared.command.Command.TheVariants.{CreateShell, CreateSubmodel, CreateConcept, ReplaceShell, ReplaceSubmodel, ReplaceConcept, DeleteShell, DeleteSubmodel, DeleteConcept, SetAsset, InsertElement, ReplaceElement, DeleteElement, UpdateValue}
+use Rattle.aas_command.specs.declared.command.Command.TheVariants.{CreateShell, CreateSubmodel, CreateConcept, ReplaceShell, ReplaceSubmodel, ReplaceConcept, DeleteShell, DeleteSubmodel, DeleteConcept, SetAsset, AddReference, DropReference, InsertElement, ReplaceElement, DeleteElement, UpdateValue}
 use Rattle.aas_command.specs.declared.refusal.Absent.{Absent}
 use Rattle.aas_command.specs.declared.refusal.Absent.TheVariants as absent
 use Rattle.aas_command.specs.declared.refusal.Refusal.{Refusal}
@@ -59,6 +64,30 @@ absent_of Concepts = absent.Concept
 -- none has it
 abbrev pub is_absent : Collection → List ℕ → Documents → Cause
 is_absent c id d = unless (has c (encode_utf8_all id) d) (NotFound (absent_of c))
+
+-- ---- by the references of a shell
+
+-- It is a ModelReference with one key, of type Submodel and with this value (IDTA-01001-3-0, class Reference).
+abbrev pub refers_to : List ℕ → Reference → Bool
+refers_to id r =
+    not (is_external (out-Reference r).ref_type)
+    && same_keys (out-Reference r).keys (record { key_type = key_type.Submodel; value = id } ∷ [])
+
+-- the shell isn't there; and then a cause in it
+abbrev pub in_shell : Documents → List ℕ → (Shell → Cause) → List Cause
+in_shell d id cause_in = is_absent Shells id d ∷ option_and_then cause_in (map.get d.shells (encode_utf8_all id)) ∷ []
+
+-- one of its references is the same
+abbrev pub has_same : Reference → Shell → Cause
+has_same r s = when (list_any (same r) s.submodels) Conflict
+
+-- none of its references is one to the submodel
+abbrev pub lacks_reference : List ℕ → Shell → Cause
+lacks_reference id s = unless (list_any (refers_to id) s.submodels) (NotFound absent.SubmodelReference)
+
+-- what stands against the way through a shell to a submodel
+abbrev pub reference_causes : Documents → (shell_id submodel_id : List ℕ) → List Cause
+reference_causes d shell_id submodel_id = in_shell d shell_id (lacks_reference submodel_id)
 
 -- ---- by what is in a submodel
 
@@ -127,6 +156,8 @@ causes d (DeleteShell id) = is_absent Shells id d ∷ []
 causes d (DeleteSubmodel id) = is_absent Submodels id d ∷ []
 causes d (DeleteConcept id) = is_absent Concepts id d ∷ []
 causes d (SetAsset id asset) = is_absent Shells id d ∷ []
+causes d (AddReference id r) = in_shell d id (has_same r)
+causes d (DropReference id submodel_id) = reference_causes d id submodel_id
 causes d (InsertElement id p e) = in_submodel d id (insert_causes p.steps e)
 causes d (ReplaceElement id p e) = in_submodel d id (replace_causes p.steps e)
 causes d (DeleteElement id p) = in_submodel d id (delete_causes p.steps)

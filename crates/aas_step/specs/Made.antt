@@ -1,5 +1,5 @@
 -- What a command makes of the documents, where it isn't refused. This profile's own rule.
-use Rattle.std.specs.Prelude.{◌≡◌, ℕ, List, [], ◌∷◌, Some}
+use Rattle.std.specs.Prelude.{◌≡◌, ℕ, not, List, [], ◌∷◌, ◌++◌, filter, Some}
 use Rattle.std.specs.Str.{encode_utf8_all}
 use Rattle.std.specs.Option.{option_map_or}
 use Rattle.std.specs.FinMap as map
@@ -12,12 +12,22 @@ use Rattle.aas_value_update.specs.Update.{IsValueUpdate}
 use Rattle.aas_path_trees.specs.Edits.{inserted, removed, replaced}
 use Rattle.aas_constraint_rules.specs.Faults.{Document, shell, submodel, concept}
 use Rattle.aas_command.specs.declared.command.Command.{Command}
-use Rattle.aas_command.specs.declared.command.Command.TheVariants.{CreateShell, CreateSubmodel, CreateConcept, ReplaceShell, ReplaceSubmodel, ReplaceConcept, DeleteShell, DeleteSubmodel, DeleteConcept, SetAsset, InsertElement, ReplaceElement, DeleteElement, UpdateValue}
+use Rattle.aas_command.specs.declared.command.Command.TheVariants.{CreateShell, CreateSubmodel, CreateConcept, ReplaceShell, ReplaceSubmodel, ReplaceConcept, DeleteShell, DeleteSubmodel, DeleteConcept, SetAsset, AddReference, DropReference, InsertElement, ReplaceElement, DeleteElement, UpdateValue}
+use Rattle.aas_model.specs.declared.reference.Reference.{Reference}
 use Rattle.aas_store.specs.Documents.{Documents, without, with_shell, with_submodel, with_concept}
+use Rattle.aas_step.specs.Causes.{refers_to}
 
 -- the shell of an identifier, changed
 abbrev pub changed_shell : Documents → List ℕ → (Shell → Shell) → List Document
 changed_shell d id change = option_map_or (λ s. shell (change s) ∷ []) (map.get d.shells (encode_utf8_all id)) []
+
+-- with a reference behind the others
+abbrev pub with_reference : Reference → Shell → Shell
+with_reference r s = record s { submodels = s.submodels ++ r ∷ [] }
+
+-- without the references to a submodel
+abbrev pub without_references : List ℕ → Shell → Shell
+without_references id s = record s { submodels = filter (λ r. not (refers_to id r)) s.submodels }
 
 -- the submodel of an identifier, changed
 abbrev pub changed_submodel : Documents → List ℕ → (Submodel → Submodel) → List Document
@@ -43,6 +53,8 @@ IsMade d (DeleteShell id) new = new ≡ []
 IsMade d (DeleteSubmodel id) new = new ≡ []
 IsMade d (DeleteConcept id) new = new ≡ []
 IsMade d (SetAsset id asset) new = new ≡ changed_shell d id (λ s. record s { asset = asset })
+IsMade d (AddReference id r) new = new ≡ changed_shell d id (with_reference r)
+IsMade d (DropReference id submodel_id) new = new ≡ changed_shell d id (without_references submodel_id)
 IsMade d (InsertElement id p e) new = new ≡ changed_submodel d id (λ s. inserted s p.steps e)
 IsMade d (ReplaceElement id p e) new = new ≡ changed_submodel d id (λ s. replaced s p.steps e)
 IsMade d (DeleteElement id p) new = new ≡ changed_submodel d id (λ s. removed s p.steps)

@@ -1,3 +1,3 @@
 mod Listed
-mod Ordered
+pub mod Ordered
 mod Shelves

@@ -1,7 +1,7 @@
 -- What a store holds: for each of the three collections a finite map from identifiers to documents
 -- (IDTA-01002-3-0, the repository interfaces). An identifier stands as its UTF-8 bytes, and a map lists it in their
 -- order.
-use Rattle.std.specs.Prelude.{ℕ, Bool, true, List, Option, Some, None}
+use Rattle.std.specs.Prelude.{ℕ, Bool, true, List, [], Option, Some, None}
 use Rattle.std.specs.Str.{encode_utf8_all}
 use Rattle.std.specs.List.{find}
 use Rattle.std.specs.Ordering.{nat_cmp, is_lt}
@@ -56,6 +56,10 @@ is_above (Some a) id = is_lt (slice_cmp nat_cmp a id)
 -- the first of the identifiers that is above another
 abbrev pub first_above : Option Identifier → List Identifier → Option Identifier
 first_above after ids = find (is_above after) ids
+
+-- what a submodel is without its children
+abbrev pub without_children : Submodel → Submodel
+without_children s = record s { kids = [] }
 
 -- ---- with a document put in under its own identifier, in the place of one that has it
 

@@ -1,10 +1,12 @@
-ghost use Rattle.std.specs.Prelude.{◌≡◌, ◌↔◌, ◌≤◌, true, Some, None, Err, option_and_then, IfOk, IfSome, IsSome, OnErr, OnOk};
+ghost use Rattle.std.specs.Prelude.{◌≡◌, ◌↔◌, ◌≤◌, true, Some, None, Err, IfOk, IfSome, IsSome, OnErr, OnOk};
+ghost use Rattle.std.specs.Prelude.{length, option_and_then, option_map, slice_get};
 ghost use Rattle.std.specs.FinMap as map;
 ghost use Rattle.std.specs.Option.{option_copied};
 ghost use Rattle.aas_model.specs.declared.path.Missing.{Missing};
 ghost use Rattle.aas_path_trees.specs.Edits.{inserted, removed, replaced, role_at};
 ghost use Rattle.aas_path_trees.specs.ElementAt.{element_at};
-ghost use Rattle.aas_store.specs.Documents.{Documents, count, first_above, has, ids, with_concept, with_shell, with_submodel, without};
+ghost use Rattle.aas_store.specs.Documents.{Documents, count, first_above, has, ids, without_children};
+ghost use Rattle.aas_store.specs.Documents.{with_concept, with_shell, with_submodel, without};
 ghost use Rattle.aas_store.specs.Edited.{CanReplace, FitsAt, Holds, LeadsNowhere, patched_at, with_changed};
 ghost use Rattle.aas_store.specs.Spots.{spot_below, step_of};
 ghost use Rattle.aas_store.specs.Storable.{IsStorable, element_count};
@@ -44,6 +46,20 @@ pub trait Store {
     /// A copy of the submodel of the identifier.
     fn submodel(&self, id: &str) -> Result<Option<Submodel>, NoMemory>
         ensures { IfOk result (λ submodel. submodel ≡ map.get (documents self.now).submodels id.now) };
+
+    /// A submodel that is the one of the identifier but for its children, of which it tells nothing.
+    fn submodel_head(&self, id: &str) -> Option<&Submodel>
+        ensures { option_map without_children (option_copied result)
+            ≡ option_map without_children (map.get (documents self.now).submodels id.now) };
+
+    /// How many children the submodel of the identifier has.
+    fn child_count(&self, id: &str) -> Option<u64>
+        ensures { result ≡ option_map (λ s. length s.kids) (map.get (documents self.now).submodels id.now) };
+
+    /// A copy of the child at the place, counted from 0, in the submodel of the identifier.
+    fn child_at(&self, id: &str, place: u64) -> Result<Option<Element>, NoMemory>
+        ensures { IfOk result
+            (λ child. child ≡ option_and_then (λ s. slice_get s.kids place) (map.get (documents self.now).submodels id.now)) };
 
     /// A copy of the element to which the path leads in the submodel of the identifier; the empty path leads to none.
     fn element(&self, id: &str, path: &Path) -> Result<Element, Lack>

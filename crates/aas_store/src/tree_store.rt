@@ -2,7 +2,7 @@ ghost use Rattle.std.specs.Prelude.{◌≡◌};
 ghost use Rattle.aas_store.specs.Documents.{empty};
 ghost use Rattle.aas_store.specs.TreeStore.{documents};
 
-use crate::elements::{copy_at, insert_at, patch_at, remove_at, replace_at};
+use crate::elements::{copy_at, copy_child, insert_at, patch_at, remove_at, replace_at};
 use crate::lack::Lack;
 use crate::shelf::Shelf;
 use crate::spot::{Spot, StepRef};
@@ -75,6 +75,24 @@ impl Store for TreeStore {
     fn submodel(&self, id: &str) -> Result<Option<Submodel>, NoMemory> {
         match self.submodels.get(id) {
             Some(submodel) => Ok(Some(submodel.copy()?)),
+            None => Ok(None),
+        }
+    }
+
+    fn submodel_head(&self, id: &str) -> Option<&Submodel> {
+        self.submodels.get(id)
+    }
+
+    fn child_count(&self, id: &str) -> Option<u64> {
+        match self.submodels.get(id) {
+            Some(submodel) => Some(submodel.kids.len() as u64),
+            None => None,
+        }
+    }
+
+    fn child_at(&self, id: &str, place: u64) -> Result<Option<Element>, NoMemory> {
+        match self.submodels.get(id) {
+            Some(submodel) => copy_child(submodel, place),
             None => Ok(None),
         }
     }

@@ -94,7 +94,13 @@ pub returns-in_err-last_field-in-10 : goal.returns-in_err-last_field-in-10
 returns-in_err-last_field-in-10 c = let first = c.in_ok-shell-in-10.ensures in
     wrong_second _ _ _ 10 _ _ c.in-Some.ensures.cases c.in-10.is c.from_residual-in_err-last_field-in-10.ensures _ _ _ identifier asset_information refl first.begins first.form refl c.in_err-last_field-in-10.ensures
 
--- ---- the commands on elements
+-- ---- the commands on references and on elements
+
+pub addition-requires : goal.addition-requires
+addition-requires c = subst (λ (t : ℕ). IsFirstAndRest c.args.payload.now t c.in-Some.fields.now) c.in-11.is c.in-Some.ensures.cases
+
+pub removal-requires : goal.removal-requires
+removal-requires c = subst (λ (t : ℕ). IsFirstAndRest c.args.payload.now t c.in-Some.fields.now) c.in-12.is c.in-Some.ensures.cases
 
 pub insertion-requires : goal.insertion-requires
 insertion-requires c = subst (λ (t : ℕ). IsFirstAndRest c.args.payload.now t c.in-Some.fields.now) c.in-13.is c.in-Some.ensures.cases

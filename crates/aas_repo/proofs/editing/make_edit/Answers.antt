@@ -2,7 +2,7 @@ use Rattle.std.proofs.Common.{refl, sym, subst, ap, ◌∙◌}
 use Rattle.std.specs.FinMap as map
 use Rattle.aas_constraint_rules.specs.Faults.{submodel}
 use Rattle.aas_model.specs.declared.documents.Submodel.{Submodel}
-use Rattle.aas_repo.proofs.Edited.{is_missing, is_refused_or_no_memory, makes_one}
+use Rattle.aas_repo.proofs.Edited.{is_missing, is_refused, makes_one}
 use Rattle.aas_repo.proofs.editing.make_edit.Goals as goal
 use Rattle.aas_repo.specs.Decisions.{IsDecision, Makes}
 use Rattle.aas_repo.specs.declared.decision.Decision.{Decision}
@@ -34,4 +34,4 @@ returns g c =
     let command = g.E.Edit.command c.args.edit c.args.id in
     let there = sym (c.in-Ok-Some.ensures ∙ ap (map.get d.submodels) c.as_str.ensures.bytes) ∙ c.in-Ok-Some.field-0-is in
     subst (λ (o : Decision). IsDecision c.args.has_room d command d o) (sym c.decision_of.ensures)
-    (is_refused_or_no_memory d command c.args.id _ _ (g.met.E.Edit.edits c.args.edit c.args.id d) _ d _ c.in-Err-make.refusal there c.in-Err-make.ensures.err refl)
+    (is_refused d command c.args.id _ _ (g.met.E.Edit.edits c.args.edit c.args.id d) _ d _ c.in-Err-make.refusal there c.in-Err-make.ensures.err refl)

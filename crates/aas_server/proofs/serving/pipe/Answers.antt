@@ -15,7 +15,8 @@ returns-in-Ok-clause-does g c =
     let opened = c.in-Ok.server.service.repo in
     let after = c.serve_connection-ended.new.machine.repo in
     rw c.into_disk.ensures.value
-    (inr (console_served c.have_one_list.ensures c.payloads_replay_to_one_state.ensures c.asks_are_well_formed.ensures c.accepted_commands_replay.ensures
+    (inr (console_served c.have_one_list.ensures c.payloads_replay_to_one_state.ensures
+    c.asks_are_well_formed.ensures c.accepted_commands_replay.ensures
     (disk_of D.seen D.moment D.left_at D.faults c.args.disk) (disk_of D.seen D.moment D.left_at D.faults (disk_in after.keeper))
     (record {
       documents = opened.documents;
@@ -24,7 +25,8 @@ returns-in-Ok-clause-does g c =
       left_at = D.left_at opened.keeper.disk;
     })
     after.documents (Keeps (D.seen after.keeper.disk) after.keeper.gate) (λ payloads keeps. (keeps.files, keeps.told, keeps.image))
-    c.in-Ok.ensures.begun c.in-Ok.ensures.reads.past c.in-Ok.ensures.reads.images c.serve_connection-ended.ensures.past c.into_disk.ensures.valid
+    c.in-Ok.ensures.begun c.in-Ok.ensures.reads.past c.in-Ok.ensures.reads.images
+    c.serve_connection-ended.ensures.past c.into_disk.ensures.valid
     c.exit_code.result c.serve_connection-ended.result
     (console_of C.left C.sent C.faults c.args.console.now) (console_of C.left C.sent C.faults c.serve_connection-ended.new.link)
     (c.exit_code.ensures ∙ c.from.ensures) c.serve_connection-ended.ensures.served c.serve_connection-ended.ensures.link_fault
@@ -45,7 +47,9 @@ returns-in-Err-clause-does g c =
     (record { seen = c.in-Err.ensures.reads.same; images = c.in-Err.ensures.reads.images; past = c.in-Err.ensures.reads.past })))
 
 pub returns-in-Ok-clause-past : goal.returns-in-Ok-clause-past
-returns-in-Ok-clause-past g c = rw c.into_disk.ensures.value (passes_on _ _ _ _ _ _ c.in-Ok.ensures.reads.past c.serve_connection-ended.ensures.past)
+returns-in-Ok-clause-past g c =
+    rw c.into_disk.ensures.value (passes_on _ _ _ _ _ _ c.in-Ok.ensures.reads.past c.serve_connection-ended.ensures.past)
 
 pub returns-in-Ok-clause-later : goal.returns-in-Ok-clause-later
-returns-in-Ok-clause-later g c = rw c.into_disk.ensures.value (omega (arith, c.in-Ok.ensures.later, c.serve_connection-ended.ensures.later_keeper))
+returns-in-Ok-clause-later g c =
+    rw c.into_disk.ensures.value (omega (arith, c.in-Ok.ensures.later, c.serve_connection-ended.ensures.later_keeper))

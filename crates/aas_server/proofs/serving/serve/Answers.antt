@@ -17,7 +17,8 @@ returns-in-Ok-listen-clause-does g c =
     let after = c.serve-ended.new.machine.repo in
     rw c.into_disk.ensures.value
     (inr (inr (
-      wire_served c.have_one_list.ensures c.payloads_replay_to_one_state.ensures c.asks_are_well_formed.ensures c.accepted_commands_replay.ensures
+      wire_served c.have_one_list.ensures c.payloads_replay_to_one_state.ensures
+          c.asks_are_well_formed.ensures c.accepted_commands_replay.ensures
           (disk_of D.seen D.moment D.left_at D.faults c.args.disk) (disk_of D.seen D.moment D.left_at D.faults (disk_in after.keeper))
           (record {
             documents = opened.documents;
@@ -84,7 +85,9 @@ returns-in-Err-clause-does g c =
     ))
 
 pub returns-in-Ok-listen-clause-past : goal.returns-in-Ok-listen-clause-past
-returns-in-Ok-listen-clause-past g c = rw c.into_disk.ensures.value (passes_on _ _ _ _ _ _ c.in-Ok.ensures.reads.past c.serve-ended.ensures.past)
+returns-in-Ok-listen-clause-past g c =
+    rw c.into_disk.ensures.value (passes_on _ _ _ _ _ _ c.in-Ok.ensures.reads.past c.serve-ended.ensures.past)
 
 pub returns-in-Ok-listen-clause-later : goal.returns-in-Ok-listen-clause-later
-returns-in-Ok-listen-clause-later g c = rw c.into_disk.ensures.value (omega (arith, c.in-Ok.ensures.later, c.serve-ended.ensures.later_keeper))
+returns-in-Ok-listen-clause-later g c =
+    rw c.into_disk.ensures.value (omega (arith, c.in-Ok.ensures.later, c.serve-ended.ensures.later_keeper))

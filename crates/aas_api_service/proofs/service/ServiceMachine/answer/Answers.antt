@@ -6,16 +6,18 @@ use Rattle.aas_api_service.proofs.service.ServiceMachine.answer.Goals as goal
 
 pub answer-requires-clause-well_formed : goal.answer-requires-clause-well_formed
 answer-requires-clause-well_formed g c =
-    let m = message_of c.args.request.now in asks_well m c.in-Ok.ask (asked_of m c.in-Ok.ask c.in-Ok.ensures)
+    let m = message_of c.args.request.now in
+    asks_well m c.in-Ok.call.through c.in-Ok.call.ask (asked_of m c.in-Ok.call c.in-Ok.ensures)
 
 pub returns-in-Ok-clause-answered : goal.returns-in-Ok-clause-answered
 returns-in-Ok-clause-answered g c = λ records settled.
     let m = message_of c.args.request.now in
-    answers_asked (g.K.Keeper.room_behind c.args.self.now.repo.keeper) g.K.Keeper.stands_for _ _ _ m c.in-Ok.ask c.answer.result (asked_of m c.in-Ok.ask c.in-Ok.ensures)
-    (c.answer.ensures.answered records settled)
+    answers_asked (g.K.Keeper.room_behind c.args.self.now.repo.keeper) g.K.Keeper.stands_for _ _ _ m c.in-Ok.call c.answer.result
+    (asked_of m c.in-Ok.call c.in-Ok.ensures) (c.answer.ensures.answered records settled)
 
 pub returns-in-Err-clause-answered : goal.returns-in-Err-clause-answered
 returns-in-Err-clause-answered g c = λ records settled.
     let K = g.K.Keeper in
-    answers_refused (K.room_behind c.args.self.now.repo.keeper) K.stands_for (state_of K.kept K.moment K.left_at c.args.self.now.repo) records settled (message_of c.args.request.now)
+    let state = state_of K.kept K.moment K.left_at c.args.self.now.repo in
+    answers_refused (K.room_behind c.args.self.now.repo.keeper) K.stands_for state records settled (message_of c.args.request.now)
     c.in-Err.refusal c.refuse.result c.in-Err.ensures c.refuse.ensures.refused

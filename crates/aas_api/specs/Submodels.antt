@@ -1,0 +1,36 @@
+-- The submodel that a question or a command is about, of those that may be asked through a shell.
+use Rattle.std.specs.Prelude.{ℕ, List, Option, Some, None}
+use Rattle.aas_command.specs.declared.command.Command.{Command}
+use Rattle.aas_command.specs.declared.command.Command.TheVariants.{ReplaceSubmodel, InsertElement, ReplaceElement, DeleteElement, UpdateValue}
+use Rattle.aas_question.specs.declared.question.Question.{Question}
+use Rattle.aas_question.specs.declared.question.Question.TheVariants as question
+use Rattle.aas_api.specs.declared.ask.Ask.{Ask}
+use Rattle.aas_api.specs.declared.ask.Ask.TheVariants.{Act, Answer}
+
+abbrev pub submodel_changed : Command → Option (List ℕ)
+submodel_changed (ReplaceSubmodel d) = Some d.head.id
+submodel_changed (InsertElement id p e) = Some id
+submodel_changed (ReplaceElement id p e) = Some id
+submodel_changed (DeleteElement id p) = Some id
+submodel_changed (UpdateValue id p v) = Some id
+submodel_changed c = None
+
+abbrev pub submodel_told : Question → Option (List ℕ)
+submodel_told (question.Submodel id level extent) = Some id
+submodel_told (question.SubmodelMetadata id) = Some id
+submodel_told (question.SubmodelValue id level extent) = Some id
+submodel_told (question.SubmodelReference id) = Some id
+submodel_told (question.SubmodelPaths id level) = Some id
+submodel_told (question.Elements id span level extent) = Some id
+submodel_told (question.ElementsMetadata id span) = Some id
+submodel_told (question.ElementsReference id span) = Some id
+submodel_told (question.Element id p level extent) = Some id
+submodel_told (question.ElementMetadata id p) = Some id
+submodel_told (question.ElementValue id p level extent) = Some id
+submodel_told (question.ElementReference id p) = Some id
+submodel_told (question.ElementPaths id p level) = Some id
+submodel_told q = None
+
+abbrev pub submodel_of : Ask → Option (List ℕ)
+submodel_of (Act c) = submodel_changed c
+submodel_of (Answer q) = submodel_told q

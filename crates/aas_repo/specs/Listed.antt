@@ -1,0 +1,65 @@
+-- What pages tell of their entries, by the form in which they tell it (IDTA-01002-3-0, the content modifiers Normal, Metadata,
+-- Value and Reference).
+use Rattle.std.specs.Prelude.{◌≡◌, ℕ, List, []}
+use Rattle.std.specs.FinMap as map
+use Rattle.std.specs.Option.{option_map_or}
+use Rattle.aas_constraint_laws.specs.Valid.{IsValid}
+use Rattle.aas_constraint_rules.specs.Faults as faults
+use Rattle.aas_form.specs.MetadataForm.{metadata_form, submodel_metadata}
+use Rattle.aas_form.specs.ReferenceTo.{child_reference, shell_reference, submodel_reference}
+use Rattle.aas_json_mapping.specs.Trees.{concepts, elements, shells, submodels}
+use Rattle.aas_json_spelling.specs.Spells.{canonical_text}
+use Rattle.aas_model.specs.declared.documents.Shell.{Shell}
+use Rattle.aas_model.specs.declared.documents.Submodel.{Submodel}
+use Rattle.aas_model.specs.declared.element.Element.{Element}
+use Rattle.aas_model_names.specs.declared.collection.Collection.{Collection}
+use Rattle.aas_model_names.specs.declared.collection.Collection.TheVariants.{Shells, Submodels, Concepts}
+use Rattle.aas_page.specs.declared.filter.Selection.{Selection}
+use Rattle.aas_store.specs.Documents.{Documents, Identifier, without_children}
+use Rattle.aas_repo.specs.Answers.{Answer, element_shown, of_concepts, of_shells, of_submodels, reference_text, submodel_shown, submodel_valued}
+use Rattle.aas_repo.specs.declared.forms.ChildForm.{ChildForm}
+use Rattle.aas_repo.specs.declared.forms.ChildForm.TheVariants as child
+use Rattle.aas_repo.specs.declared.forms.DocumentForm.{DocumentForm}
+use Rattle.aas_repo.specs.declared.forms.DocumentForm.TheVariants as document
+use Rattle.aas_repo.specs.declared.forms.ShellForm.{ShellForm}
+use Rattle.aas_repo.specs.declared.forms.ShellForm.TheVariants as shell
+use Rattle.aas_repo.specs.declared.forms.SubmodelForm.{SubmodelForm}
+use Rattle.aas_repo.specs.declared.forms.SubmodelForm.TheVariants as submodel
+
+abbrev pub shell_text : ShellForm → Shell → List ℕ
+shell_text shell.Whole s = canonical_text shells s
+shell_text shell.Reference s = reference_text (shell_reference s)
+
+abbrev pub submodel_text : SubmodelForm → Submodel → List ℕ
+submodel_text (submodel.Whole level extent) s = submodel_shown level extent s
+submodel_text submodel.Metadata s = canonical_text submodels (submodel_metadata s)
+submodel_text (submodel.Value level extent) s = submodel_valued level extent s
+submodel_text submodel.Reference s = reference_text (submodel_reference s)
+
+-- it differs from a valid submodel at most in its children
+abbrev pub HasValidHead : Submodel → Type 0
+HasValidHead h = (s : Submodel) × IsValid (faults.submodel s) × (without_children h ≡ without_children s)
+
+-- of a child of a submodel
+abbrev pub child_text : ChildForm → Submodel → Element → List ℕ
+child_text (child.Whole level extent) s e = element_shown level extent e
+child_text child.Metadata s e = canonical_text elements (metadata_form e)
+child_text child.Reference s e = reference_text (child_reference s e)
+
+-- ---- documents
+
+abbrev pub collection_of : DocumentForm → Collection
+collection_of (document.Shell form) = Shells
+collection_of (document.Submodel form) = Submodels
+collection_of document.Concept = Concepts
+
+-- of the document of an identifier; nothing where there is none
+abbrev pub document_text : DocumentForm → Identifier → Documents → List ℕ
+document_text (document.Shell form) id d = option_map_or (shell_text form) (map.get d.shells id) []
+document_text (document.Submodel form) id d = option_map_or (submodel_text form) (map.get d.submodels id) []
+document_text document.Concept id d = option_map_or (canonical_text concepts) (map.get d.concepts id) []
+
+abbrev pub documents_in : DocumentForm → Documents → Selection → Answer
+documents_in (document.Shell form) d s = of_shells d s (shell_text form)
+documents_in (document.Submodel form) d s = of_submodels d s (submodel_text form)
+documents_in document.Concept d s = of_concepts d s (canonical_text concepts)

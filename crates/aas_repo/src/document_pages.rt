@@ -1,0 +1,127 @@
+// The bodies of replies to questions about pages of documents.
+ghost use Rattle.std.specs.Prelude.{◌≡◌, ◌++◌, ◌⊎◌, [], Err, OnOk};
+ghost use Rattle.std.specs.FinMap as map;
+ghost use Rattle.std.specs.Option.{option_map_or};
+ghost use Rattle.aas_command.specs.declared.refusal.Refusal.TheVariants as refused;
+ghost use Rattle.aas_json_mapping.specs.Trees.{shells};
+ghost use Rattle.aas_json_table.specs.TooDeep.{limits};
+ghost use Rattle.aas_step.specs.Valid.{AreValid};
+ghost use Rattle.aas_repo.specs.Listed.{document_text, documents_in, shell_text, submodel_text};
+
+use crate::forms::{DocumentForm, ShellForm, SubmodelForm};
+use crate::page_text::{append_comma, begin_page, document_cursor, end_page};
+use crate::submodel_answers::{append_metadata, append_shown, append_value};
+use aas_command::Refusal;
+use aas_form::{reference_of_shell, reference_of_submodel};
+use aas_json_write::{whole_trees_are_in_order, write_concept, write_shell};
+use aas_model::{Many, NoMemory, Shell};
+use aas_page::{Selection, page};
+use aas_reference::write_reference;
+use aas_store::Store;
+use std::alloc::Global;
+
+/// The page of the documents that are selected, with what it tells of each.
+pub(crate) fn documents_answer<S: Store>(
+    alloc: Global,
+    store: &S,
+    selection: &Selection,
+    form: DocumentForm,
+) -> Result<Many<u8>, Refusal>
+    requires { AreValid (S.documents store.now) }
+    ensures { (result ≡ Err refused.NoMemory) ⊎ (result ≡ documents_in form (S.documents store.now) selection.now) }
+{
+    let after = match &selection.after {
+        Some(id) => Some(id.as_str()),
+        None => None,
+    };
+    let page = page(
+        alloc,
+        store,
+        form.collection(),
+        &selection.filter,
+        after,
+        selection.limit,
+    )?;
+    let mut text = begin_page(alloc, &document_cursor(alloc, &page)?)?;
+    for (place, id) in page.ids.as_slice().iter().enumerate() {
+        append_comma(place > 0, &mut text)?;
+        append_document(alloc, store, id.as_str(), form, &mut text)?;
+    }
+    Ok(end_page(text)?)
+}
+
+/// Appends what is told of the document of the identifier.
+fn append_document<S: Store>(
+    alloc: Global,
+    store: &S,
+    id: &str,
+    form: DocumentForm,
+    text: &mut Vec<u8>,
+) -> Result<(), NoMemory>
+    requires { AreValid (S.documents store.now) }
+    ensures { OnOk result (text.new.items ≡ text.old.items ++ document_text form id.now (S.documents store.now)) }
+{
+    match form {
+        DocumentForm::Shell(form) => match store.shell(id) {
+            Some(shell) => append_shell(alloc, shell, form, text),
+            None => Ok(()),
+        },
+        DocumentForm::Submodel(form) => append_submodel(alloc, store, id, form, text),
+        DocumentForm::Concept => match store.concept(id) {
+            Some(concept) => {
+                whole_trees_are_in_order();
+                write_concept(alloc, concept, text)
+            }
+            None => Ok(()),
+        },
+    }
+}
+
+fn append_shell(
+    alloc: Global,
+    shell: &Shell,
+    form: ShellForm,
+    text: &mut Vec<u8>,
+) -> Result<(), NoMemory>
+    requires { shells.IsWhole limits shell.now }
+    ensures { OnOk result (text.new.items ≡ text.old.items ++ shell_text form shell.now) }
+{
+    match form {
+        ShellForm::Whole => {
+            whole_trees_are_in_order();
+            write_shell(alloc, shell, text)
+        }
+        ShellForm::Reference => write_reference(alloc, &reference_of_shell(alloc, shell)?, text),
+    }
+}
+
+fn append_submodel<S: Store>(
+    alloc: Global,
+    store: &S,
+    id: &str,
+    form: SubmodelForm,
+    text: &mut Vec<u8>,
+) -> Result<(), NoMemory>
+    requires { AreValid (S.documents store.now) }
+    ensures { OnOk result (text.new.items
+        ≡ text.old.items ++ option_map_or (submodel_text form) (map.get (S.documents store.now).submodels id.now) []) }
+{
+    match form {
+        SubmodelForm::Whole { level, extent } => match store.submodel(id)? {
+            Some(submodel) => append_shown(alloc, submodel, level, extent, text),
+            None => Ok(()),
+        },
+        SubmodelForm::Value { level, extent } => match store.submodel(id)? {
+            Some(submodel) => append_value(alloc, submodel, level, extent, text),
+            None => Ok(()),
+        },
+        SubmodelForm::Metadata => match store.submodel_head(id) {
+            Some(head) => append_metadata(alloc, head, text),
+            None => Ok(()),
+        },
+        SubmodelForm::Reference => match store.submodel_head(id) {
+            Some(head) => write_reference(alloc, &reference_of_submodel(alloc, head)?, text),
+            None => Ok(()),
+        },
+    }
+}

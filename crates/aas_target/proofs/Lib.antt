@@ -1,0 +1,6 @@
+mod Coded
+mod Methods
+mod Numbers
+mod Once
+mod Queries
+mod Splits

@@ -1,0 +1,8 @@
+pub mod Faults
+pub mod Given
+pub mod Laws
+pub mod Pairs
+pub mod Query
+pub mod Routes
+pub mod Seen
+pub mod Values

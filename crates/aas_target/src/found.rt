@@ -1,0 +1,176 @@
+// Which resource a path names.
+ghost use Rattle.std.specs.Prelude.{◌≡◌, ◌∷◌, [], map, option_map, ◌&&◌, nat_lt, length};
+ghost use Rattle.std.specs.Option.{option_map_or};
+ghost use Rattle.form_urlencoded.specs.Form.{split};
+ghost use Rattle.aas_target.specs.Routes.{first_with, first_within_shell, path_in, query_in, resource_at, resource_with, texts_of};
+ghost use Rattle.aas_target.specs.Seen.{found_of, segment_of, texts_of as texts_seen};
+
+use crate::method::Method;
+use crate::routes::{OTHER_RESOURCES, Resource, SUBMODEL_RESOURCES, Segment};
+
+/// The segments of a path that are parameters, as they are sent; empty where it has none.
+#[derive(Clone, Copy)]
+pub struct Texts<'a> {
+    /// That of the identifier of a document.
+    pub id: &'a [u8],
+    /// That of the identifier of a submodel to which a shell refers.
+    pub submodel: &'a [u8],
+    /// That of the path of an element.
+    pub path: &'a [u8],
+}
+
+/// A resource that a path names.
+#[derive(Clone, Copy)]
+pub struct Found<'a> {
+    pub resource: Resource,
+    /// The segment of the shell through which it is reached, if it is.
+    pub through: Option<&'a [u8]>,
+    pub texts: Texts<'a>,
+}
+
+impl<'a> Texts<'a> {
+    ghost use Rattle.aas_target.specs.Routes.{no_texts, with_text};
+
+    fn none() -> Texts<'a>
+        ensures { texts_seen result ≡ no_texts }
+    {
+        Texts {
+            id: &[],
+            submodel: &[],
+            path: &[],
+        }
+    }
+
+    /// With the text of a segment, if that is a parameter.
+    fn with(self, segment: Segment, text: &'a [u8]) -> Texts<'a>
+        ensures { texts_seen result ≡ with_text (segment_of segment) text.now (texts_seen self.entry) }
+    {
+        match segment {
+            Segment::Id => Texts { id: text, ..self },
+            Segment::Submodel => Texts {
+                submodel: text,
+                ..self
+            },
+            Segment::Path => Texts { path: text, ..self },
+            _ => self,
+        }
+    }
+}
+
+impl Found<'_> {
+    ghost use Rattle.aas_target.specs.Routes.{methods_of};
+
+    /// The methods that it has here.
+    pub fn methods(&self) -> &'static [Method]
+        ensures { result.now ≡ methods_of (found_of self.now) }
+    {
+        self.resource.methods(self.through.is_some())
+    }
+}
+
+/// The path of a target, and its query, which is behind the first `?`.
+pub fn path_and_query(target: &[u8]) -> (&[u8], &[u8])
+    ensures path { result.0.now ≡ path_in target.now }
+    ensures query { result.1.now ≡ query_in target.now }
+{
+    match target.iter().position(|byte| *byte == b'?') {
+        Some(place) => (&target[..place], &target[place + 1..]),
+        None => (target, &[]),
+    }
+}
+
+/// The resource that has the path, or nothing where none has it.
+#[tactic(auto, unfolding(crate::specs::Routes::resource_at))]
+pub fn resource_at(path: &[u8]) -> Option<Found<'_>>
+    ensures { option_map found_of result ≡ resource_at path.now }
+{
+    match path {
+        [b'/', path @ ..] => resource_with(path),
+        _ => None,
+    }
+}
+
+/// The same, by what stands behind the first slash.
+#[tactic(auto, unfolding(crate::specs::Routes::resource_with))]
+fn resource_with(path: &[u8]) -> Option<Found<'_>>
+    ensures { option_map found_of result ≡ resource_with (split 47 path.now) }
+{
+    if let Some(found) = first_with(&OTHER_RESOURCES, path) {
+        return Some(found);
+    }
+    if let Some(found) = first_with(&SUBMODEL_RESOURCES, path) {
+        return Some(found);
+    }
+    first_within_shell(path)
+}
+
+/// The first of some resources that has the path.
+fn first_with<'a>(resources: &[Resource], path: &'a [u8]) -> Option<Found<'a>>
+    ensures { option_map found_of result ≡ first_with resources.now (split 47 path.now) }
+{
+    for resource in resources {
+        if let Some(texts) = texts_of(resource.segments(), path) {
+            return Some(Found {
+                resource: *resource,
+                through: None,
+                texts,
+            });
+        }
+    }
+    None
+}
+
+/// The resource of one submodel that has the path behind `shells` and the segment of a shell.
+fn first_within_shell(path: &[u8]) -> Option<Found<'_>>
+    ensures { option_map found_of result ≡ first_within_shell (split 47 path.now) }
+{
+    let (name, rest) = cut(path, b'/');
+    let (shell, rest) = cut(rest?, b'/');
+    if !Segment::Shells.fits(name) || !Segment::Id.fits(shell) {
+        return None;
+    }
+    let found = first_with(&SUBMODEL_RESOURCES, rest?)?;
+    Some(Found {
+        through: Some(shell),
+        ..found
+    })
+}
+
+/// The parameters of a path, if it has these segments.
+fn texts_of<'a>(segments: &[Segment], path: &'a [u8]) -> Option<Texts<'a>>
+    ensures { option_map texts_seen result ≡ texts_of (map segment_of segments.now) (split 47 path.now) }
+{
+    let (text, rest) = cut(path, b'/');
+    let [segment, others @ ..] = segments else {
+        return None;
+    };
+    if !segment.fits(text) {
+        return None;
+    }
+    let texts = match rest {
+        Some(rest) => texts_of(others, rest)?,
+        None => no_more(others)?,
+    };
+    Some(texts.with(*segment, text))
+}
+
+/// No parameters, if there are no more segments.
+fn no_more<'a>(segments: &[Segment]) -> Option<Texts<'a>>
+    ensures { option_map texts_seen result ≡ texts_of (map segment_of segments.now) [] }
+{
+    if segments.is_empty() {
+        Some(Texts::none())
+    } else {
+        None
+    }
+}
+
+/// The bytes before the first separator, and those behind it, if there is one.
+fn cut(bytes: &[u8], separator: u8) -> (&[u8], Option<&[u8]>)
+    ensures { split separator bytes.now ≡ result.0.now ∷ option_map_or (λ rest. split separator rest.now) result.1 [] }
+{
+    match bytes.iter().position(|byte| *byte == separator) {
+        Some(place) => (&bytes[..place], Some(&bytes[place + 1..])),
+        None => (bytes, None),
+    }
+}

@@ -1,0 +1,23 @@
+//! What the target of a request says (RFC 9112, section 3.2): the resource that its path names, and what its query gives.
+//!
+//! The resources are a table in `specs/Routes.antt`: the path of each, its methods and the parameters of its query. What is
+//! asked of a resource is said above (`aas_api`).
+
+#![tactic(auto)]
+
+mod found;
+mod given;
+mod laws;
+mod method;
+mod parameter;
+mod query;
+mod routes;
+mod values;
+
+pub use found::{Found, Texts, path_and_query, resource_at};
+pub use given::Given;
+pub use laws::queries_say_one;
+pub use method::{Method, allow_text, method_among};
+pub use parameter::Parameter;
+pub use query::{QueryFault, read_query};
+pub use routes::Resource;

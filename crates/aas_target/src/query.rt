@@ -1,0 +1,84 @@
+// Queries, read setting by setting.
+ghost use Rattle.std.specs.Prelude.{◌≡◌, Err, IfOk, OnOk};
+ghost use Rattle.aas_target.specs.Given.{Gives, IsBadIn};
+ghost use Rattle.aas_target.specs.Pairs.{IsRefused, TakesIfListed};
+ghost use Rattle.aas_target.specs.Query.{parameter_among, setting_of};
+ghost use Rattle.aas_target.specs.declared.parameter.Parameter.{Parameter};
+ghost use Rattle.aas_target.specs.declared.query.QueryFault.TheVariants.{BadQuery};
+
+use crate::given::Given;
+use crate::parameter::Parameter;
+use crate::values::ValueFault;
+use form_urlencoded::{decode, raw_pairs};
+use std::alloc::{AllocError, Global};
+
+/// Why a query gives nothing.
+#[derive(Clone, Copy)]
+pub enum QueryFault {
+    /// A parameter that is listed isn't of its form, or is given again.
+    BadQuery { parameter: Parameter },
+    NoMemory,
+}
+
+impl From<AllocError> for QueryFault {
+    ghost use Rattle.std.specs.Prelude.{◌≡◌};
+    ghost use Rattle.aas_target.specs.declared.query.QueryFault.TheVariants as fault;
+
+    ghost from_gives = { λ _ given. given ≡ fault.NoMemory };
+
+    fn from(_: AllocError) -> QueryFault {
+        QueryFault::NoMemory
+    }
+}
+
+/// What the query gives of the parameters that a resource lists.
+///
+/// # Errors
+///
+/// `BadQuery` at the first parameter that isn't of its form, or is given again.
+pub fn read_query(alloc: Global, query: &[u8], listed: &[Parameter]) -> Result<Given, QueryFault>
+    ensures ok { IfOk result (Gives listed.now query.now) }
+    ensures bad { (parameter : Parameter) → result ≡ Err (BadQuery parameter) → IsBadIn listed.now query.now parameter }
+{
+    let mut given = Given::nothing(alloc);
+    for (name, value) in raw_pairs(query) {
+        take_pair(alloc, listed, &mut given, name, value)?;
+    }
+    Ok(given)
+}
+
+/// Takes one pair of a query, which is passed over if its parameter isn't listed.
+fn take_pair(
+    alloc: Global,
+    listed: &[Parameter],
+    given: &mut Given,
+    name: &[u8],
+    value: &[u8],
+) -> Result<(), QueryFault>
+    ensures ok { OnOk result (TakesIfListed given.old (setting_of listed.now (name.now, value.now)) given.new) }
+    ensures bad { (parameter : Parameter) → result ≡ Err (BadQuery parameter)
+        → IsRefused given.old (setting_of listed.now (name.now, value.now)) parameter }
+{
+    let name = decode(alloc, name)?;
+    let Some(parameter) = parameter_among(listed, name.as_str()) else {
+        return Ok(());
+    };
+    let value = decode(alloc, value)?;
+    match given.take(alloc, parameter, value.as_str()) {
+        Ok(()) => Ok(()),
+        Err(ValueFault::Bad) => Err(QueryFault::BadQuery { parameter }),
+        Err(ValueFault::NoMemory) => Err(QueryFault::NoMemory),
+    }
+}
+
+/// The parameter of this name, if it is one of those.
+fn parameter_among(listed: &[Parameter], name: &str) -> Option<Parameter>
+    ensures { result ≡ parameter_among name.now listed.now }
+{
+    for parameter in listed {
+        if name == parameter.name() {
+            return Some(*parameter);
+        }
+    }
+    None
+}
