@@ -1,11 +1,12 @@
 -- Why a command is refused: for each command what of it isn't there or is there already, and then the faults of the documents that it makes. Causes are tried from
 -- the left, and the first that applies is the refusal. This profile's own rule.
-use Rattle.std.specs.Prelude.{ℕ, nat_lt, Bool, true, false, ◌&&◌, not, is_some, List, [], ◌∷◌, ◌++◌, take, Option, Some, None, option_and_then, option_map, if◌then◌else◌}
+use Rattle.std.specs.Prelude.{ℕ, nat_lt, Bool, true, false, ◌&&◌, ◌||◌, not, is_some, List, [], ◌∷◌, ◌++◌, bytes_eq, find, length, map as each, slice_get, take, Option, Some, None, option_and_then, option_map, if◌then◌else◌}
 use Rattle.std.specs.FinMap as map
-use Rattle.std.specs.List.{list_any}
+use Rattle.std.specs.List.{list_any, range_with_len}
 use Rattle.std.specs.Option.{option_map_or}
 use Rattle.std.specs.Str.{encode_utf8_all}
 use Rattle.serde_json.specs.Data.{Data}
+use Rattle.aas_model.specs.declared.documents.Environment.{Environment}
 use Rattle.aas_model.specs.declared.documents.Shell.{Shell}
 use Rattle.aas_model.specs.declared.documents.Submodel.{Submodel}
 use Rattle.aas_model.specs.declared.element.Element.{Element, out-Element}
@@ -20,7 +21,7 @@ use Rattle.aas_reference.specs.Rules.{first, is_external}
 use Rattle.aas_reference.specs.Same.{same, same_keys}
 use Rattle.aas_command.specs.Refusals.{refusal_of_fault}
 use Rattle.aas_command.specs.declared.command.Command.{Command}
-use Rattle.aas_command.specs.declared.command.Command.TheVariants.{CreateShell, CreateSubmodel, CreateConcept, ReplaceShell, ReplaceSubmodel, ReplaceConcept, DeleteShell, DeleteSubmodel, DeleteConcept, SetAsset, AddReference, DropReference, InsertElement, ReplaceElement, DeleteElement, UpdateValue}
+use Rattle.aas_command.specs.declared.command.Command.TheVariants.{CreateShell, CreateSubmodel, CreateConcept, ReplaceShell, ReplaceSubmodel, ReplaceConcept, DeleteShell, DeleteSubmodel, DeleteConcept, SetAsset, AddReference, DropReference, InsertElement, ReplaceElement, DeleteElement, UpdateValue, Import}
 use Rattle.aas_command.specs.declared.refusal.Absent.{Absent}
 use Rattle.aas_command.specs.declared.refusal.Absent.TheVariants as absent
 use Rattle.aas_command.specs.declared.refusal.Refusal.{Refusal}
@@ -143,6 +144,23 @@ update_causes p v s =
 abbrev pub in_submodel : Documents → List ℕ → (Submodel → List Cause) → List Cause
 in_submodel d id causes_in = is_absent Submodels id d ∷ option_map_or causes_in (map.get d.submodels (encode_utf8_all id)) []
 
+-- ---- by the identifiers of an environment
+
+-- the identifier in a place stands before it too
+abbrev pub is_repeated : List (List ℕ) → ℕ → Bool
+is_repeated ids place = option_map_or (λ id. list_any (bytes_eq id) (take place ids)) (slice_get ids place) false
+
+-- the place of the first one that stands before it too
+abbrev pub first_repeated : List (List ℕ) → Option ℕ
+first_repeated ids = find (is_repeated ids) (range_with_len 0 (length ids))
+
+-- one stands twice among its shells, its submodels or its concept descriptions
+abbrev pub has_repeated : Environment → Bool
+has_repeated e =
+    is_some (first_repeated (each (λ s. s.head.id) e.shells))
+    || is_some (first_repeated (each (λ s. s.head.id) e.submodels))
+    || is_some (first_repeated (each (λ c. c.head.id) e.concepts))
+
 -- ---- one row a command
 
 abbrev pub causes : Documents → Command → List Cause
@@ -162,6 +180,7 @@ causes d (InsertElement id p e) = in_submodel d id (insert_causes p.steps e)
 causes d (ReplaceElement id p e) = in_submodel d id (replace_causes p.steps e)
 causes d (DeleteElement id p) = in_submodel d id (delete_causes p.steps)
 causes d (UpdateValue id p v) = in_submodel d id (update_causes p.steps v)
+causes d (Import e) = when (has_repeated e) Conflict ∷ []
 
 -- ---- by the documents that it makes
 
