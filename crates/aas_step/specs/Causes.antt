@@ -1,8 +1,8 @@
 -- Why a command is refused: for each command what of it isn't there or is there already, and then the faults of the documents that it makes. Causes are tried from
 -- the left, and the first that applies is the refusal. This profile's own rule.
-use Rattle.std.specs.Prelude.{ℕ, nat_lt, Bool, true, false, ◌&&◌, ◌||◌, not, is_some, List, [], ◌∷◌, ◌++◌, bytes_eq, find, length, map as each, slice_get, take, Option, Some, None, option_and_then, option_map, if◌then◌else◌}
+use Rattle.std.specs.Prelude.{ℕ, nat_lt, Bool, true, false, ◌&&◌, ◌||◌, not, is_some, List, [], ◌∷◌, ◌++◌, length, map as each, take, Option, Some, None, option_and_then, option_map, if◌then◌else◌}
 use Rattle.std.specs.FinMap as map
-use Rattle.std.specs.List.{list_any, range_with_len}
+use Rattle.std.specs.List.{list_any}
 use Rattle.std.specs.Option.{option_map_or}
 use Rattle.std.specs.Str.{encode_utf8_all}
 use Rattle.serde_json.specs.Data.{Data}
@@ -17,6 +17,7 @@ use Rattle.aas_model_names.specs.declared.modifiers.Extent.TheVariants as extent
 use Rattle.aas_model_names.specs.declared.collection.Collection.{Collection}
 use Rattle.aas_model_names.specs.declared.collection.Collection.TheVariants.{Shells, Submodels, Concepts}
 use Rattle.aas_constraint_rules.specs.Faults.{Document, submodel, faults_of}
+use Rattle.aas_constraint_rules.specs.Texts.{is_among}
 use Rattle.aas_reference.specs.Rules.{first, is_external}
 use Rattle.aas_reference.specs.Same.{same, same_keys}
 use Rattle.aas_command.specs.Refusals.{refusal_of_fault}
@@ -146,13 +147,13 @@ in_submodel d id causes_in = is_absent Submodels id d ∷ option_map_or causes_i
 
 -- ---- by the identifiers of an environment
 
--- the identifier in a place stands before it too
-abbrev pub is_repeated : List (List ℕ) → ℕ → Bool
-is_repeated ids place = option_map_or (λ id. list_any (bytes_eq id) (take place ids)) (slice_get ids place) false
+-- the place of the first one that stands before it too, where those of before stand earlier
+abbrev pub first_repeated_after : List (List ℕ) → List (List ℕ) → Option ℕ
+first_repeated_after before [] = None
+first_repeated_after before (id ∷ more) = if is_among id before then Some (length before) else first_repeated_after (before ++ id ∷ []) more
 
--- the place of the first one that stands before it too
 abbrev pub first_repeated : List (List ℕ) → Option ℕ
-first_repeated ids = find (is_repeated ids) (range_with_len 0 (length ids))
+first_repeated ids = first_repeated_after [] ids
 
 -- one stands twice among its shells, its submodels or its concept descriptions
 abbrev pub has_repeated : Environment → Bool
