@@ -1,15 +1,17 @@
 -- Two lists of entries become one from their ends.
-use Rattle.std.proofs.Common.{◌≡◌, ◌<◌, ◌-◌, ℕ, length, slice_get, arith, Bool, true, false, cond, ◌&&◌, T, List, [], ◌∷◌, ◌++◌, map, reverse, Option, Some, None, refl, sym, ap, ◌∙◌, subst}
+use Rattle.std.proofs.Common.{◌≡◌, ◌<◌, ◌+◌, ℕ, zero, suc, length, slice_get, arith, Bool, true, false, cond, T, List, [], ◌∷◌, ◌++◌, reverse, Option, Some, None, refl, sym, ap, ◌∙◌, subst}
 use Rattle.std.specs.FinMap.{find, is_sorted}
 use Rattle.std.specs.FinMap.Entries.{below_all}
+use Rattle.std.specs.List.{remove}
 use Rattle.std.specs.Option.{option_or}
 use Rattle.std.specs.Ordering.{is_eq, is_lt, eq_by_cmp, ordering_reverse}
 use Rattle.std.specs.declared.cmp.Ordering.{Ordering}
 use Rattle.std.specs.declared.cmp.Ordering.TheVariants.{Less, Equal, Greater}
 use Rattle.std.proofs.Math.Seq.{append_snoc}
 use Rattle.std.proofs.lemmas.Cmp.{nat_list_cmp_total}
+use Rattle.std.specs.Prelude.{◌↔◌, IsTrue}
 use Rattle.std.specs.Str.{encode_utf8_all}
-use Rattle.std.proofs.lemmas.List.{append-nil, length_push, map-append, reverse-append}
+use Rattle.std.proofs.lemmas.List.{append-nil, map-append, reverse-append}
 use Rattle.aas_store.specs.Merged.{IsMerged}
 use Rattle.aas_store.specs.Shelf.{pairs}
 use Rattle.aas_store.specs.declared.shelf.Entry.{Entry}
@@ -182,14 +184,17 @@ ends [] some = absurd (omega (arith, some))
 ends (x ∷ []) some = ([], (x, refl))
 ends (x ∷ y ∷ xs) some = let rest = ends (y ∷ xs) (omega arith) in (x ∷ rest.0, (rest.1.0, ap (λ zs. x ∷ zs) rest.1.1))
 
-at_end : {X : Type 0} (ys : List X) (y : X) → slice_get (ys ++ y ∷ []) (length ys) ≡ Some y
-at_end [] y = refl
-at_end (x ∷ ys) y = at_end ys y
+pub not_empty : {X : Type 0} (xs : List X) (is_empty : Bool) → IsTrue is_empty ↔ (xs ≡ []) → is_empty ≡ false → 0 < length xs
+not_empty [] is_empty is some = let e = is.1 refl in absurd (cc)
+not_empty (x ∷ xs) is_empty is some = omega arith
 
-pub last_there : {X : Type 0} (xs ys : List X) (y z : X) → xs ≡ ys ++ y ∷ [] → slice_get xs (length xs - 1) ≡ Some z → z ≡ y
-last_there {X = X} xs ys y z is at =
-    let place : length xs - 1 ≡ length ys = omega (arith, ap length is, length_push ys y) in
-    same_some z y (sym at ∙ ap (slice_get xs) place ∙ ap (λ (zs : List X). slice_get zs (length ys)) is ∙ at_end ys y)
+-- the last is taken away
+pub without_last : {X : Type 0} (xs : List X) (n : ℕ) (x : X) → n + 1 ≡ length xs → slice_get xs n ≡ Some x → xs ≡ remove xs n ++ x ∷ []
+without_last [] n x last at = absurd (cc)
+without_last (y ∷ []) zero x last at = ap (λ z. z ∷ []) (same_some y x at)
+without_last (y ∷ []) (suc n) x last at = absurd (omega (arith, last))
+without_last (y ∷ z ∷ xs) zero x last at = absurd (omega (arith, last))
+without_last (y ∷ z ∷ xs) (suc n) x last at = ap (λ zs. y ∷ zs) (without_last (z ∷ xs) n x (omega (arith, last)) at)
 
 -- each list that isn't empty ends with an entry, and these compare so
 abbrev pub EndsCompare : {D : Type 0} → (os ns : List (Entry D)) → Ordering → Type 0
@@ -207,9 +212,6 @@ module _ {D : Type 0} (older newer : List (Entry D)) where
 
   turned : (es all : List (Entry D)) (x : Entry D) → all ≡ es ++ x ∷ [] → pair x ∷ pairs (reverse es) ≡ pairs (reverse all)
   turned es all x is = sym (ap (λ (es : List (Entry D)). pairs (reverse es)) is ∙ ap pairs (reverse-append es (x ∷ [])))
-
-  pub begins : T (is_sorted order (pairs older)) → T (is_sorted order (pairs newer)) → (ms : List (Entry D)) → ms ≡ [] → Merges older newer ms
-  begins sorted_older sorted_newer ms none = subst (λ (ms : List (Entry D)). Merges older newer ms) (sym none) (begin (pairs older) (pairs newer) sorted_older sorted_newer)
 
   pub after_greater : (os ns ms left_os moved : List (Entry D)) (x : Entry D) → Merges os ns ms → 0 < length ns → EndsCompare os ns Greater → os ≡ left_os ++ x ∷ [] → moved ≡ ms ++ x ∷ [] → Merges left_os ns moved
   after_greater os ns ms left_os moved x so_far some compare taken put =
@@ -244,17 +246,8 @@ module _ {D : Type 0} (older newer : List (Entry D)) where
       (subst (λ (p : Entries D). IsMerging (pairs older) (pairs newer) p (pairs ns) (pairs (reverse ms))) (pushed x.0 (o ∷ os) x.1.0 x.1.1) so_far))
       (sym (compare x.0 left_ns x.1.0 y x.1.1 taken))))
 
-  pub after_all : (os ns ms left_os moved : List (Entry D)) (x : Entry D) → Merges os ns ms → ns ≡ [] → os ≡ left_os ++ x ∷ [] → moved ≡ ms ++ x ∷ [] → Merges left_os ns moved
-  after_all os ns ms left_os moved x so_far none taken put =
-      subst (λ (m : Entries D). IsMerging (pairs older) (pairs newer) (pairs left_os) (pairs ns) m) (turned ms moved x put)
-      (subst (λ (n : List (Entry D)). IsMerging (pairs older) (pairs newer) (pairs left_os) (pairs n) (pair x ∷ pairs (reverse ms))) (sym none)
+  pub after_all : (os ms left_os moved : List (Entry D)) (x : Entry D) → Merges os [] ms → os ≡ left_os ++ x ∷ [] → moved ≡ ms ++ x ∷ [] → Merges left_os [] moved
+  after_all os ms left_os moved x so_far taken put =
+      subst (λ (m : Entries D). IsMerging (pairs older) (pairs newer) (pairs left_os) [] m) (turned ms moved x put)
       (rest_moved (pairs older) (pairs newer) (pairs left_os) (pairs (reverse ms)) (pair x)
-      (subst (λ (n : List (Entry D)). IsMerging (pairs older) (pairs newer) (pairs left_os ++ pair x ∷ []) (pairs n) (pairs (reverse ms))) none
-      (subst (λ (o : Entries D). IsMerging (pairs older) (pairs newer) o (pairs ns) (pairs (reverse ms))) (pushed left_os os x taken) so_far))))
-
-  pub ended : (os ns ms result : List (Entry D)) → Merges os ns ms → ns ≡ [] → os ≡ [] → result ≡ reverse ms → IsMerged (pairs older) (pairs newer) (pairs result)
-  ended os ns ms result so_far no_newer no_older is =
-      subst (λ (es : List (Entry D)). IsMerged (pairs older) (pairs newer) (pairs es)) (sym is)
-      (end (pairs older) (pairs newer) (pairs (reverse ms))
-      (subst (λ (n : List (Entry D)). IsMerging (pairs older) (pairs newer) [] (pairs n) (pairs (reverse ms))) no_newer
-      (subst (λ (o : List (Entry D)). IsMerging (pairs older) (pairs newer) (pairs o) (pairs ns) (pairs (reverse ms))) no_older so_far)))
+      (subst (λ (o : Entries D). IsMerging (pairs older) (pairs newer) o [] (pairs (reverse ms))) (pushed left_os os x taken) so_far))

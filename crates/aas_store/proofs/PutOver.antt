@@ -1,5 +1,5 @@
 -- Documents that are put in one after another, and a map that is laid over another.
-use Rattle.std.proofs.Common.{◌≡◌, ◌+◌, ℕ, Bool, true, false, cond, List, [], ◌∷◌, ◌++◌, length, length-append, Option, Some, None, refl, sym, ap, ap₂, ◌∙◌, subst, arith}
+use Rattle.std.proofs.Common.{◌≡◌, ◌+◌, ℕ, Bool, true, false, cond, List, [], ◌∷◌, ◌++◌, length-append, Some, refl, sym, ap, ◌∙◌, arith}
 use Rattle.std.specs.FinMap as fin
 use Rattle.std.specs.FinMap.{get-empty, get-insert, same_map}
 use Rattle.std.specs.List.{fold}
@@ -7,7 +7,7 @@ use Rattle.std.specs.Option.{option_or}
 use Rattle.std.specs.Ordering.{eq_by_cmp}
 use Rattle.std.specs.Str.{encode_utf8_all}
 use Rattle.std.proofs.lemmas.Cmp.{nat_list_cmp_total}
-use Rattle.std.proofs.lemmas.List.{append-nil, append_assoc}
+use Rattle.std.proofs.lemmas.List.{append_assoc}
 use Rattle.std.proofs.lemmas.List.Sums.{fold-append}
 use Rattle.aas_model.specs.declared.documents.Concept.{Concept}
 use Rattle.aas_model.specs.declared.documents.Environment.{Environment}
@@ -36,12 +36,6 @@ module _ {D : Type 0} (id_of : D → Identifier) where
       lies q ∙ ap (λ (n : Map D). option_or (fin.get n q) (fin.get m q)) is
       ∙ sym (over ds m fin.empty m (λ k. ap (λ o. option_or o (fin.get m k)) (sym (get-empty order k))) q))
 
-  pub none_gathered : (ds : List D) (count : ℕ) (m : Map D) → count ≡ 0 → m ≡ fin.empty → IsGathered id_of ds ds count m
-  none_gathered ds count m none is = record { taken = []; old_is = sym (append-nil ds); as_many = sym none; holds = is }
-
-  pub one_gathered : (old new : List D) (d : D) (count : ℕ) (m : Map D) → old ≡ new ++ d ∷ [] → count ≡ 1 → m ≡ fin.insert fin.empty (id_of d) d → IsGathered id_of old new count m
-  one_gathered old new d count m old_is one is = record { taken = d ∷ []; old_is = old_is; as_many = sym one; holds = is }
-
   -- some from the end, and then some before them
   pub both_gathered : (old between new : List D) (later earlier count : ℕ) (above below both : Map D) → IsGathered id_of old between later above → IsGathered id_of between new earlier below
       → IsOverlaid below above both → count ≡ earlier + later → IsGathered id_of old new count both
@@ -52,14 +46,6 @@ module _ {D : Type 0} (id_of : D → Identifier) where
     holds = put_over first.taken below above both first.holds lies ∙ ap (λ (m : Map D). with_each id_of m first.taken) second.holds
         ∙ sym (fold-append (λ (m : Map D) d. fin.insert m (id_of d) d) fin.empty second.taken first.taken);
   }
-
-  -- all of them
-  pub all_gathered : (old new : List D) (count : ℕ) (m : Map D) → IsGathered id_of old new count m → count ≡ length old → m ≡ with_each id_of fin.empty old
-  all_gathered old new count m is all = is.holds ∙ ap (with_each id_of fin.empty) (by new is.old_is)
-    where
-      by : (new : List D) → old ≡ new ++ is.taken → is.taken ≡ old
-      by [] e = sym e
-      by (d ∷ ds) e = absurd (omega (arith, all, is.as_many, ap length e, length-append (d ∷ ds) is.taken))
 
 -- ---- the three collections
 
@@ -75,12 +61,12 @@ concepts_put : (d : Documents) (cs : List Concept) → fold with_concept d cs �
 concepts_put d [] = refl
 concepts_put d (c ∷ cs) = concepts_put (with_concept d c) cs
 
-pub all_put : (d : Documents) (e : Environment) → with_all d e ≡ record {
-  shells = with_each (λ s. encode_utf8_all s.head.id) d.shells e.shells;
-  submodels = with_each (λ s. encode_utf8_all s.head.id) d.submodels e.submodels;
-  concepts = with_each (λ c. encode_utf8_all c.head.id) d.concepts e.concepts;
-}
-all_put d e =
-    ap (λ (d : Documents). fold with_concept (fold with_submodel d e.submodels) e.concepts) (shells_put d e.shells)
-    ∙ ap (λ (d : Documents). fold with_concept d e.concepts) (submodels_put (record d { shells = with_each (λ s. encode_utf8_all s.head.id) d.shells e.shells }) e.submodels)
-    ∙ concepts_put (record d { shells = with_each (λ s. encode_utf8_all s.head.id) d.shells e.shells; submodels = with_each (λ s. encode_utf8_all s.head.id) d.submodels e.submodels }) e.concepts
+pub all_put : (d : Documents) (e : Environment) (new_shells : Map Shell) (new_submodels : Map Submodel) (new_concepts : Map Concept)
+    → new_shells ≡ with_each (λ s. encode_utf8_all s.head.id) d.shells e.shells
+    → new_submodels ≡ with_each (λ s. encode_utf8_all s.head.id) d.submodels e.submodels
+    → new_concepts ≡ with_each (λ c. encode_utf8_all c.head.id) d.concepts e.concepts
+    → record { shells = new_shells; submodels = new_submodels; concepts = new_concepts } ≡ with_all d e
+all_put d e new_shells new_submodels new_concepts is_shells is_submodels is_concepts = sym (
+    ap (λ (d : Documents). fold with_concept (fold with_submodel d e.submodels) e.concepts) (shells_put d e.shells ∙ ap (λ m. record d { shells = m }) (sym is_shells))
+    ∙ ap (λ (d : Documents). fold with_concept d e.concepts) (submodels_put (record d { shells = new_shells }) e.submodels ∙ ap (λ m. record { shells = new_shells; submodels = m; concepts = d.concepts }) (sym is_submodels))
+    ∙ concepts_put (record { shells = new_shells; submodels = new_submodels; concepts = d.concepts }) e.concepts ∙ ap (λ m. record { shells = new_shells; submodels = new_submodels; concepts = m }) (sym is_concepts))
