@@ -16,8 +16,8 @@ ghost use Rattle.aas_reference.specs.Trees.{references};
 ghost use Rattle.aas_record.specs.Forms.{IsCanonical, IsCompact};
 
 use aas_command::{
-    SentValue, asset_text, concept_text, element_text, environment_text, reference_text, shell_text,
-    submodel_text,
+    SentValue, asset_text, concept_text, element_text, environment_text, reference_text,
+    shell_text, submodel_text,
 };
 use aas_json_input::read_value;
 use aas_json_read::{

@@ -1,9 +1,9 @@
 -- Why a command is refused: for each command what of it isn't there or is there already, and then the faults of the documents that it makes. Causes are tried from
 -- the left, and the first that applies is the refusal. This profile's own rule.
-use Rattle.std.specs.Prelude.{ℕ, nat_lt, Bool, true, false, ◌&&◌, ◌||◌, not, is_some, List, [], ◌∷◌, ◌++◌, length, map as each, take, Option, Some, None, option_and_then, option_map, if◌then◌else◌}
+use Rattle.std.specs.Prelude.{ℕ, nat_lt, Bool, true, false, ◌&&◌, not, is_some, List, [], ◌∷◌, ◌++◌, length, map as each, take, Option, Some, None, option_and_then, option_map, if◌then◌else◌}
 use Rattle.std.specs.FinMap as map
 use Rattle.std.specs.List.{list_any}
-use Rattle.std.specs.Option.{option_map_or}
+use Rattle.std.specs.Option.{option_map_or, option_or}
 use Rattle.std.specs.Str.{encode_utf8_all}
 use Rattle.serde_json.specs.Data.{Data}
 use Rattle.aas_model.specs.declared.documents.Environment.{Environment}
@@ -155,12 +155,16 @@ first_repeated_after before (id ∷ more) = if is_among id before then Some (len
 abbrev pub first_repeated : List (List ℕ) → Option ℕ
 first_repeated ids = first_repeated_after [] ids
 
--- one stands twice among its shells, its submodels or its concept descriptions
+-- the first such place among its shells, or else its submodels, or else its concept descriptions
+abbrev pub first_repeated_in : Environment → Option (Collection × ℕ)
+first_repeated_in e =
+    option_or (option_map (λ place. (Shells, place)) (first_repeated (each (λ s. s.head.id) e.shells)))
+    (option_or (option_map (λ place. (Submodels, place)) (first_repeated (each (λ s. s.head.id) e.submodels)))
+    (option_map (λ place. (Concepts, place)) (first_repeated (each (λ c. c.head.id) e.concepts))))
+
+-- an identifier stands twice in one of its three lists
 abbrev pub has_repeated : Environment → Bool
-has_repeated e =
-    is_some (first_repeated (each (λ s. s.head.id) e.shells))
-    || is_some (first_repeated (each (λ s. s.head.id) e.submodels))
-    || is_some (first_repeated (each (λ c. c.head.id) e.concepts))
+has_repeated e = is_some (first_repeated_in e)
 
 -- ---- one row a command
 
