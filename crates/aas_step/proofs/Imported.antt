@@ -1,11 +1,11 @@
 -- An environment's documents put in one after another.
-use Rattle.std.proofs.Common.{◌≡◌, List, [], ◌∷◌, ◌++◌, refl, ap, ◌∙◌}
+use Rattle.std.proofs.Common.{◌≡◌, List, [], ◌∷◌, ◌++◌, refl, ◌∙◌}
 use Rattle.std.specs.List.{fold}
 use Rattle.std.specs.Prelude.{map as each}
 use Rattle.aas_model.specs.declared.documents.Environment.{Environment}
 use Rattle.aas_constraint_rules.specs.Faults.{Document, shell, submodel, concept}
 use Rattle.aas_step.specs.Made.{documents_in, with_document, with_documents}
-use Rattle.aas_store.specs.Documents.{Documents, with_all, with_concept, with_shell, with_submodel}
+use Rattle.aas_store.specs.Documents.{Documents, with_all, with_shell, with_submodel}
 
 put_first : {X : Type 0} (wrap : X → Document) (xs : List X) (d : Documents) (more : List Document)
     → with_documents d (each wrap xs ++ more) ≡ with_documents (fold (λ d x. with_document d (wrap x)) d xs) more
