@@ -1,5 +1,6 @@
 pub mod Bank
 pub mod Causes
+pub mod Checkpoint
 pub mod Gates
 pub mod Given
 pub mod Image

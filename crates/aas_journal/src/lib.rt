@@ -5,6 +5,7 @@
 //! (`aas_outside_disk`).
 #![tactic(auto)]
 
+mod checkpoint;
 mod durable;
 mod fault;
 mod init;
@@ -14,7 +15,7 @@ mod open;
 mod payloads;
 mod walk;
 
-pub use fault::{InitFault, OpenFault};
+pub use fault::{CheckpointFault, InitFault, OpenFault};
 pub use init::init_journal;
 pub use journal::Journal;
 pub use laws::{have_one_condition, have_one_list};
