@@ -9,46 +9,58 @@ use Rattle.aas_outside_disk.specs.Files.{Files, SameOthers, file}
 use Rattle.aas_outside_disk.specs.declared.part.Part.{Part}
 use Rattle.aas_journal.specs.Bank.{IsBankImage, chosen}
 use Rattle.aas_journal.specs.Image.{IsImage, gate_of}
-use Rattle.aas_journal.specs.Kept.{IsPlaced, Keeps}
+use Rattle.aas_journal.specs.Kept.{Keeps}
 use Rattle.aas_journal.proofs.Images.{holds_gate, next_gate, opened, opening, staging}
 use Rattle.aas_journal.proofs.Placed.{same_part}
 
--- The journal's disk before a `keep`.
-module _ (files : Files) (part : Part) (gate : ℕ) (payloads : List (List ℕ)) (at : gate ≡ gate_of payloads (length payloads)) (image : IsBankImage files payloads)
-    (m0 : ℕ) (l0 : ℕ → Files → Type 0) (placed : IsPlaced files (l0 m0) part gate) (payload : List ℕ) (small : length payload < 2 ^ 32)
+-- What the journal keeps before a `keep`.
+module _ (before : Option Files) (part : Part) (gate : ℕ) (payloads : List (List ℕ)) (m0 : ℕ) (l0 : ℕ → Files → Type 0) (kept : Keeps before (l0 m0) part gate payloads) (payload : List ℕ) (small : length payload < 2 ^ 32)
     (frame : List ℕ) (frame_is : frame ≡ frame_bytes payload) where
+  abbrev files : Files
+  files = kept.files
+
+  abbrev at : gate ≡ gate_of payloads (length payloads)
+  at = kept.gate_is
+
   abbrev Old : Files → Type 0
   Old c = (c.selector ≡ files.selector) × IsImage (file part c) payloads
 
-  abbrev New : Files → Type 0
-  New c = (c.selector ≡ files.selector) × IsImage (file part c) (payloads ++ payload ∷ [])
-
   bank : (c : Files) (some : List (List ℕ)) → c.selector ≡ files.selector → IsImage (file part c) some → IsBankImage c some
-  bank c some same it = subst (λ (q : Part). IsImage (file q c) some) (placed.part_is ∙ ap chosen (sym same)) it
+  bank c some same it = subst (λ (q : Part). IsImage (file q c) some) (kept.part_is ∙ ap chosen (sym same)) it
 
   is_told : IsImage (file part files) payloads
-  is_told = subst (λ (q : Part). IsImage (file q files) payloads) (sym placed.part_is) image
+  is_told = subst (λ (q : Part). IsImage (file q files) payloads) (sym kept.part_is) kept.image
 
   stays : (d c : Files) → d.selector ≡ files.selector → SameOthers part d c → c.selector ≡ files.selector
-  stays d c same others = same_part part files.selector d c placed.part_is others same
+  stays d c same others = same_part part files.selector d c kept.part_is others same
+
+  -- a stop in the two writes leaves the selector
+  pub same_selectors : (at1 n1 at2 n2 m1 m2 : ℕ) (l1 l2 : ℕ → Files → Type 0) → m0 ≤ m1 → m1 ≤ m2 → Meanwhile m0 m1 l0 l1 (Tears part at1 n1) → Meanwhile m1 m2 l1 l2 (Tears part at2 n2)
+      → (c : Files) → l2 m2 c → c.selector ≡ files.selector
+  same_selectors at1 n1 at2 n2 m1 m2 l1 l2 first second torn1 torn2 c left =
+      let mid = torn2 m2 second (omega arith) 0 (λ d h. omega arith) c left in
+      let from = torn1 m1 first (omega arith) 0 (λ d h. omega arith) mid.0 mid.1 in
+      stays mid.0 c (stays from.0 mid.0 (kept.selectors from.0 from.1) from.2) mid.2
 
   -- the journal after both writes
-  pub keeps : (seen : Option Files) (told : Files) (staged : List ℕ) → seen ≡ Some told → told.selector ≡ files.selector → staged ≡ written (gate + 1) frame (file part files) → file part told ≡ written gate (1 ∷ []) staged
-      → Keeps seen (gate + length frame) (payloads ++ payload ∷ [])
-  keeps seen told staged told_is same staged_is last_is = record {
+  pub keeps : (seen : Option Files) (images : Files → Type 0) (told : Files) (staged : List ℕ) → seen ≡ Some told → told.selector ≡ files.selector → ((c : Files) → images c → c.selector ≡ files.selector)
+      → staged ≡ written (gate + 1) frame (file part files) → file part told ≡ written gate (1 ∷ []) staged → Keeps seen images part (gate + length frame) (payloads ++ payload ∷ [])
+  keeps seen images told staged told_is same selectors staged_is last_is = record {
     files = told;
     told = told_is;
     image = bank told (payloads ++ payload ∷ []) same
         (opened payloads gate at (file part files) is_told payload small staged (staged_is ∙ ap (λ (l : List ℕ). written (gate + 1) l (file part files)) frame_is) (file part told) last_is);
     gate_is = ap (λ (l : List ℕ). gate + length l) frame_is ∙ next_gate payloads gate at (file part files) is_told payload;
+    part_is = kept.part_is ∙ ap chosen (sym same);
+    selectors = λ c left. selectors c left ∙ sym same;
   }
 
   -- the first write, of the frame behind the gate, where a stop before it leaves images of the payloads alone
   module _ (alone : (c : Files) → l0 m0 c → IsBankImage c payloads) (m1 : ℕ) (l1 : ℕ → Files → Type 0) (past1 : Passes m0 l0 m1 l1) (images1 : Meanwhile m0 m1 l0 l1 (Tears part (gate + 1) (length frame))) where
     begun : (c : Files) → l0 m0 c → Old c
     begun c left =
-        let same = placed.selectors c left in
-        (same, subst (λ (q : Part). IsImage (file q c) payloads) (ap chosen same ∙ sym placed.part_is) (alone c left))
+        let same = kept.selectors c left in
+        (same, subst (λ (q : Part). IsImage (file q c) payloads) (ap chosen same ∙ sym kept.part_is) (alone c left))
 
     in_first : (t : ℕ) → m0 ≤ t → t ≤ m1 → (c : Files) → l1 t c → Old c
     in_first t since until c left =

@@ -1,3 +1,5 @@
+mod Changes
+mod Checkpoints
 pub mod Disks
 pub mod Gates
 mod Heads

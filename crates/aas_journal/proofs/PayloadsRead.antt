@@ -2,14 +2,13 @@
 use Rattle.std.proofs.Common.{◌≡◌, ⊎_elim, ℕ, ◌+◌, ◌<◌, ◌≤◌, ◌^◌, List, [], ◌∷◌, ◌++◌, length, get_or, take, drop, Option, Some, refl, sym, ◌∙◌, ap, subst, arith, append_assoc, length-append, take-append-drop}
 use Rattle.std.specs.Prelude.{sum_by}
 use Rattle.std.specs.Int.{from_be_bytes, w32}
-use Rattle.std.specs.Option.{ForSome}
 use Rattle.std.proofs.lemmas.List.{drop-drop, drop_at, drop_more, take_all, take_at}
 use Rattle.std.proofs.lemmas.Bool.{cases_lt}
 use Rattle.std.proofs.lemmas.List.Sums.{sum_by-append}
 use Rattle.aas_outside_disk.specs.Files.{Files, file}
 use Rattle.aas_outside_disk.specs.declared.part.Part.{Part}
 use Rattle.aas_journal.specs.Image.{IsImage, gate_of, records}
-use Rattle.aas_journal.specs.Kept.{IsPlaced, Keeps}
+use Rattle.aas_journal.specs.Kept.{Keeps}
 use Rattle.aas_journal.proofs.Gates.{header_eight}
 use Rattle.aas_journal.proofs.Images.{length-records, record_size}
 use Rattle.aas_journal.proofs.Records.{read_size, records_then, size, size_four, take_size, drop_size}
@@ -87,12 +86,10 @@ module _ (payloads : List (List ℕ)) (n : ℕ) (below : n < length payloads) wh
       }
 
 -- the payloads of the files that are told
-pub image_told : (seen : Option Files) (images : Files → Type 0) (gate : ℕ) (part : Part) (payloads : List (List ℕ)) (files : Files) → seen ≡ Some files → Keeps seen gate payloads
-    → ForSome seen (λ told. IsPlaced told images part gate) → IsImage (file part files) payloads
-image_told seen images gate part payloads files told kept placed =
+pub image_told : (seen : Option Files) (images : Files → Type 0) (part : Part) (gate : ℕ) (payloads : List (List ℕ)) (files : Files) → seen ≡ Some files → Keeps seen images part gate payloads → IsImage (file part files) payloads
+image_told seen images part gate payloads files told kept =
     let same : kept.files ≡ files = (let e : Some kept.files ≡ Some files = sym kept.told ∙ told in cc e) in
-    subst (λ (f : Files). IsImage (file part f) payloads) same
-    (subst (λ (q : Part). IsImage (file q kept.files) payloads) (sym (placed kept.files kept.told).part_is) kept.image)
+    subst (λ (f : Files). IsImage (file part f) payloads) same (subst (λ (q : Part). IsImage (file q kept.files) payloads) (sym kept.part_is) kept.image)
 
 module _ (file : List ℕ) (at : ℕ) (payload : List ℕ) (it : RecordAt file at payload) where
   pub read_length : (four : List ℕ) → four ≡ take 4 (drop (at + 1) file) → from_be_bytes w32 four ≡ length payload

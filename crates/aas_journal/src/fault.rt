@@ -29,6 +29,17 @@ pub enum OpenFault {
     NoMemory,
 }
 
+/// Why no checkpoint was made.
+#[derive(Clone, Copy, Debug, PartialEq, Eq, Error)]
+pub enum CheckpointFault {
+    /// The file would have more bytes than a journal may. Nothing was written.
+    #[error("the payload is too long for a journal")]
+    Full,
+    /// A call of the disk failed. The disk's count of faults says so too.
+    #[error("the disk failed")]
+    Failed,
+}
+
 impl From<EndFailed> for InitFault {
     ghost use Rattle.std.specs.Prelude.{◌≡◌};
     ghost use Rattle.aas_journal.specs.declared.fault.InitFault.TheVariants as init_fault;
@@ -48,6 +59,17 @@ impl From<EndFailed> for OpenFault {
 
     fn from(_fault: EndFailed) -> OpenFault {
         OpenFault::Failed
+    }
+}
+
+impl From<EndFailed> for CheckpointFault {
+    ghost use Rattle.std.specs.Prelude.{◌≡◌};
+    ghost use Rattle.aas_journal.specs.declared.fault.CheckpointFault.TheVariants as checkpoint_fault;
+
+    ghost from_gives = { λ _ fault. fault ≡ checkpoint_fault.Failed };
+
+    fn from(_fault: EndFailed) -> CheckpointFault {
+        CheckpointFault::Failed
     }
 }
 

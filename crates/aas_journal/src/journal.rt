@@ -1,7 +1,7 @@
 // Records in the chosen file of a disk.
-ghost use Rattle.std.specs.Prelude.{◌≡◌};
+ghost use Rattle.std.specs.Prelude.{◌≡◌, ◌<◌, length};
 ghost use Rattle.std.specs.Option.{ForSome};
-ghost use Rattle.aas_journal.specs.Kept.{IsPlaced};
+ghost use Rattle.aas_outside_disk.specs.Files.{file};
 
 use crate::durable::write_durably;
 use aas_outside::{Failed, Frame, Keeper};
@@ -11,34 +11,37 @@ use aas_outside_disk::{Disk, Part};
 pub(crate) const OPEN: u8 = 1;
 
 /// The most bytes that a journal writes to a file.
-const MOST_BYTES: u64 = 268_435_456;
+pub(crate) const MOST_BYTES: u64 = 268_435_456;
 
 /// The bytes of a gate, of a length and of the gate behind a record.
 const RECORD_BYTES: u64 = 6;
 
 /// Payloads in the chosen file of a disk. Its clock and its count of faults are the disk's.
+///
+/// It is used no more once `keep` or `checkpoint` has failed.
 #[derive(Drop)]
 pub struct Journal<D: Disk> {
     pub(crate) disk: D,
-    /// The chosen file.
+    /// The chosen file, unless a checkpoint has failed.
     pub(crate) part: Part,
     /// Where its closed gate stands.
     pub(crate) gate: u64,
-    ghost placed: { ForSome (D.seen disk) (λ files. IsPlaced files (D.left_at disk (D.moment disk)) part gate) },
+    ghost within: { ForSome (D.seen disk) (λ files. gate < length (file part files)) },
 }
 
 impl<D: Disk> Keeper for Journal<D> {
     ghost use Rattle.aas_outside_disk.specs.Files.{Files};
     ghost use Rattle.aas_journal.specs.Bank.{IsBankImage};
-    ghost use Rattle.aas_journal.specs.Kept.{Keeps, fits, has_room_behind, limit_law, room_law};
+    ghost use Rattle.aas_journal.specs.Kept.{fits, has_room_behind, limit_law, room_law};
     ghost use Rattle.aas_journal.specs.Image.{gate_of};
+    ghost use Rattle.aas_journal.specs.Shown.{kept_by};
     ghost use Rattle.std.specs.Prelude.{length};
 
     ghost Image = { Files };
 
     ghost stands_for = { IsBankImage };
 
-    ghost kept = { λ journal. Keeps (D.seen journal.disk) journal.gate };
+    ghost kept = { kept_by };
 
     ghost room_behind = { λ journal. has_room_behind };
 
@@ -50,7 +53,8 @@ impl<D: Disk> Keeper for Journal<D> {
 
     ghost faults = { λ journal. D.faults journal.disk };
 
-    ghost room_by_payloads = { λ journal. room_law (D.seen journal.disk) journal.gate };
+    ghost room_by_payloads = { λ journal. room_law (D.seen journal.disk) (D.left_at journal.disk (D.moment journal.disk)) journal.part
+        journal.gate };
 
     ghost room_limit = { λ journal payloads. limit_law (gate_of payloads (length payloads)) };
 

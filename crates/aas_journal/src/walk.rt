@@ -1,5 +1,5 @@
 // The walk over the gates of a file.
-ghost use Rattle.std.specs.Prelude.{◌≡◌, ◌≢◌, ◌<◌, ◌≤◌, ◌↔◌, Err, IfErr, IfOk, IfSome, IsTrue, OnOk, drop, length, take};
+ghost use Rattle.std.specs.Prelude.{◌≡◌, ◌≢◌, ◌<◌, ◌≤◌, ◌↔◌, Err, IfErr, IfOk, IfSome, IsTrue, OnOk, drop, length, slice_index, take};
 ghost use Rattle.std.specs.Int.{from_be_bytes, to_be_bytes, w32};
 ghost use Rattle.aas_journal.specs.Bank.{chosen, chosen_file};
 ghost use Rattle.aas_journal.specs.Causes.{HasFault};
@@ -18,7 +18,7 @@ use aas_outside::Failed;
 use aas_outside_disk::{Disk, Part};
 
 /// The place of the first gate, which is the length of a header.
-const FIRST_GATE: u64 = 8;
+pub const FIRST_GATE: u64 = 8;
 
 /// The bytes of a gate and of the length behind it.
 pub const HEAD_BYTES: u64 = 5;
@@ -35,6 +35,20 @@ pub enum Gate {
     PastEnd,
 }
 
+/// The first byte of the selector, or 0 where it is empty.
+pub fn first_of_selector<D: Disk>(disk: &mut D) -> Result<u8, Failed>
+    ensures value { IfOk result (λ byte. IfSome (D.seen disk.old) (λ files. byte ≡ slice_index files.selector 0)) }
+    ensures reads { OnlyReads D.seen D.moment D.left_at disk.old disk.new }
+    ensures cause { HasCause (D.faults disk.old) (D.faults disk.new) result }
+{
+    if disk.length(Part::Selector)? == 0 {
+        return Ok(0);
+    }
+    let mut first = [0];
+    disk.read_at(Part::Selector, 0, &mut first)?;
+    Ok(first[0])
+}
+
 /// The part that the selector chooses, after a sync of the selector.
 fn chosen_part<D: Disk>(disk: &mut D) -> Result<Part, Failed>
     ensures value { IfOk result (λ part. IfSome (D.seen disk.old) (λ files. part ≡ chosen files.selector)) }
@@ -44,12 +58,7 @@ fn chosen_part<D: Disk>(disk: &mut D) -> Result<Part, Failed>
     ensures cause { HasCause (D.faults disk.old) (D.faults disk.new) result }
 {
     disk.sync(Part::Selector)?;
-    if disk.length(Part::Selector)? == 0 {
-        return Ok(Part::Main);
-    }
-    let mut first = [0];
-    disk.read_at(Part::Selector, 0, &mut first)?;
-    Ok(if first[0] % 2 == 0 {
+    Ok(if first_of_selector(disk)? % 2 == 0 {
         Part::Main
     } else {
         Part::Spare

@@ -1,4 +1,4 @@
-use Rattle.std.proofs.Common.{◌≡◌, ◌∙◌, ◌<◌, Some, length, sym, subst}
+use Rattle.std.proofs.Common.{◌∙◌, ◌<◌, length, sym, subst}
 use Rattle.aas_outside_disk.specs.Files.{file}
 use Rattle.aas_outside_disk.specs.declared.part.Part.{Part}
 use Rattle.aas_journal.specs.Bank.{chosen_file}
@@ -13,14 +13,9 @@ invariant_of-result g c =
     let D = g.D.Disk in
     let made = c.in-Ok.ensures in
     record {
-      placed = λ files told.
-          let before : D.seen c.args.disk ≡ Some files = sym made.reads.same ∙ told in
-          let found = known files (D.seen c.args.disk) _ before made.found in
-          record {
-            part_is = found.0;
-            selectors = known files (D.seen c.args.disk) _ before made.durable.0;
-            within = subst (λ (part : Part). c.in-Ok.end.gate < length (file part files)) (sym found.0) (closed_within (chosen_file files) c.in-Ok.end.gate found.1);
-          };
+      within = λ files told.
+          let found = known files (D.seen c.args.disk) _ (sym made.reads.same ∙ told) made.found in
+          subst (λ (part : Part). c.in-Ok.end.gate < length (file part files)) (sym found.0) (closed_within (chosen_file files) c.in-Ok.end.gate found.1);
     }
 
 pub returns-in-Ok-clause-image : goal.returns-in-Ok-clause-image
@@ -32,6 +27,8 @@ returns-in-Ok-clause-image g c =
       told = made.reads.same ∙ told;
       image = image;
       gate_is = closed_behind (chosen_file files) c.in-Ok.end.gate payloads (known files (D.seen c.args.disk) _ told made.found).1 image;
+      part_is = (known files (D.seen c.args.disk) _ told made.found).0;
+      selectors = known files (D.seen c.args.disk) _ told made.durable.0;
     })
 
 pub returns-in-Ok-clause-damaged : goal.returns-in-Ok-clause-damaged

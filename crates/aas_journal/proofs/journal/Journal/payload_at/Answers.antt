@@ -18,7 +18,7 @@ read_at-requires g c =
     where_told (D.seen self.disk) _ (λ files told.
     let at = known files (D.seen self.disk) _ told c.requires in
     let below = not_last at.0 at.2 c.args.at self.gate at.3.within at.3.at_is at.1.gate_is c.if-at-self.false in
-    let image = image_told (D.seen self.disk) (D.left_at self.disk (D.moment self.disk)) self.gate self.part at.0 files told at.1 self.placed in
+    let image = image_told (D.seen self.disk) (D.left_at self.disk (D.moment self.disk)) self.part self.gate at.0 files told at.1 in
     let it = record_at at.0 at.2 below (file self.part files) c.args.at image at.3.at_is in
     omega (arith, it.enough))
 
@@ -30,7 +30,7 @@ append_from-requires g c =
     let told : D.seen self.disk ≡ Some files = sym c.read_at.ensures.seen ∙ now_told in
     let at = known files (D.seen self.disk) _ told c.requires in
     let below = not_last at.0 at.2 c.args.at self.gate at.3.within at.3.at_is at.1.gate_is c.if-at-self.false in
-    let image = image_told (D.seen self.disk) (D.left_at self.disk (D.moment self.disk)) self.gate self.part at.0 files told at.1 self.placed in
+    let image = image_told (D.seen self.disk) (D.left_at self.disk (D.moment self.disk)) self.part self.gate at.0 files told at.1 in
     let it = record_at at.0 at.2 below (file self.part files) c.args.at image at.3.at_is in
     let count : c.length_in-length.result ≡ length (get_or at.0 at.2 []) =
     c.length_in-length.ensures.value ∙ read_length (file self.part files) c.args.at (get_or at.0 at.2 []) it c.read_at.new.buf (known files (D.seen self.disk) _ told c.in_ok-read_at.ensures.value) in
@@ -43,7 +43,7 @@ returns-clause-given g c = λ payloads n kept gate.
     let files = kept.files in
     let told = kept.told in
     let below = not_last payloads n c.args.at self.gate gate.within gate.at_is kept.gate_is c.if-at-self.false in
-    let image = image_told (D.seen self.disk) (D.left_at self.disk (D.moment self.disk)) self.gate self.part payloads files told kept self.placed in
+    let image = image_told (D.seen self.disk) (D.left_at self.disk (D.moment self.disk)) self.part self.gate payloads files told kept in
     let payload = get_or payloads n [] in
     let it = record_at payloads n below (file self.part files) c.args.at image gate.at_is in
     let count : c.length_in-length.result ≡ length payload =

@@ -3,8 +3,8 @@ use Rattle.aas_outside.specs.declared.link.Failed.{Failed}
 use Rattle.aas_outside_disk.specs.Files.{file}
 use Rattle.aas_journal.specs.Kept.{limit_law}
 use Rattle.aas_journal.proofs.Disks.{known, told}
-use Rattle.aas_journal.proofs.Placed.{placed_further, placed_write, same_part}
-use Rattle.aas_journal.proofs.Keeping.{at_err, failed_first, failed_second, keeps, kept_in_turn}
+use Rattle.aas_journal.proofs.Placed.{same_part, within_further, within_write}
+use Rattle.aas_journal.proofs.Keeping.{at_err, failed_first, failed_second, keeps, kept_in_turn, same_selectors}
 use Rattle.aas_journal.proofs.journal.JournalKeeper.keep.Goals as goal
 
 pub invariant_of-self : goal.invariant_of-self
@@ -12,30 +12,24 @@ invariant_of-self g c =
     let D = g.D.Disk in
     let self = c.args.self.now in
     record {
-      placed = placed_write D.seen D.moment D.left_at self.part self.disk c.write_durably.new.disk c.write_durably.ensures.past.later (self.gate + 1) c.bytes-bytes.result.now c.write_durably.result self.gate
-          self.placed c.write_durably.ensures.written c.write_durably.ensures.images;
+      within = within_write (D.seen self.disk) (D.seen c.write_durably.new.disk) self.part self.gate (self.gate + 1) c.bytes-bytes.result.now c.write_durably.result self.within c.write_durably.ensures.written;
     }
 
 pub invariant_of-self-in-Break-branch-2 : goal.invariant_of-self-in-Break-branch-2
 invariant_of-self-in-Break-branch-2 g c =
     let D = g.D.Disk in
     let self = c.args.self.now in
-    let first = placed_write D.seen D.moment D.left_at self.part self.disk c.write_durably.new.disk c.write_durably.ensures.past.later (self.gate + 1) c.bytes-bytes.result.now c.write_durably.result self.gate
-    self.placed c.write_durably.ensures.written c.write_durably.ensures.images in
-    record {
-      placed = placed_write D.seen D.moment D.left_at self.part c.write_durably.new.disk c.write_durably-2.new.disk c.write_durably-2.ensures.past.later self.gate (1 ∷ []) c.write_durably-2.result self.gate
-          first c.write_durably-2.ensures.written c.write_durably-2.ensures.images;
-    }
+    let first = within_write (D.seen self.disk) (D.seen c.write_durably.new.disk) self.part self.gate (self.gate + 1) c.bytes-bytes.result.now c.write_durably.result self.within c.write_durably.ensures.written in
+    record { within = within_write (D.seen c.write_durably.new.disk) (D.seen c.write_durably-2.new.disk) self.part self.gate self.gate (1 ∷ []) c.write_durably-2.result first c.write_durably-2.ensures.written }
 
 pub invariant_of-self-2 : goal.invariant_of-self-2
 invariant_of-self-2 g c =
     let D = g.D.Disk in
     let self = c.args.self.now in
-    let first = placed_further D.seen D.moment D.left_at self.part self.disk c.write_durably.new.disk c.write_durably.ensures.past.later Failed c.bytes-bytes.result.now self.gate
-    self.placed c.in_ok-write_durably.ensures.written c.write_durably.ensures.images in
+    let frame = c.bytes-bytes.result.now in
+    let first = within_further Failed (D.seen self.disk) (D.seen c.write_durably.new.disk) self.part self.gate frame self.within c.in_ok-write_durably.ensures.written in
     record {
-      placed = placed_write D.seen D.moment D.left_at self.part c.write_durably.new.disk c.write_durably-2.new.disk c.write_durably-2.ensures.past.later self.gate (1 ∷ []) c.write_durably-2.result
-          (self.gate + length c.bytes-bytes.result.now) first c.write_durably-2.ensures.written c.write_durably-2.ensures.images;
+      within = within_write (D.seen c.write_durably.new.disk) (D.seen c.write_durably-2.new.disk) self.part (self.gate + length frame) self.gate (1 ∷ []) c.write_durably-2.result first c.write_durably-2.ensures.written;
     }
 
 pub returns-clause-kept : goal.returns-clause-kept
@@ -44,18 +38,20 @@ returns-clause-kept g c = λ payloads kept.
     let self = c.args.self.now in
     let t = told kept.files (D.seen self.disk) (D.seen c.write_durably.new.disk) _ kept.told c.in_ok-write_durably.ensures.written in
     let u = told t.0 (D.seen c.write_durably.new.disk) (D.seen c.write_durably-2.new.disk) _ t.1 c.in_ok-write_durably-2.ensures.written in
-    let placed = self.placed kept.files kept.told in
-    keeps kept.files self.part self.gate payloads kept.gate_is kept.image (D.moment self.disk) (D.left_at self.disk) placed c.args.frame.now (limit_law self.gate (length c.args.frame.now) c.requires)
-    c.bytes-bytes.result.now c.bytes-bytes.ensures (D.seen c.write_durably-2.new.disk) u.0 (file self.part t.0) u.1
-    (same_part self.part kept.files.selector t.0 u.0 placed.part_is u.2.0 (same_part self.part kept.files.selector kept.files t.0 placed.part_is t.2.0 refl)) t.2.2 u.2.2
+    let small = limit_law self.gate (length c.args.frame.now) c.requires in
+    keeps (D.seen self.disk) self.part self.gate payloads (D.moment self.disk) (D.left_at self.disk) kept c.args.frame.now small c.bytes-bytes.result.now c.bytes-bytes.ensures
+    (D.seen c.write_durably-2.new.disk) (D.left_at c.write_durably-2.new.disk (D.moment c.write_durably-2.new.disk)) u.0 (file self.part t.0) u.1
+    (same_part self.part kept.files.selector t.0 u.0 kept.part_is u.2.0 (same_part self.part kept.files.selector kept.files t.0 kept.part_is t.2.0 refl))
+    (same_selectors (D.seen self.disk) self.part self.gate payloads (D.moment self.disk) (D.left_at self.disk) kept c.args.frame.now small c.bytes-bytes.result.now c.bytes-bytes.ensures
+    (self.gate + 1) (length c.bytes-bytes.result.now) self.gate 1 (D.moment c.write_durably.new.disk) (D.moment c.write_durably-2.new.disk) (D.left_at c.write_durably.new.disk) (D.left_at c.write_durably-2.new.disk)
+    c.write_durably.ensures.past.later c.write_durably-2.ensures.past.later c.write_durably.ensures.images c.write_durably-2.ensures.images) t.2.2 u.2.2
 
 pub returns-in_err-write_durably-clause-in_turn : goal.returns-in_err-write_durably-clause-in_turn
 returns-in_err-write_durably-clause-in_turn g c = λ payloads settled.
     let D = g.D.Disk in
     let self = c.args.self.now in
-    let kept = settled.told in
     at_err _ c.from_residual.result c.from_residual.ensures.0
-    (failed_first kept.files self.part self.gate payloads kept.gate_is kept.image (D.moment self.disk) (D.left_at self.disk) (self.placed kept.files kept.told) c.args.frame.now (limit_law self.gate (length c.args.frame.now) c.requires)
+    (failed_first (D.seen self.disk) self.part self.gate payloads (D.moment self.disk) (D.left_at self.disk) settled.told c.args.frame.now (limit_law self.gate (length c.args.frame.now) c.requires)
     c.bytes-bytes.result.now c.bytes-bytes.ensures settled.alone (D.moment c.write_durably.new.disk) (D.left_at c.write_durably.new.disk) c.write_durably.ensures.past c.write_durably.ensures.images)
 
 pub returns-in_err-write_durably-2-clause-in_turn : goal.returns-in_err-write_durably-2-clause-in_turn
@@ -65,7 +61,7 @@ returns-in_err-write_durably-2-clause-in_turn g c = λ payloads settled.
     let kept = settled.told in
     let t = told kept.files (D.seen self.disk) (D.seen c.write_durably.new.disk) _ kept.told c.in_ok-write_durably.ensures.written in
     at_err _ c.from_residual-in_err-write_durably-2.result c.from_residual-in_err-write_durably-2.ensures.0
-    (failed_second kept.files self.part self.gate payloads kept.gate_is kept.image (D.moment self.disk) (D.left_at self.disk) (self.placed kept.files kept.told) c.args.frame.now (limit_law self.gate (length c.args.frame.now) c.requires)
+    (failed_second (D.seen self.disk) self.part self.gate payloads (D.moment self.disk) (D.left_at self.disk) kept c.args.frame.now (limit_law self.gate (length c.args.frame.now) c.requires)
     c.bytes-bytes.result.now c.bytes-bytes.ensures settled.alone (D.moment c.write_durably.new.disk) (D.left_at c.write_durably.new.disk) c.write_durably.ensures.past c.write_durably.ensures.images
     (file self.part t.0) t.2.2 (known t.0 (D.seen c.write_durably.new.disk) _ t.1 c.in_ok-write_durably.ensures.durable)
     (D.moment c.write_durably-2.new.disk) (D.left_at c.write_durably-2.new.disk) c.write_durably-2.ensures.past c.write_durably-2.ensures.images)
@@ -77,7 +73,7 @@ returns-clause-in_turn g c = λ payloads settled.
     let kept = settled.told in
     let t = told kept.files (D.seen self.disk) (D.seen c.write_durably.new.disk) _ kept.told c.in_ok-write_durably.ensures.written in
     let u = told t.0 (D.seen c.write_durably.new.disk) (D.seen c.write_durably-2.new.disk) _ t.1 c.in_ok-write_durably-2.ensures.written in
-    kept_in_turn kept.files self.part self.gate payloads kept.gate_is kept.image (D.moment self.disk) (D.left_at self.disk) (self.placed kept.files kept.told) c.args.frame.now (limit_law self.gate (length c.args.frame.now) c.requires)
+    kept_in_turn (D.seen self.disk) self.part self.gate payloads (D.moment self.disk) (D.left_at self.disk) kept c.args.frame.now (limit_law self.gate (length c.args.frame.now) c.requires)
     c.bytes-bytes.result.now c.bytes-bytes.ensures settled.alone (D.moment c.write_durably.new.disk) (D.left_at c.write_durably.new.disk) c.write_durably.ensures.past c.write_durably.ensures.images
     (file self.part t.0) t.2.2 (known t.0 (D.seen c.write_durably.new.disk) _ t.1 c.in_ok-write_durably.ensures.durable)
     (D.moment c.write_durably-2.new.disk) (D.left_at c.write_durably-2.new.disk) c.write_durably-2.ensures.past c.write_durably-2.ensures.images

@@ -1,0 +1,108 @@
+// How one payload is put in the place of all.
+ghost use Rattle.std.specs.Prelude.{◌≡◌, ◌<◌, ◌≤◌, ◌+◌, ◌↔◌, [], ◌∷◌, List, ℕ, Err, Some, IfSome, OnOk, length};
+ghost use Rattle.aas_journal.specs.Bank.{IsBankImage};
+ghost use Rattle.aas_journal.specs.Checkpoint.{ChangesOnly, EitherDuring, Rewrites, checkpointed, one_record, other, turned};
+ghost use Rattle.aas_journal.specs.Kept.{most_bytes};
+ghost use Rattle.aas_journal.specs.Shown.{disk_of};
+ghost use Rattle.aas_journal.specs.declared.fault.CheckpointFault.TheVariants.{Failed as DiskFailed, Full};
+ghost use Rattle.aas_outside.specs.Faults.{HasCause, Rose};
+ghost use Rattle.aas_outside.specs.Moments.{IsSettled, Passes};
+ghost use Rattle.aas_outside_disk.specs.Disk.{HoldsWhatIsRead, Meanwhile, written};
+ghost use Rattle.aas_outside_disk.specs.declared.part.Part.TheVariants.{Selector};
+
+use crate::durable::write_durably;
+use crate::journal::MOST_BYTES;
+use crate::walk::{FIRST_GATE, HEAD_BYTES, first_of_selector};
+use crate::{CheckpointFault, Journal};
+use aas_outside::{Failed, Frame, Keeper};
+use aas_outside_disk::{Disk, Part};
+
+/// The newer header and an open gate.
+const BEGINNING: &[u8; 9] = b"AASJ0002\x01";
+
+/// The bytes of a journal of one payload besides it: the header, the gate, the length and the closed gate.
+const BYTES_BESIDES: u64 = 14;
+
+impl<D: Disk> Journal<D> {
+    /// Puts one payload in the place of all: it is written to the file that isn't chosen, which is then chosen. A stop at any
+    /// moment leaves the payloads from before or the one, and at `Ok` the one. The file that had the payloads stays as it is.
+    /// It takes no memory.
+    ///
+    /// # Errors
+    ///
+    /// `Full`, exactly where the file would have more than 268,435,456 bytes; `Failed`, where the disk's count of faults rises
+    /// too. Then a stop may leave the payloads from before or the one, and the journal is used no more.
+    pub fn checkpoint(&mut self, frame: &Frame) -> Result<(), CheckpointFault>
+        // The one payload is kept, and whatever a stop leaves from now on is its image.
+        ensures settled { (payloads : List (List ℕ)) → ⟦<Journal<D> as Keeper>⟧.kept self.old payloads →
+            OnOk result (IsSettled IsBankImage (⟦<Journal<D> as Keeper>⟧.kept self.new)
+            (⟦<Journal<D> as Keeper>⟧.moment self.new) (⟦<Journal<D> as Keeper>⟧.left_at self.new) (frame.now ∷ [])) }
+
+        // At each moment since the start a stop leaves the image of the payloads from before, or of the one.
+        ensures meanwhile { (payloads : List (List ℕ)) → IsSettled IsBankImage (⟦<Journal<D> as Keeper>⟧.kept self.old)
+            (⟦<Journal<D> as Keeper>⟧.moment self.old) (⟦<Journal<D> as Keeper>⟧.left_at self.old) payloads →
+            EitherDuring IsBankImage (⟦<Journal<D> as Keeper>⟧.left_at self.new)
+            (⟦<Journal<D> as Keeper>⟧.moment self.old) (⟦<Journal<D> as Keeper>⟧.moment self.new) payloads (frame.now ∷ []) }
+
+        ensures bytes { (payloads : List (List ℕ)) → ⟦<Journal<D> as Keeper>⟧.kept self.old payloads →
+            OnOk result (IfSome (D.seen (disk_of self.old)) (λ files.
+            D.seen (disk_of self.new) ≡ Some (checkpointed frame.now files))) }
+
+        ensures full { result ≡ Err Full ↔ most_bytes < length frame.now + 14 }
+        ensures unchanged { result ≡ Err Full → self.new ≡ self.old }
+        ensures failed { result ≡ Err DiskFailed → Rose (D.faults (disk_of self.old)) (D.faults (disk_of self.new)) }
+        ensures later { D.faults (disk_of self.old) ≤ D.faults (disk_of self.new) }
+        ensures past { Passes (D.moment (disk_of self.old)) (D.left_at (disk_of self.old))
+            (D.moment (disk_of self.new)) (D.left_at (disk_of self.new)) }
+    {
+        if frame.len() + BYTES_BESIDES > MOST_BYTES {
+            return Err(CheckpointFault::Full);
+        }
+        let part = other(self.part);
+        write_alone(&mut self.disk, part, frame)?;
+        turn_selector(&mut self.disk)?;
+        self.part = part;
+        self.gate = FIRST_GATE + HEAD_BYTES + frame.len();
+        Ok(())
+    }
+}
+
+/// The file of records that isn't this one.
+fn other(part: Part) -> Part
+    ensures { result ≡ other part }
+{
+    match part {
+        Part::Main => Part::Spare,
+        Part::Spare | Part::Selector => Part::Main,
+    }
+}
+
+/// Writes the payload as the one record of a file, and syncs the file.
+fn write_alone<D: Disk>(disk: &mut D, part: Part, frame: &Frame) -> Result<(), Failed>
+    ensures rewritten { Rewrites part (written 0 (one_record frame.now)) (D.seen disk.old) (D.seen disk.new) result }
+    ensures durable { OnOk result
+        (HoldsWhatIsRead part (D.seen disk.new) (D.left_at disk.new (D.moment disk.new))) }
+    ensures images { Meanwhile (D.moment disk.old) (D.moment disk.new)
+        (D.left_at disk.old) (D.left_at disk.new) (ChangesOnly part) }
+    ensures past { Passes (D.moment disk.old) (D.left_at disk.old)
+        (D.moment disk.new) (D.left_at disk.new) }
+    ensures cause { HasCause (D.faults disk.old) (D.faults disk.new) result }
+{
+    disk.write_at(part, 0, BEGINNING)?;
+    write_durably(disk, part, FIRST_GATE + 1, frame.bytes())
+}
+
+/// Makes the other file of records the chosen one, and syncs the selector.
+fn turn_selector<D: Disk>(disk: &mut D) -> Result<(), Failed>
+    ensures rewritten { Rewrites Selector turned (D.seen disk.old) (D.seen disk.new) result }
+    ensures durable { OnOk result
+        (HoldsWhatIsRead Selector (D.seen disk.new) (D.left_at disk.new (D.moment disk.new))) }
+    ensures images { Meanwhile (D.moment disk.old) (D.moment disk.new)
+        (D.left_at disk.old) (D.left_at disk.new) (ChangesOnly Selector) }
+    ensures past { Passes (D.moment disk.old) (D.left_at disk.old)
+        (D.moment disk.new) (D.left_at disk.new) }
+    ensures cause { HasCause (D.faults disk.old) (D.faults disk.new) result }
+{
+    let first = first_of_selector(disk)?;
+    write_durably(disk, Part::Selector, 0, &[first.wrapping_add(1)])
+}
