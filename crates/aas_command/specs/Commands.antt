@@ -1,5 +1,5 @@
 -- Which commands are well formed, and the payloads in which they are kept: a tag byte, and then fields, each with its length as four bytes, greatest first, before
--- it. Documents, elements and references are canonical texts, values compact ones, identifiers and paths are UTF-8. This profile's own rule.
+-- it. Documents, environments, elements and references are canonical texts, values compact ones, identifiers and paths are UTF-8. This profile's own rule.
 use Rattle.std.specs.Prelude.{ℕ, ◌+◌, ◌≤◌, List, [], ◌∷◌, ◌++◌, length, flat_map, ⊤}
 use Rattle.std.specs.Int.{to_be_bytes, w32}
 use Rattle.std.specs.Str.{encode_utf8_all}
@@ -9,14 +9,14 @@ use Rattle.serde_json.specs.Written.{compact_text}
 use Rattle.aas_json_table.specs.TooDeep.{limits}
 use Rattle.aas_json_spelling.specs.Spells.{canonical_text}
 use Rattle.aas_json_spelling.specs.Values.{IsOrdered, HasWholeNumbers}
-use Rattle.aas_json_mapping.specs.Trees.{asset_informations, concepts, elements, shells, submodels}
+use Rattle.aas_json_mapping.specs.Trees.{asset_informations, concepts, elements, environments, shells, submodels}
 use Rattle.aas_model.specs.declared.path.PathStep.{PathStep}
 use Rattle.aas_path.specs.PathText.{path_text}
 use Rattle.aas_path_trees.specs.PathRule.{KeepsRule}
 use Rattle.aas_edit_laws.specs.Laws.{at_level}
 use Rattle.aas_reference.specs.Trees.{references}
 use Rattle.aas_command.specs.declared.command.Command.{Command}
-use Rattle.aas_command.specs.declared.command.Command.TheVariants.{CreateShell, CreateSubmodel, CreateConcept, ReplaceShell, ReplaceSubmodel, ReplaceConcept, DeleteShell, DeleteSubmodel, DeleteConcept, SetAsset, AddReference, DropReference, InsertElement, ReplaceElement, DeleteElement, UpdateValue}
+use Rattle.aas_command.specs.declared.command.Command.TheVariants.{CreateShell, CreateSubmodel, CreateConcept, ReplaceShell, ReplaceSubmodel, ReplaceConcept, DeleteShell, DeleteSubmodel, DeleteConcept, SetAsset, AddReference, DropReference, InsertElement, ReplaceElement, DeleteElement, UpdateValue, Import}
 
 -- a path that can be written, or the empty one, which leads to the submodel
 abbrev pub IsPlace : List PathStep → Type 0
@@ -48,6 +48,7 @@ IsWellFormed (InsertElement id p e) = IsPlace p.steps × elements.IsWhole (at_le
 IsWellFormed (ReplaceElement id p e) = KeepsRule p.steps × elements.IsWhole (at_level (length p.steps)) e
 IsWellFormed (DeleteElement id p) = KeepsRule p.steps
 IsWellFormed (UpdateValue id p v) = IsPlace p.steps × IsSendable v
+IsWellFormed (Import e) = environments.IsWhole limits e
 
 -- a tag, and the fields behind it
 pub record Tagged : Type 0 where
@@ -74,6 +75,7 @@ tagged_of (InsertElement id p e) = tagged 13 (encode_utf8_all id ∷ path_text p
 tagged_of (ReplaceElement id p e) = tagged 14 (encode_utf8_all id ∷ path_text p.steps ∷ canonical_text elements e ∷ [])
 tagged_of (DeleteElement id p) = tagged 15 (encode_utf8_all id ∷ path_text p.steps ∷ [])
 tagged_of (UpdateValue id p v) = tagged 16 (encode_utf8_all id ∷ path_text p.steps ∷ compact_text v ∷ [])
+tagged_of (Import e) = tagged 17 (canonical_text environments e ∷ [])
 
 abbrev pub field : List ℕ → List ℕ
 field bytes = to_be_bytes w32 (length bytes) ++ bytes

@@ -1,17 +1,19 @@
-// Canonical texts of whole documents, elements and references.
+// Canonical texts of whole documents, environments, elements and references.
 ghost use Rattle.std.specs.Prelude.{◌≡◌, true, IfOk};
 ghost use Rattle.std.specs.Str.{IsUtf8};
 ghost use Rattle.aas_json_spelling.specs.Spells.{canonical_text};
-ghost use Rattle.aas_json_mapping.specs.Trees.{asset_informations, concepts, elements, shells, submodels};
+ghost use Rattle.aas_json_mapping.specs.Trees.{asset_informations, concepts, elements, environments, shells, submodels};
 ghost use Rattle.aas_json_table.specs.TooDeep.{limits};
 ghost use Rattle.aas_json_write.specs.Order.{element_in_order};
 ghost use Rattle.aas_reference.specs.Trees.{references};
 
 use aas_json_write::{
-    whole_trees_are_in_order, write_asset_information, write_concept, write_element, write_shell,
-    write_submodel,
+    whole_trees_are_in_order, write_asset_information, write_concept, write_element,
+    write_environment, write_shell, write_submodel,
 };
-use aas_model::{AssetInformation, Concept, Element, NoMemory, Reference, Shell, Submodel};
+use aas_model::{
+    AssetInformation, Concept, Element, Environment, NoMemory, Reference, Shell, Submodel,
+};
 use aas_reference::write_reference;
 use std::alloc::Global;
 
@@ -48,6 +50,18 @@ pub fn concept_text(alloc: Global, concept: &Concept) -> Result<Vec<u8>, NoMemor
     whole_trees_are_in_order();
     let mut text = Vec::new(alloc);
     write_concept(alloc, concept, &mut text)?;
+    Ok(text)
+}
+
+/// The canonical text of an environment.
+pub fn environment_text(alloc: Global, environment: &Environment) -> Result<Vec<u8>, NoMemory>
+    requires { environments.IsWhole limits environment.now }
+    ensures text { IfOk result (λ text. text.items ≡ canonical_text environments environment.now) }
+    ensures utf8 { IfOk result (λ text. IsUtf8 text.items) }
+{
+    whole_trees_are_in_order();
+    let mut text = Vec::new(alloc);
+    write_environment(alloc, environment, &mut text)?;
     Ok(text)
 }
 

@@ -1,5 +1,7 @@
 use crate::SentValue;
-use aas_model::{AssetInformation, Concept, Element, Path, Reference, Shell, Submodel, Text};
+use aas_model::{
+    AssetInformation, Concept, Element, Environment, Path, Reference, Shell, Submodel, Text,
+};
 
 /// A change of the repository.
 ///
@@ -74,5 +76,9 @@ pub enum Command {
         submodel: Text,
         path: Path,
         value: SentValue,
+    },
+    /// Import an environment: each of its documents is created or replaced.
+    Import {
+        environment: Environment,
     },
 }

@@ -12,7 +12,8 @@ ghost use Rattle.aas_path.specs.PathText.{path_text};
 ghost use Rattle.std.specs.Str.{encode_utf8_all};
 
 use crate::canonical::{
-    asset_text, concept_text, element_text, reference_text, shell_text, submodel_text,
+    asset_text, concept_text, element_text, environment_text, reference_text, shell_text,
+    submodel_text,
 };
 use crate::{Command, SentValue};
 use aas_json_write::whole_trees_are_in_order;
@@ -123,6 +124,9 @@ fn payload(alloc: Global, command: &Command) -> Result<Vec<u8>, EncodeFault>
             path,
             value,
         } => value_payload(alloc, submodel, path, value),
+        Command::Import { environment } => {
+            one_field(alloc, 17, &environment_text(alloc, environment)?)
+        }
     }
 }
 

@@ -13,7 +13,8 @@ mod sent_value;
 mod text;
 
 pub use canonical::{
-    asset_text, concept_text, element_text, reference_text, shell_text, submodel_text,
+    asset_text, concept_text, element_text, environment_text, reference_text, shell_text,
+    submodel_text,
 };
 pub use command::Command;
 pub use encoding::{EncodeFault, encode};

@@ -7,9 +7,9 @@ use Rattle.aas_json_spelling.specs.Lists.{Each}
 use Rattle.aas_command.specs.Commands.{IsWellFormed, bytes_of, field, payload_of, tagged, tagged_of}
 use Rattle.aas_command.specs.Encoding.{HasFields, IsField}
 use Rattle.aas_command.specs.declared.command.Command.{Command}
-use Rattle.aas_command.specs.declared.command.Command.TheVariants.{CreateShell, CreateSubmodel, CreateConcept, ReplaceShell, ReplaceSubmodel, ReplaceConcept, DeleteShell, DeleteSubmodel, DeleteConcept, SetAsset, AddReference, DropReference, InsertElement, ReplaceElement, DeleteElement, UpdateValue}
+use Rattle.aas_command.specs.declared.command.Command.TheVariants.{CreateShell, CreateSubmodel, CreateConcept, ReplaceShell, ReplaceSubmodel, ReplaceConcept, DeleteShell, DeleteSubmodel, DeleteConcept, SetAsset, AddReference, DropReference, InsertElement, ReplaceElement, DeleteElement, UpdateValue, Import}
 use Rattle.aas_record.specs.Fields.{Begins}
-use Rattle.aas_record.specs.Forms.{Form, identifier, shell, submodel, concept, asset_information, reference, path, place, element, child, value, HasForm, forms_of}
+use Rattle.aas_record.specs.Forms.{Form, identifier, shell, submodel, concept, asset_information, reference, path, place, element, child, value, environment, HasForm, forms_of}
 use Rattle.aas_record.specs.Records.{IsRecord, IsNoRecord, IsRecordFault, FailsAt}
 use Rattle.aas_record.specs.Reading.{IsFieldFault, IsLastFault}
 use Rattle.aas_record.specs.declared.fault.RecordFault.{RecordFault}
@@ -54,6 +54,7 @@ right_payload (DeleteElement id p) at whole is = right_fields 15 (identifier ∷
     (_, _, begins _ _ is.0, is.0.utf8, (_, [], begins _ [] is.1.0, (p.steps, (refl, whole)), refl))
 right_payload (UpdateValue id p v) at whole is = right_fields 16 (identifier ∷ place ∷ value ∷ []) _ at refl
     (_, _, begins _ _ is.0, is.0.utf8, (_, _, begins _ _ is.1.0, (p.steps, whole.0, refl), (_, [], begins _ [] is.1.1.0, (is.1.1.0.utf8, (v, whole.1, refl)), refl)))
+right_payload (Import e) at whole is = right_fields 17 (environment ∷ []) _ at refl (alone environment _ is.0 (is.0.utf8, (e, whole, refl)))
 
 pub right : (payload : List ℕ) (c : Command) (at : ℕ) → IsRecord payload c → ¬ (IsNoRecord payload at)
 right payload c at is wrong = right_payload c at is.well_formed is.fields (subst (λ p. IsNoRecord p at) is.same wrong)

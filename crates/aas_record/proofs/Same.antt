@@ -5,9 +5,9 @@ use Rattle.std.proofs.lemmas.Str.{encodes_same}
 use Rattle.aas_lemmas.proofs.Lists.{same_tails}
 use Rattle.aas_json_spelling.specs.Lists.{Each}
 use Rattle.aas_json_spelling.specs.Mapped.{AnyShape}
-use Rattle.aas_json_mapping.specs.Shape.{IsShaped, IsShapedSubmodel}
-use Rattle.aas_json_mapping.specs.Trees.{asset_informations, concepts, elements, shells, submodels}
-use Rattle.aas_json_mapping.proofs.DocumentsLaws.{concepts_laws, shells_laws, submodels_laws}
+use Rattle.aas_json_mapping.specs.Shape.{IsShaped, IsShapedEnvironment, IsShapedSubmodel}
+use Rattle.aas_json_mapping.specs.Trees.{asset_informations, concepts, elements, environments, shells, submodels}
+use Rattle.aas_json_mapping.proofs.DocumentsLaws.{concepts_laws, environments_laws, shells_laws, submodels_laws}
 use Rattle.aas_json_mapping.proofs.ElementsLaws.{elements_laws}
 use Rattle.aas_model.specs.declared.path.PathStep.{PathStep}
 use Rattle.aas_edit_laws.specs.Laws.{at_level}
@@ -17,7 +17,7 @@ use Rattle.aas_reference.specs.Trees.{references}
 use Rattle.aas_command.specs.Commands.{IsWellFormed, field, payload_of, tagged_of}
 use Rattle.aas_command.specs.Encoding.{HasFields, IsField}
 use Rattle.aas_command.specs.declared.command.Command.{Command}
-use Rattle.aas_command.specs.declared.command.Command.TheVariants.{CreateShell, CreateSubmodel, CreateConcept, ReplaceShell, ReplaceSubmodel, ReplaceConcept, DeleteShell, DeleteSubmodel, DeleteConcept, SetAsset, AddReference, DropReference, InsertElement, ReplaceElement, DeleteElement, UpdateValue}
+use Rattle.aas_command.specs.declared.command.Command.TheVariants.{CreateShell, CreateSubmodel, CreateConcept, ReplaceShell, ReplaceSubmodel, ReplaceConcept, DeleteShell, DeleteSubmodel, DeleteConcept, SetAsset, AddReference, DropReference, InsertElement, ReplaceElement, DeleteElement, UpdateValue, Import}
 use Rattle.aas_record.specs.Records.{IsRecord, IsRecordFault}
 use Rattle.aas_record.specs.declared.fault.RecordFault.{RecordFault}
 use Rattle.aas_record.specs.declared.fault.RecordFault.TheVariants.{NotARecord, NoMemory}
@@ -84,6 +84,7 @@ same_tagged (UpdateValue i p v) (UpdateValue j q w) a b is tags e =
     ap (λ x. UpdateValue x p v) (encodes_same i j (first _ _ _ _ e))
     ∙ ap (λ (o : List PathStep). UpdateValue j (record { steps = o }) v) paths
     ∙ ap (UpdateValue j q) (same_value v w a.1 b.1 is.1.1.0.utf8 (first _ _ _ _ (same_tails _ _ _ _ (same_tails _ _ _ _ e))))
+same_tagged (Import s) (Import t) a b is tags e = ap Import (same_by_text environments IsShapedEnvironment environments_laws _ at_limits s t a b is.0.utf8 (first _ _ _ _ e))
 same_tagged c d a b is tags e = absurd (omega (arith, tags))
 
 pub one_command : (payload : List ℕ) (c d : Command) → IsRecord payload c → IsRecord payload d → c ≡ d

@@ -5,7 +5,7 @@ use Rattle.serde_json.specs.Data.{Data}
 use Rattle.serde_json.specs.Written.{compact_text}
 use Rattle.aas_json_table.specs.TooDeep.{Levels, limits}
 use Rattle.aas_json_spelling.specs.Spells.{Trees, canonical_text}
-use Rattle.aas_json_mapping.specs.Trees.{asset_informations, concepts, elements, shells, submodels}
+use Rattle.aas_json_mapping.specs.Trees.{asset_informations, concepts, elements, environments, shells, submodels}
 use Rattle.aas_model.specs.declared.path.PathStep.{PathStep}
 use Rattle.aas_edit_laws.specs.Laws.{at_level}
 use Rattle.aas_path.specs.PathText.{IsPath, path_text}
@@ -31,6 +31,7 @@ pub data Form : Type 0 where
   child : Form
   -- a JSON value
   value : Form
+  environment : Form
 
 -- the canonical text of a whole tree, in UTF-8
 abbrev pub IsCanonical : {A : Type 0} → Trees A → Levels → List ℕ → Type 0
@@ -58,6 +59,7 @@ HasForm place before content = (p : List PathStep) × IsPlace p × (content ≡ 
 HasForm element before content = (p : List PathStep) × KeepsRule p × IsBehind before p × IsCanonical elements (at_level (length p)) content
 HasForm child before content = (p : List PathStep) × IsPlace p × IsBehind before p × IsCanonical elements (at_level (length p + 1)) content
 HasForm value before content = IsCompact content
+HasForm environment before content = IsCanonical environments limits content
 
 -- ---- one row a tag
 
@@ -86,6 +88,7 @@ rows =
     ∷ row 14 (identifier ∷ path ∷ element ∷ [])
     ∷ row 15 (identifier ∷ path ∷ [])
     ∷ row 16 (identifier ∷ place ∷ value ∷ [])
+    ∷ row 17 (environment ∷ [])
     ∷ []
 
 -- the forms of the fields behind a tag, if a command has it

@@ -4,7 +4,7 @@ ghost use Rattle.std.specs.Str.{IsUtf8, encode_utf8_all};
 ghost use Rattle.aas_json_table.specs.TooDeep.{Levels, limits};
 ghost use Rattle.aas_json_spelling.specs.Reads.{ReadsBytes};
 ghost use Rattle.aas_json_spelling.specs.Spells.{Trees, canonical_text};
-ghost use Rattle.aas_json_mapping.specs.Trees.{asset_informations, concepts, elements, shells, submodels};
+ghost use Rattle.aas_json_mapping.specs.Trees.{asset_informations, concepts, elements, environments, shells, submodels};
 ghost use Rattle.aas_model.specs.declared.path.PathStep.{PathStep};
 ghost use Rattle.aas_edit_laws.specs.Laws.{at_level};
 ghost use Rattle.aas_path.specs.PathText.{IsPath, path_text};
@@ -16,16 +16,17 @@ ghost use Rattle.aas_reference.specs.Trees.{references};
 ghost use Rattle.aas_record.specs.Forms.{IsCanonical, IsCompact};
 
 use aas_command::{
-    SentValue, asset_text, concept_text, element_text, reference_text, shell_text, submodel_text,
+    SentValue, asset_text, concept_text, element_text, environment_text, reference_text,
+    shell_text, submodel_text,
 };
 use aas_json_input::read_value;
 use aas_json_read::{
-    read_asset_information, read_concept, read_element, read_shell, read_submodel,
+    read_asset_information, read_concept, read_element, read_environment, read_shell, read_submodel,
 };
 use aas_json_write::whole_trees_are_in_order;
 use aas_model::{
-    AssetInformation, Concept, Element, Many, NoMemory, Path, ReadFault, Reference, Shell,
-    Submodel, Text,
+    AssetInformation, Concept, Element, Environment, Many, NoMemory, Path, ReadFault, Reference,
+    Shell, Submodel, Text,
 };
 use aas_path::{PathFault, parse_path};
 use aas_reference::read_reference;
@@ -46,11 +47,11 @@ pub(crate) trait Content: Drop + Sized {
             (λ value. is_whole value × has_form bytes.now × (bytes.now ≡ bytes_of value))) };
 }
 
-/// A tree that is written as its canonical text: a document, a part of one, or an element at a level.
+/// A tree that is written as its canonical text: a document, an environment, a part of a document, or an element at a level.
 pub(crate) trait Tree: Drop + Sized {
     ghost trees: { Trees Self };
 
-    /// The levels that are left for one at a level. A document stands at no level.
+    /// The levels that are left for one at a level. Only an element stands at one.
     ghost left: { ℕ → Levels };
 
     /// The tree whose canonical text the bytes are; where they are none, any tree or any fault.
@@ -228,6 +229,20 @@ impl Tree for Concept {
 
     fn text(&self, alloc: Global) -> Result<Vec<u8>, NoMemory> {
         concept_text(alloc, self)
+    }
+}
+
+impl Tree for Environment {
+    ghost trees = { environments };
+
+    ghost left = { λ _. limits };
+
+    fn read(alloc: Global, bytes: &[u8], _level: u32) -> Result<Environment, ReadFault> {
+        read_environment(alloc, bytes)
+    }
+
+    fn text(&self, alloc: Global) -> Result<Vec<u8>, NoMemory> {
+        environment_text(alloc, self)
     }
 }
 

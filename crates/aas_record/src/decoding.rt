@@ -62,6 +62,9 @@ pub fn decode(alloc: Global, payload: &[u8]) -> Result<Command, RecordFault>
         14 => replacement(alloc, payload, fields),
         15 => deletion(alloc, payload, fields),
         16 => update(alloc, payload, fields),
+        17 => Ok(Command::Import {
+            environment: last_field(alloc, fields, 1)?,
+        }),
         _ => Err(RecordFault::NotARecord { at: 0 }),
     }
 }

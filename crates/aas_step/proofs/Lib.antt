@@ -1,3 +1,4 @@
+pub mod Imported
 mod Results
 mod Storable
 pub mod Validity

@@ -1,6 +1,6 @@
 -- What a command that is accepted makes of valid documents is valid.
 use Rattle.std.proofs.Common.{◌≡◌, Bool, true, false, cond, List, [], ◌∷◌, ◌++◌, Option, Some, None, refl, sym, ap, ◌∙◌, subst, Ordering, Less, Equal, Greater}
-use Rattle.std.specs.Prelude.{ℕ, ◌&&◌, filter, flat_map, length, not, option_map}
+use Rattle.std.specs.Prelude.{ℕ, ◌&&◌, filter, flat_map, length, map as each, not, option_map}
 use Rattle.std.specs.FinMap as map
 use Rattle.std.specs.FinMap.{get-empty, get-insert, get-remove, slice_cmp-IsAntisymmetric, nat_cmp-IsAntisymmetric}
 use Rattle.std.specs.List.{AllByRecursion, list_all}
@@ -9,14 +9,16 @@ use Rattle.std.specs.Ordering.{nat_cmp, is_eq}
 use Rattle.std.specs.Cmp.Lexicographic.{slice_cmp, nat_list_cmp_total}
 use Rattle.std.specs.Str.{encode_utf8_all}
 use Rattle.std.proofs.lemmas.Bool.{and_from, and_parts}
+use Rattle.std.proofs.lemmas.List.{append-nil}
 use Rattle.std.proofs.lemmas.List.Elements.{All-filter}
 use Rattle.std.proofs.lemmas.List.Folds.{list_all-append}
 use Rattle.std.proofs.lemmas.List.Sums.{AllPass-from_list_all, list_all-from_AllPass}
 use Rattle.aas_json_table.specs.TooDeep.{limits}
 use Rattle.aas_reference.specs.Rules.{first}
 use Rattle.aas_reference.specs.Whole.{is_whole, whole_if_there}
-use Rattle.aas_json_mapping.specs.Whole.{is_whole_element, is_whole_shell, is_whole_submodel, whole_asset_information, whole_head}
+use Rattle.aas_json_mapping.specs.Whole.{is_whole_concept, is_whole_element, is_whole_environment, is_whole_shell, is_whole_submodel, whole_asset_information, whole_head}
 use Rattle.aas_model.specs.declared.asset.AssetInformation.{AssetInformation}
+use Rattle.aas_model.specs.declared.documents.Environment.{Environment}
 use Rattle.aas_model.specs.declared.documents.Shell.{Shell}
 use Rattle.aas_model.specs.declared.documents.Submodel.{Submodel}
 use Rattle.aas_model.specs.declared.element.Element.{Element}
@@ -35,14 +37,14 @@ use Rattle.aas_constraint_rules.specs.Faults.{Document, shell, submodel, concept
 use Rattle.aas_command.specs.Commands.{IsWellFormed}
 use Rattle.aas_command.specs.Refusals.{refusal_of_fault}
 use Rattle.aas_command.specs.declared.command.Command.{Command}
-use Rattle.aas_command.specs.declared.command.Command.TheVariants.{CreateShell, CreateSubmodel, CreateConcept, ReplaceShell, ReplaceSubmodel, ReplaceConcept, DeleteShell, DeleteSubmodel, DeleteConcept, SetAsset, AddReference, DropReference, InsertElement, ReplaceElement, DeleteElement, UpdateValue}
+use Rattle.aas_command.specs.declared.command.Command.TheVariants.{CreateShell, CreateSubmodel, CreateConcept, ReplaceShell, ReplaceSubmodel, ReplaceConcept, DeleteShell, DeleteSubmodel, DeleteConcept, SetAsset, AddReference, DropReference, InsertElement, ReplaceElement, DeleteElement, UpdateValue, Import}
 use Rattle.aas_command.specs.declared.refusal.Refusal.TheVariants.{NotAContainer, TooMany}
 use Rattle.aas_command.specs.declared.refusal.Refusal.{Refusal}
 use Rattle.aas_value_update.proofs.WholeSubmodel.{update_stays_whole}
 use Rattle.aas_store.specs.Documents.{Documents, Identifier, Map, empty}
 use Rattle.aas_step.specs.Causes.{Cause, causes, document_causes, first_of, has_too_many, is_absent, is_lost, refers_to, replace_causes, unless, when}
 use Rattle.aas_step.specs.Laws.{StaysValid}
-use Rattle.aas_step.specs.Made.{IsMade, id_of, left, with_document, with_documents, with_reference, without_references}
+use Rattle.aas_step.specs.Made.{IsMade, documents_in, id_of, left, with_document, with_documents, with_reference, without_references}
 use Rattle.aas_step.specs.Step.{accepted, result_of, later_causes, ComesBy, ComesTo}
 use Rattle.aas_step.specs.Valid.{AreValid, IsValidAt}
 
@@ -190,6 +192,22 @@ replaced_whole s p e (Some o) is none whole new =
     let fits = clears (option_map_or (λ o. fits_role e (role_of o)) (element_at s p) false) NotAContainer (none_in_second (is_lost s p ∷ []) _ none) in
     replace_keeps_whole s p e o whole new is (sym (ap (λ (f : Option Element). option_map_or (λ o. fits_role e (role_of o)) f false) is) ∙ fits)
 
+-- ---- documents of an environment
+
+each_whole : {X : Type 0} (wrap : X → Document) (xs : List X) (more : List Document) → list_all (λ x. valid.is_whole (wrap x)) xs ≡ true → AllByRecursion IsWhole more
+    → AllByRecursion IsWhole (each wrap xs ++ more)
+each_whole wrap [] more all rest = rest
+each_whole wrap (x ∷ xs) more all rest =
+    let p = and_parts (valid.is_whole (wrap x)) (list_all (λ x. valid.is_whole (wrap x)) xs) all in (p.0, each_whole wrap xs more p.1 rest)
+
+documents_whole : (e : Environment) → is_whole_environment limits e ≡ true → AllByRecursion IsWhole (documents_in e)
+documents_whole e whole =
+    let behind = and_parts (list_all (is_whole_shell limits) e.shells && list_all (is_whole_submodel limits) e.submodels) (list_all (is_whole_concept limits) e.concepts) whole in
+    let front = and_parts (list_all (is_whole_shell limits) e.shells) (list_all (is_whole_submodel limits) e.submodels) behind.0 in
+    each_whole shell e.shells (each submodel e.submodels ++ each concept e.concepts) front.0
+    (each_whole submodel e.submodels (each concept e.concepts) front.1
+    (subst (AllByRecursion IsWhole) (append-nil (each concept e.concepts)) (each_whole concept e.concepts [] behind.1 tt)))
+
 -- ---- the new documents
 
 new_whole : (d : Documents) (c : Command) (new : List Document) → IsWellFormed c → AreValid d → first_of (causes d c) ≡ None → IsMade d c new → AllByRecursion IsWhole new
@@ -231,6 +249,7 @@ new_whole d (DeleteElement id p) new whole all none made =
 new_whole d (UpdateValue id p v) new whole all none made =
     let valid = (all.submodels (encode_utf8_all id) made.old made.there).valid in
     subst (AllByRecursion IsWhole) (sym made.made) (update_stays_whole made.old made.updated p.steps v valid whole.1.order made.update, tt)
+new_whole d (Import e) new whole all none made = subst (AllByRecursion IsWhole) (sym made) (documents_whole e whole)
 
 -- ---- the law
 

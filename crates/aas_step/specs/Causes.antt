@@ -1,11 +1,12 @@
 -- Why a command is refused: for each command what of it isn't there or is there already, and then the faults of the documents that it makes. Causes are tried from
 -- the left, and the first that applies is the refusal. This profile's own rule.
-use Rattle.std.specs.Prelude.{ℕ, nat_lt, Bool, true, false, ◌&&◌, not, is_some, List, [], ◌∷◌, ◌++◌, take, Option, Some, None, option_and_then, option_map, if◌then◌else◌}
+use Rattle.std.specs.Prelude.{ℕ, nat_lt, Bool, true, false, ◌&&◌, not, is_some, List, [], ◌∷◌, ◌++◌, length, map as each, take, Option, Some, None, option_and_then, option_map, if◌then◌else◌}
 use Rattle.std.specs.FinMap as map
 use Rattle.std.specs.List.{list_any}
-use Rattle.std.specs.Option.{option_map_or}
+use Rattle.std.specs.Option.{option_map_or, option_or}
 use Rattle.std.specs.Str.{encode_utf8_all}
 use Rattle.serde_json.specs.Data.{Data}
+use Rattle.aas_model.specs.declared.documents.Environment.{Environment}
 use Rattle.aas_model.specs.declared.documents.Shell.{Shell}
 use Rattle.aas_model.specs.declared.documents.Submodel.{Submodel}
 use Rattle.aas_model.specs.declared.element.Element.{Element, out-Element}
@@ -16,11 +17,12 @@ use Rattle.aas_model_names.specs.declared.modifiers.Extent.TheVariants as extent
 use Rattle.aas_model_names.specs.declared.collection.Collection.{Collection}
 use Rattle.aas_model_names.specs.declared.collection.Collection.TheVariants.{Shells, Submodels, Concepts}
 use Rattle.aas_constraint_rules.specs.Faults.{Document, submodel, faults_of}
+use Rattle.aas_constraint_rules.specs.Texts.{is_among}
 use Rattle.aas_reference.specs.Rules.{first, is_external}
 use Rattle.aas_reference.specs.Same.{same, same_keys}
 use Rattle.aas_command.specs.Refusals.{refusal_of_fault}
 use Rattle.aas_command.specs.declared.command.Command.{Command}
-use Rattle.aas_command.specs.declared.command.Command.TheVariants.{CreateShell, CreateSubmodel, CreateConcept, ReplaceShell, ReplaceSubmodel, ReplaceConcept, DeleteShell, DeleteSubmodel, DeleteConcept, SetAsset, AddReference, DropReference, InsertElement, ReplaceElement, DeleteElement, UpdateValue}
+use Rattle.aas_command.specs.declared.command.Command.TheVariants.{CreateShell, CreateSubmodel, CreateConcept, ReplaceShell, ReplaceSubmodel, ReplaceConcept, DeleteShell, DeleteSubmodel, DeleteConcept, SetAsset, AddReference, DropReference, InsertElement, ReplaceElement, DeleteElement, UpdateValue, Import}
 use Rattle.aas_command.specs.declared.refusal.Absent.{Absent}
 use Rattle.aas_command.specs.declared.refusal.Absent.TheVariants as absent
 use Rattle.aas_command.specs.declared.refusal.Refusal.{Refusal}
@@ -143,6 +145,27 @@ update_causes p v s =
 abbrev pub in_submodel : Documents → List ℕ → (Submodel → List Cause) → List Cause
 in_submodel d id causes_in = is_absent Submodels id d ∷ option_map_or causes_in (map.get d.submodels (encode_utf8_all id)) []
 
+-- ---- by the identifiers of an environment
+
+-- the place of the first one that stands before it too, where those of before stand earlier
+abbrev pub first_repeated_after : List (List ℕ) → List (List ℕ) → Option ℕ
+first_repeated_after before [] = None
+first_repeated_after before (id ∷ more) = if is_among id before then Some (length before) else first_repeated_after (before ++ id ∷ []) more
+
+abbrev pub first_repeated : List (List ℕ) → Option ℕ
+first_repeated ids = first_repeated_after [] ids
+
+-- the first such place among its shells, or else its submodels, or else its concept descriptions
+abbrev pub first_repeated_in : Environment → Option (Collection × ℕ)
+first_repeated_in e =
+    option_or (option_map (λ place. (Shells, place)) (first_repeated (each (λ s. s.head.id) e.shells)))
+    (option_or (option_map (λ place. (Submodels, place)) (first_repeated (each (λ s. s.head.id) e.submodels)))
+    (option_map (λ place. (Concepts, place)) (first_repeated (each (λ c. c.head.id) e.concepts))))
+
+-- an identifier stands twice in one of its three lists
+abbrev pub has_repeated : Environment → Bool
+has_repeated e = is_some (first_repeated_in e)
+
 -- ---- one row a command
 
 abbrev pub causes : Documents → Command → List Cause
@@ -162,6 +185,7 @@ causes d (InsertElement id p e) = in_submodel d id (insert_causes p.steps e)
 causes d (ReplaceElement id p e) = in_submodel d id (replace_causes p.steps e)
 causes d (DeleteElement id p) = in_submodel d id (delete_causes p.steps)
 causes d (UpdateValue id p v) = in_submodel d id (update_causes p.steps v)
+causes d (Import e) = when (has_repeated e) Conflict ∷ []
 
 -- ---- by the documents that it makes
 

@@ -1,10 +1,11 @@
 -- What a command makes of the documents, where it isn't refused. This profile's own rule.
-use Rattle.std.specs.Prelude.{◌≡◌, ℕ, not, List, [], ◌∷◌, ◌++◌, filter, Some}
+use Rattle.std.specs.Prelude.{◌≡◌, ℕ, not, List, [], ◌∷◌, ◌++◌, filter, map as each, Some}
 use Rattle.std.specs.Str.{encode_utf8_all}
 use Rattle.std.specs.Option.{option_map_or}
 use Rattle.std.specs.FinMap as map
 use Rattle.serde_json.specs.Data.{Data}
 use Rattle.aas_model_names.specs.declared.collection.Collection.TheVariants.{Shells, Submodels, Concepts}
+use Rattle.aas_model.specs.declared.documents.Environment.{Environment}
 use Rattle.aas_model.specs.declared.documents.Shell.{Shell}
 use Rattle.aas_model.specs.declared.documents.Submodel.{Submodel}
 use Rattle.aas_model.specs.declared.path.PathStep.{PathStep}
@@ -12,7 +13,7 @@ use Rattle.aas_value_update.specs.Update.{IsValueUpdate}
 use Rattle.aas_path_trees.specs.Edits.{inserted, removed, replaced}
 use Rattle.aas_constraint_rules.specs.Faults.{Document, shell, submodel, concept}
 use Rattle.aas_command.specs.declared.command.Command.{Command}
-use Rattle.aas_command.specs.declared.command.Command.TheVariants.{CreateShell, CreateSubmodel, CreateConcept, ReplaceShell, ReplaceSubmodel, ReplaceConcept, DeleteShell, DeleteSubmodel, DeleteConcept, SetAsset, AddReference, DropReference, InsertElement, ReplaceElement, DeleteElement, UpdateValue}
+use Rattle.aas_command.specs.declared.command.Command.TheVariants.{CreateShell, CreateSubmodel, CreateConcept, ReplaceShell, ReplaceSubmodel, ReplaceConcept, DeleteShell, DeleteSubmodel, DeleteConcept, SetAsset, AddReference, DropReference, InsertElement, ReplaceElement, DeleteElement, UpdateValue, Import}
 use Rattle.aas_model.specs.declared.reference.Reference.{Reference}
 use Rattle.aas_store.specs.Documents.{Documents, without, with_shell, with_submodel, with_concept}
 use Rattle.aas_step.specs.Causes.{refers_to}
@@ -41,6 +42,10 @@ pub record IsUpdatedSubmodel (d : Documents) (id : List ℕ) (p : List PathStep)
   pub update : IsValueUpdate old p v updated
   pub made : new ≡ submodel updated ∷ []
 
+-- the documents of an environment: its shells, then its submodels and its concept descriptions, in their order
+abbrev pub documents_in : Environment → List Document
+documents_in e = each shell e.shells ++ (each submodel e.submodels ++ each concept e.concepts)
+
 -- these are the new documents, in their order
 abbrev pub IsMade : Documents → Command → List Document → Type 0
 IsMade d (CreateShell s) new = new ≡ shell s ∷ []
@@ -59,6 +64,7 @@ IsMade d (InsertElement id p e) new = new ≡ changed_submodel d id (λ s. inser
 IsMade d (ReplaceElement id p e) new = new ≡ changed_submodel d id (λ s. replaced s p.steps e)
 IsMade d (DeleteElement id p) new = new ≡ changed_submodel d id (λ s. removed s p.steps)
 IsMade d (UpdateValue id p v) new = IsUpdatedSubmodel d id p.steps v new
+IsMade d (Import e) new = new ≡ documents_in e
 
 -- the documents without the one that it takes away
 abbrev pub left : Documents → Command → Documents

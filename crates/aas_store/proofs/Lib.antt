@@ -1,3 +1,5 @@
 mod Listed
+mod Merges
 pub mod Ordered
+mod PutOver
 mod Shelves

@@ -12,23 +12,23 @@ use Rattle.std.proofs.lemmas.Cmp.{nat_list_cmp_total, tied_itself}
 abbrev pub order : List ℕ → List ℕ → Ordering
 order = slice_cmp nat_cmp
 
-abbrev Entries : Type 0 → Type 0
+abbrev pub Entries : Type 0 → Type 0
 Entries X = List (List ℕ × X)
 
-both : (a b : Bool) → T a → T b → T (a && b)
+pub both : (a b : Bool) → T a → T b → T (a && b)
 both true b p q = q
 both false b p q = p
 
-parts : (a b : Bool) → T (a && b) → T a × T b
+pub parts : (a b : Bool) → T (a && b) → T a × T b
 parts true b p = (tt, p)
 parts false b p = absurd p
 
-less : (r : Ordering) → T (is_lt r) → r ≡ Less
+pub less : (r : Ordering) → T (is_lt r) → r ≡ Less
 less Less p = refl
 less Equal p = absurd p
 less Greater p = absurd p
 
-is_below : (r : Ordering) → r ≡ Less → T (is_lt r)
+pub is_below : (r : Ordering) → r ≡ Less → T (is_lt r)
 is_below r e = subst (λ r. T (is_lt r)) (sym e) tt
 
 pub same_some : {X : Type 0} (x y : X) → Some x ≡ Some y → x ≡ y

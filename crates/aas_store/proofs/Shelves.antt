@@ -159,6 +159,9 @@ module _ {D : Type 0} (entries : List (Entry D)) (sorted : T (fin.is_sorted orde
   document_at id place e at is =
       found_there m id place at.0 at.1 ∙ ap (option_map (λ (p : List ℕ × D). p.1)) (sym at.1 ∙ pair_at place e is)
 
+  pub found_is : (id : List ℕ) → fin.find order id (pairs entries) ≡ fin.get m id
+  found_is id = ap (fin.find order id) (sym entries_are) ∙ sym (get-entries m id)
+
   ids_are : fin.keys m ≡ map (λ (e : Entry D). encode_utf8_all e.id) entries
   ids_are = ap (map (λ (p : List ℕ × D). p.0)) entries_are ∙ map-map _ _ entries
 

@@ -3,11 +3,12 @@
 -- order.
 use Rattle.std.specs.Prelude.{ℕ, Bool, true, List, [], Option, Some, None}
 use Rattle.std.specs.Str.{encode_utf8_all}
-use Rattle.std.specs.List.{find}
+use Rattle.std.specs.List.{find, fold}
 use Rattle.std.specs.Ordering.{nat_cmp, is_lt}
 use Rattle.std.specs.Cmp.Lexicographic.{slice_cmp}
 use Rattle.std.specs.FinMap as map
 use Rattle.aas_model.specs.declared.documents.Concept.{Concept}
+use Rattle.aas_model.specs.declared.documents.Environment.{Environment}
 use Rattle.aas_model.specs.declared.documents.Shell.{Shell}
 use Rattle.aas_model.specs.declared.documents.Submodel.{Submodel}
 use Rattle.aas_model_names.specs.declared.collection.Collection.{Collection}
@@ -71,3 +72,8 @@ with_submodel d s = record d { submodels = map.insert d.submodels (encode_utf8_a
 
 abbrev pub with_concept : Documents → Concept → Documents
 with_concept d c = record d { concepts = map.insert d.concepts (encode_utf8_all c.head.id) c }
+
+-- with each document of an environment put in, its shells first, then its submodels and its concept descriptions, each
+-- list in its order
+abbrev pub with_all : Documents → Environment → Documents
+with_all d e = fold with_concept (fold with_submodel (fold with_shell d e.shells) e.submodels) e.concepts

@@ -8,6 +8,8 @@
 
 mod elements;
 mod lack;
+mod merging;
+mod overlay;
 mod shelf;
 mod spot;
 mod spots;

@@ -16,14 +16,14 @@ use std::marker::Model;
 
 /// A document under its identifier.
 #[derive(Drop)]
-struct Entry<D> {
-    id: Text,
-    document: Box<D>,
+pub(crate) struct Entry<D> {
+    pub(crate) id: Text,
+    pub(crate) document: Box<D>,
 }
 
 impl<D> Entry<D> {
     /// How the entry's identifier compares with another, in byte order.
-    fn compare(&self, id: &str) -> Ordering
+    pub(crate) fn compare(&self, id: &str) -> Ordering
         ensures { result ≡ slice_cmp nat_cmp (encode_utf8_all self.now.id) id.now }
     {
         self.id.as_str().cmp(id)
@@ -62,7 +62,7 @@ fn boxed<D: Drop>(alloc: Global, document: D) -> Result<Box<D>, NoMemory>
 /// many moves few bytes.
 #[derive(Drop)]
 pub struct Shelf<D> {
-    entries: Many<Entry<D>>,
+    pub(crate) entries: Many<Entry<D>>,
 }
 
 impl<D> Model for Shelf<D> {

@@ -1,4 +1,4 @@
-ghost use Rattle.std.specs.Prelude.{◌≡◌, ◌↔◌, ◌≤◌, true, Some, None, Err, IfOk, IfSome, IsSome, OnErr, OnOk};
+ghost use Rattle.std.specs.Prelude.{◌≡◌, ◌↔◌, ◌≤◌, true, Some, None, All, Err, IfOk, IfSome, IsSome, OnErr, OnOk};
 ghost use Rattle.std.specs.Prelude.{length, option_and_then, option_map, slice_get};
 ghost use Rattle.std.specs.FinMap as map;
 ghost use Rattle.std.specs.Option.{option_copied};
@@ -6,14 +6,16 @@ ghost use Rattle.aas_model.specs.declared.path.Missing.{Missing};
 ghost use Rattle.aas_path_trees.specs.Edits.{inserted, removed, replaced, role_at};
 ghost use Rattle.aas_path_trees.specs.ElementAt.{element_at};
 ghost use Rattle.aas_store.specs.Documents.{Documents, count, first_above, has, ids, without_children};
-ghost use Rattle.aas_store.specs.Documents.{with_concept, with_shell, with_submodel, without};
+ghost use Rattle.aas_store.specs.Documents.{with_all, with_concept, with_shell, with_submodel, without};
 ghost use Rattle.aas_store.specs.Edited.{CanReplace, FitsAt, Holds, LeadsNowhere, patched_at, with_changed};
 ghost use Rattle.aas_store.specs.Spots.{spot_below, step_of};
 ghost use Rattle.aas_store.specs.Storable.{IsStorable, element_count};
 
 use crate::lack::Lack;
 use crate::spot::{Spot, StepRef};
-use aas_model::{Collection, Concept, Element, NoMemory, Patch, Path, Shell, Submodel};
+use aas_model::{
+    Collection, Concept, Element, Environment, NoMemory, Patch, Path, Shell, Submodel,
+};
 
 /// Documents in three collections, each under its own identifier.
 ///
@@ -88,6 +90,13 @@ pub trait Store {
     /// Puts the concept description under its identifier, in the place of one that is there.
     fn put_concept(&mut self, concept: Concept) -> Result<(), NoMemory>
         ensures ok { OnOk result (documents self.new ≡ with_concept (documents self.old) concept) }
+        ensures err { OnErr result (documents self.new ≡ documents self.old) };
+
+    /// Puts each document of the environment under its own identifier, in the place of one that is there: all of them, or
+    /// none where memory is refused.
+    fn put_all(&mut self, environment: Environment) -> Result<(), NoMemory>
+        requires { All IsStorable environment.submodels }
+        ensures ok { OnOk result (documents self.new ≡ with_all (documents self.old) environment) }
         ensures err { OnErr result (documents self.new ≡ documents self.old) };
 
     /// Takes the document of the identifier, which is there, out of the collection.

@@ -1,7 +1,7 @@
-// Documents put in any order are found, listed in order, replaced and deleted. Shells, submodels and elements go through
+// Documents put in any order, one by one or all at once, are found, listed in order, replaced and deleted. Shells, submodels and elements go through
 // the same shelves; the examples of runs call them.
 use crate::{Store, TreeStore};
-use aas_model::{Collection, Concept, Head, Many, NoMemory, Text};
+use aas_model::{Collection, Concept, Environment, Head, Many, NoMemory, Text};
 use std::alloc::Global;
 use std::test::Fail;
 
@@ -19,6 +19,18 @@ fn concept(alloc: Global, id: &str) -> Result<Concept, NoMemory> {
             embedded_data_specifications: Many::new(alloc),
         },
         is_case_of: Many::new(alloc),
+    })
+}
+
+fn concepts(alloc: Global, ids: &[&str]) -> Result<Environment, NoMemory> {
+    let mut concepts = Many::new(alloc);
+    for id in ids {
+        concepts.push(concept(alloc, id)?)?;
+    }
+    Ok(Environment {
+        shells: Many::new(alloc),
+        submodels: Many::new(alloc),
+        concepts,
     })
 }
 
@@ -44,13 +56,14 @@ fn deletes<S: Store>(store: &mut S, id: &str) -> bool {
 
 fn keeps_concepts<S: Store + Drop>(store: S, alloc: Global) -> Result<bool, NoMemory> {
     let mut store = store;
-    for id in ["urn:b", "urn:ä", "urn:a", "urn:b"] {
+    for id in ["urn:b", "urn:ä", "urn:b"] {
         store.put_concept(concept(alloc, id)?)?;
     }
+    store.put_all(concepts(alloc, &["urn:ö", "urn:a", "urn:b"])?)?;
     Ok(
-        lists(&store, &["urn:a", "urn:b", "urn:ä"])
+        lists(&store, &["urn:a", "urn:b", "urn:ä", "urn:ö"])
             && deletes(&mut store, "urn:b")
-            && lists(&store, &["urn:a", "urn:ä"]),
+            && lists(&store, &["urn:a", "urn:ä", "urn:ö"]),
     )
 }
 

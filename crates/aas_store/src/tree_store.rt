@@ -8,14 +8,17 @@ use crate::shelf::Shelf;
 use crate::spot::{Spot, StepRef};
 use crate::spots::spot_below;
 use crate::store::Store;
-use aas_model::{Collection, Concept, Duplicate, Element, NoMemory, Patch, Path, Shell, Submodel};
+use aas_model::{
+    Collection, Concept, Duplicate, Element, Environment, NoMemory, Patch, Path, Shell, Submodel,
+};
 use std::alloc::Global;
 
 /// A store that keeps each document as its tree.
 ///
 /// A look-up costs the logarithm of the collection's size. A put and a delete also move 32 bytes for each document
-/// behind the one that they meet. A step of a path by name costs the siblings that it passes, `child` the
-/// elements before the one that it looks for. Only puts, `insert_element` and copies take memory.
+/// behind the one that they meet; `put_all` moves each document once for all that it puts in. A step of a path by name
+/// costs the siblings that it passes, `child` the elements before the one that it looks for. Only puts, `insert_element`
+/// and copies take memory.
 #[derive(Drop)]
 pub struct TreeStore {
     shells: Shelf<Shell>,
@@ -124,6 +127,16 @@ impl Store for TreeStore {
     fn put_concept(&mut self, concept: Concept) -> Result<(), NoMemory> {
         let id = concept.head.id.copy()?;
         self.concepts.put(id, concept)
+    }
+
+    fn put_all(&mut self, environment: Environment) -> Result<(), NoMemory> {
+        let shells = self.shells.overlay(environment.shells)?;
+        let submodels = self.submodels.overlay(environment.submodels)?;
+        let concepts = self.concepts.overlay(environment.concepts)?;
+        self.shells.lay_over(shells);
+        self.submodels.lay_over(submodels);
+        self.concepts.lay_over(concepts);
+        Ok(())
     }
 
     fn delete(&mut self, collection: Collection, id: &str) {

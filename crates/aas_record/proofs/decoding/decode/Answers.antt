@@ -2,7 +2,7 @@ use Rattle.std.proofs.Common.{refl, subst, ℕ, [], ◌∷◌, arith}
 use Rattle.std.specs.List.{IsFirstAndRest}
 use Rattle.std.proofs.lemmas.Bool.Decides.{nat_tests}
 use Rattle.aas_command.specs.Commands.{IsWellFormed}
-use Rattle.aas_record.specs.Forms.{asset_information, concept, identifier, shell, submodel}
+use Rattle.aas_record.specs.Forms.{asset_information, concept, environment, identifier, shell, submodel}
 use Rattle.aas_record.proofs.Payloads.{no_row, nothing, read_one, read_two, wrong_first, wrong_one, wrong_second}
 use Rattle.aas_record.proofs.decoding.decode.Goals as goal
 
@@ -57,6 +57,10 @@ returns-in_ok-last_field-in-10 c =
     let last = c.in_ok-last_field-in-10.ensures in
     read_two _ _ _ _ _ _ 10 _ c.in-Some.ensures.cases c.in-10.is refl last.whole first.begins first.form last.begins last.form.0
 
+pub returns-in_ok-last_field-in-17 : goal.returns-in_ok-last_field-in-17
+unfolding IsWellFormed
+returns-in_ok-last_field-in-17 c = let f = c.in_ok-last_field-in-17.ensures in read_one _ _ _ _ 17 _ c.in-Some.ensures.cases c.in-17.is refl f.whole f.begins f.form.0
+
 -- ---- what goes wrong
 
 pub returns-in_err-last_field-in-1 : goal.returns-in_err-last_field-in-1
@@ -93,6 +97,9 @@ returns-in_err-shell-in-10 c =
 pub returns-in_err-last_field-in-10 : goal.returns-in_err-last_field-in-10
 returns-in_err-last_field-in-10 c = let first = c.in_ok-shell-in-10.ensures in
     wrong_second _ _ _ 10 _ _ c.in-Some.ensures.cases c.in-10.is c.from_residual-in_err-last_field-in-10.ensures _ _ _ identifier asset_information refl first.begins first.form refl c.in_err-last_field-in-10.ensures
+
+pub returns-in_err-last_field-in-17 : goal.returns-in_err-last_field-in-17
+returns-in_err-last_field-in-17 c = wrong_one _ _ _ 17 _ _ c.in-Some.ensures.cases c.in-17.is c.from_residual-in_err-last_field-in-17.ensures environment refl c.in_err-last_field-in-17.ensures
 
 -- ---- the commands on references and on elements
 
