@@ -85,6 +85,14 @@ impl<S: Store, K: Keeper> Repo<S, K> {
         self.stopped
     }
 
+    /// The store with the repository's documents.
+    pub fn store(&self) -> &S
+        ensures documents { S.documents result.now ≡ self.now.documents }
+        ensures valid { AreValid (S.documents result.now) }
+    {
+        &self.store
+    }
+
     /// Does what a command asks for, or refuses it by the first of its causes, in the order of [`Refusal`] from `NotFound`
     /// on. At `Ok` every stop leaves the command from now on. At `StorageFault` the keeper failed, and the repository is
     /// stopped; at any other error nothing has changed.

@@ -2,12 +2,14 @@
 use Rattle.std.specs.Prelude.{◌≡◌, ◌≤◌, ℕ, List, [], ◌∷◌, ◌==◌, Bool, false, codes, decimal, Option, Some, None, IfSome}
 use Rattle.std.specs.List.{list_any}
 use Rattle.aas_server.specs.declared.command_line.CommandLine.{CommandLine}
-use Rattle.aas_server.specs.declared.command_line.CommandLine.TheVariants.{Value, Init, Pipe, Serve}
+use Rattle.aas_server.specs.declared.command_line.CommandLine.TheVariants.{Value, Init, Pipe, Check, Serve}
 use Rattle.aas_server.specs.Answer.{Says, not_a_command}
+use Rattle.aas_server.specs.CheckText.{check_text}
 use Rattle.aas_server.specs.Ends.{ConsoleState, DiskState, WireState}
 use Rattle.aas_server.specs.Init.{Inits}
 use Rattle.aas_server.specs.Pipe.{Pipes}
 use Rattle.aas_server.specs.Serve.{Serves}
+use Rattle.aas_server.specs.Telling.{Tells}
 use Rattle.aas_server.specs.ValueAnswer.{IsValueAnswer}
 
 -- ---- the commands
@@ -21,6 +23,7 @@ abbrev pub AreWordsOf : CommandLine → List (List ℕ) → Type 0
 AreWordsOf Value words = words ≡ codes "value" ∷ []
 AreWordsOf Init words = words ≡ codes "init" ∷ []
 AreWordsOf Pipe words = words ≡ codes "pipe" ∷ []
+AreWordsOf Check words = words ≡ codes "check" ∷ []
 AreWordsOf (Serve count) words =
     IsCount count × ((address : List ℕ) × (words ≡ codes "serve" ∷ address ∷ decimal count ∷ []))
 
@@ -35,6 +38,8 @@ Does view (Some Init) status old new wire_old wire_new disk_old disk_new =
     Inits status old new (view disk_old) (view disk_new) × (wire_new ≡ wire_old)
 Does view (Some Pipe) status old new wire_old wire_new disk_old disk_new =
     Pipes status old new (view disk_old) (view disk_new) × (wire_new ≡ wire_old)
+Does view (Some Check) status old new wire_old wire_new disk_old disk_new =
+    Tells check_text status old new (view disk_old) (view disk_new) × (wire_new ≡ wire_old)
 Does view (Some (Serve count)) status old new wire_old wire_new disk_old disk_new =
     Serves count status old new wire_old wire_new (view disk_old) (view disk_new)
 
@@ -44,6 +49,7 @@ statuses_of None = 2 ∷ 3 ∷ []
 statuses_of (Some Value) = 0 ∷ 3 ∷ 7 ∷ 10 ∷ []
 statuses_of (Some Init) = 0 ∷ 3 ∷ 4 ∷ 8 ∷ []
 statuses_of (Some Pipe) = 0 ∷ 3 ∷ 4 ∷ 5 ∷ 6 ∷ 10 ∷ []
+statuses_of (Some Check) = 0 ∷ 3 ∷ 4 ∷ 5 ∷ 6 ∷ 10 ∷ []
 statuses_of (Some (Serve count)) = 0 ∷ 3 ∷ 4 ∷ 5 ∷ 6 ∷ 10 ∷ []
 
 -- ---- the words as a whole

@@ -1,5 +1,6 @@
 pub mod Answer
 pub mod Causes
+pub mod CheckText
 pub mod CommandLine
 pub mod Console
 pub mod Early
@@ -12,4 +13,5 @@ pub mod Pipe
 pub mod Serve
 pub mod Status
 pub mod Stop
+pub mod Telling
 pub mod ValueAnswer

@@ -17,6 +17,8 @@ pub enum CommandLine {
     Init,
     /// The repository on the disk, and the console as its one connection.
     Pipe,
+    /// What references lead nowhere in the documents on the disk.
+    Check,
     /// The repository on the disk, and so many connections of a wire, 1 to 1,000,000. The address stands in the words.
     Serve { count: u32 },
 }
@@ -40,6 +42,7 @@ fn lone(word: &Text) -> Option<CommandLine>
         "value" => Some(CommandLine::Value),
         "init" => Some(CommandLine::Init),
         "pipe" => Some(CommandLine::Pipe),
+        "check" => Some(CommandLine::Check),
         _ => None,
     }
 }

@@ -15,6 +15,7 @@ use crate::console::{end_refused, end_with, read_input};
 use crate::serving::{pipe, serve};
 use crate::status::Status;
 use crate::stop::Stop;
+use crate::telling::{DanglingReferences, tell};
 use crate::value::answer_value;
 use aas_command::Refusal;
 use aas_journal::{InitFault, init_journal};
@@ -58,6 +59,7 @@ pub fn run<C: Link, W: Wire, D: Disk>(
             disk,
         },
         Some(CommandLine::Pipe) => pipe(alloc, console, disk),
+        Some(CommandLine::Check) => tell::<DanglingReferences, C, D>(alloc, console, disk),
         Some(CommandLine::Serve { count }) => {
             serve(alloc, address(words), console, wire, count, disk)
         }

@@ -3,6 +3,7 @@
 //! Real consoles, sockets and files stand in `aasd`.
 #![tactic(auto)]
 
+mod check_text;
 mod command_line;
 mod commands;
 mod console;
@@ -12,6 +13,7 @@ mod server;
 mod serving;
 mod status;
 mod stop;
+mod telling;
 mod value;
 
 pub use commands::{Ran, run};

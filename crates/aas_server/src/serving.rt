@@ -93,7 +93,7 @@ pub fn serve<C: Link, W: Wire, D: Disk>(
 }
 
 /// Says on the console why no repository is begun. For want of memory nothing is said.
-fn say_why<C: Link>(alloc: Global, console: &mut C, fault: OpenFault) -> Status
+pub fn say_why<C: Link>(alloc: Global, console: &mut C, fault: OpenFault) -> Status
     ensures says { Says (IsAnswerTo fault) (exit_code result)
         (console_of C.left C.sent C.faults console.old) (console_of C.left C.sent C.faults console.new) }
     ensures unread { C.left console.new ≡ C.left console.old }

@@ -14,3 +14,7 @@ returns-in-pipe c = lone_word c.args.word.now (codes "pipe") (sym c.as_str.ensur
 pub returns-in-init : goal.returns-in-init
 unfolding chars
 returns-in-init c = lone_word c.args.word.now (codes "init") (sym c.as_str.ensures.characters ∙ ap chars c.in-init.is) refl
+
+pub returns-in-check : goal.returns-in-check
+unfolding chars
+returns-in-check c = lone_word c.args.word.now (codes "check") (sym c.as_str.ensures.characters ∙ ap chars c.in-check.is) refl
