@@ -43,6 +43,10 @@ damage at = record { status = 6; text = line (codes "aasd: damaged at " ++ decim
 abbrev pub already_there : Answer
 already_there = record { status = 8; text = line (codes "aasd: already there") }
 
+-- there is no room in the journal
+abbrev pub journal_full : Answer
+journal_full = record { status = 9; text = line (codes "aasd: journal full") }
+
 -- the status and what was given are those of an answer with P
 abbrev pub GivesAnswer : (Answer → Type 0) → ℕ → Option (List ℕ) → Option (List ℕ) → Type 0
 GivesAnswer P status old new = (answer : Answer) × P answer × (status ≡ answer.status) × (new ≡ append_known old answer.text)

@@ -1,10 +1,12 @@
 pub mod Answer
 pub mod Causes
 pub mod CheckText
+pub mod Checkpointing
 pub mod CommandLine
 pub mod Console
 pub mod Early
 pub mod Ends
+pub mod ExportText
 pub mod Init
 pub mod Laws
 pub mod OnDisk

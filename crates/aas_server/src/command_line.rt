@@ -8,6 +8,9 @@ use itoa::Buffer;
 /// The most connections that are served.
 const MOST_CONNECTIONS: u32 = 1_000_000;
 
+/// The most properties that the demo has.
+const MOST_PROPERTIES: u32 = 65_536;
+
 /// What the words of the command line ask for.
 #[derive(Clone, Copy)]
 pub enum CommandLine {
@@ -17,10 +20,18 @@ pub enum CommandLine {
     Init,
     /// The repository on the disk, and the console as its one connection.
     Pipe,
-    /// What references lead nowhere in the documents on the disk.
-    Check,
     /// The repository on the disk, and so many connections of a wire, 1 to 1,000,000. The address stands in the words.
     Serve { count: u32 },
+    /// Which references lead nowhere in the documents on the disk.
+    Check,
+    /// The documents on the disk as one environment.
+    Export,
+    /// The environment on the console, put into the documents on the disk.
+    Import,
+    /// The same of an environment with so many properties, 1 to 65,536.
+    Demo { count: u32 },
+    /// A journal of one record in the place of the one on the disk.
+    Checkpoint,
 }
 
 /// The command that the words ask for, or `None` where they ask for none.
@@ -29,6 +40,7 @@ pub fn command_of(words: &Many<Text>) -> Option<CommandLine>
 {
     match words.as_slice() {
         [word] => lone(word),
+        [word, count] => showing(word, count),
         [word, address, count] => serving(word, address, count),
         _ => None,
     }
@@ -43,7 +55,23 @@ fn lone(word: &Text) -> Option<CommandLine>
         "init" => Some(CommandLine::Init),
         "pipe" => Some(CommandLine::Pipe),
         "check" => Some(CommandLine::Check),
+        "export" => Some(CommandLine::Export),
+        "import" => Some(CommandLine::Import),
+        "checkpoint" => Some(CommandLine::Checkpoint),
         _ => None,
+    }
+}
+
+/// The command of `demo` and a count.
+fn showing(word: &Text, count: &Text) -> Option<CommandLine>
+    ensures { IsAsked (word.now ∷ count.now ∷ []) result }
+{
+    if word.as_str() != "demo" {
+        return None;
+    }
+    match count_of(count, MOST_PROPERTIES) {
+        Some(count) => Some(CommandLine::Demo { count }),
+        None => None,
     }
 }
 
@@ -54,7 +82,7 @@ fn serving(word: &Text, address: &Text, count: &Text) -> Option<CommandLine>
     if word.as_str() != "serve" || is_option(address) {
         return None;
     }
-    match count_of(count) {
+    match count_of(count, MOST_CONNECTIONS) {
         Some(count) => Some(CommandLine::Serve { count }),
         None => None,
     }
@@ -67,14 +95,15 @@ fn is_option(word: &Text) -> bool
     word.as_str().starts_with('-')
 }
 
-/// The count of connections that the word writes, or `None` where it writes none.
-fn count_of(word: &Text) -> Option<u32>
-    ensures { MatchOption result ((n : ℕ) → IsCount n → word.now ≢ decimal n) (λ n. IsCount n × (word.now ≡ decimal n)) }
+/// The count up to `most` that the word writes, or `None` where it writes none.
+fn count_of(word: &Text, most: u32) -> Option<u32>
+    ensures { MatchOption result ((n : ℕ) → IsCount most n → word.now ≢ decimal n)
+        (λ n. IsCount most n × (word.now ≡ decimal n)) }
 {
     let Ok(count) = word.as_str().parse::<u32>() else {
         return None;
     };
-    if count == 0 || count > MOST_CONNECTIONS {
+    if count == 0 || count > most {
         return None;
     }
     if Buffer::new().format(count) == word.as_str() {

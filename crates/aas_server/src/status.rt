@@ -22,6 +22,8 @@ pub enum Status {
     Refused = 7,
     /// A journal is to be made where something is.
     AlreadyThere = 8,
+    /// There is no room in the journal.
+    JournalFull = 9,
     /// Memory was refused.
     NoMemory = 10,
 }
