@@ -1,4 +1,4 @@
--- A journal's file stays the chosen one.
+-- Where a journal writes, and that its gate stays in its file.
 use Rattle.std.proofs.Common.{◌≡◌, ℕ, ◌+◌, ◌<◌, ◌≤◌, Bool, true, false, List, [], ◌∷◌, ◌++◌, length, take, drop, Option, Some, None, refl, sym, ◌∙◌, ap, subst, arith, length-append}
 use Rattle.std.specs.Option.{ForSome}
 use Rattle.std.specs.Prelude.{Result, Ok, if◌then◌else◌, ◌==◌, ◌%◌}

@@ -1,6 +1,7 @@
 pub mod Bank
 pub mod Causes
 pub mod Checkpoint
+pub mod Examples
 pub mod Gates
 pub mod Given
 pub mod Image

@@ -17,10 +17,12 @@ pub(crate) const MOST_BYTES: u64 = 268_435_456;
 const RECORD_BYTES: u64 = 6;
 
 /// Payloads in the chosen file of a disk. Its clock and its count of faults are the disk's.
+///
+/// It is used no more once `keep` or `checkpoint` has failed.
 #[derive(Drop)]
 pub struct Journal<D: Disk> {
     pub(crate) disk: D,
-    /// The chosen file.
+    /// The chosen file, unless a checkpoint has failed.
     pub(crate) part: Part,
     /// Where its closed gate stands.
     pub(crate) gate: u64,

@@ -1,5 +1,5 @@
 //! A journal: payloads kept in one of the files of a disk, so that a stop at any moment leaves what was kept before, or that
-//! and what was being kept.
+//! and what was being kept. It only grows, until a checkpoint puts one payload in the place of all.
 //!
 //! What stands in a payload is said above (`aas_command`); disks, and what a stop leaves of them, stand below
 //! (`aas_outside_disk`).
