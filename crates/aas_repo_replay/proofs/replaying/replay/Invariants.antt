@@ -1,17 +1,15 @@
 use Rattle.std.proofs.Common.{◌≡◌, ◌≤◌, ◌-◌, ◌^◌, ℕ, List}
-use Rattle.aas_journal.specs.Kept.{Keeps, fits}
+use Rattle.aas_journal.specs.Kept.{fits}
 use Rattle.aas_journal.specs.Reads.{OnlyReads}
-use Rattle.aas_journal.specs.Shown.{disk_of}
+use Rattle.aas_journal.specs.Shown.{disk_of, kept_by}
 use Rattle.aas_step.specs.Valid.{AreValid}
 use Rattle.aas_repo_replay.specs.Replaying.{HasDone}
 use Rattle.aas_repo_replay.proofs.replaying.replay.Given as goal
 
 abbrev pub invariant-gates : goal.invariant-gates
 invariant-gates g l = record {
-  done : (payloads : List (List ℕ)) → Keeps (g.D.Disk.seen (disk_of l.fn.journal)) l.fn.journal.gate payloads
-      → HasDone payloads l.gate (g.S.Store.documents l.store);
-  kept : (payloads : List (List ℕ)) → Keeps (g.D.Disk.seen (disk_of l.fn.journal)) l.fn.journal.gate payloads
-      → Keeps (g.D.Disk.seen (disk_of l.journal)) l.journal.gate payloads;
+  done : (payloads : List (List ℕ)) → kept_by l.fn.journal payloads → HasDone payloads l.gate (g.S.Store.documents l.store);
+  kept : (payloads : List (List ℕ)) → kept_by l.fn.journal payloads → kept_by l.journal payloads;
   room : fits l.journal.gate ≡ fits l.fn.journal.gate;
   valid : AreValid (g.S.Store.documents l.store);
   reads : OnlyReads g.D.Disk.seen g.D.Disk.moment g.D.Disk.left_at (disk_of l.fn.journal) (disk_of l.journal);

@@ -1,6 +1,5 @@
 use Rattle.std.proofs.Common.{◌∙◌, inl, inr, arith}
-use Rattle.aas_journal.specs.Kept.{Keeps}
-use Rattle.aas_journal.specs.Shown.{disk_of as disk_in}
+use Rattle.aas_journal.specs.Shown.{disk_of as disk_in, kept_by}
 use Rattle.aas_outside.proofs.Turns.{passes_on}
 use Rattle.aas_server.specs.Ends.{console_of, disk_of}
 use Rattle.aas_server.specs.Status.{exit_code}
@@ -20,11 +19,11 @@ returns-in-Ok-clause-does g c =
     (disk_of D.seen D.moment D.left_at D.faults c.args.disk) (disk_of D.seen D.moment D.left_at D.faults (disk_in after.keeper))
     (record {
       documents = opened.documents;
-      kept = Keeps (D.seen opened.keeper.disk) opened.keeper.gate;
+      kept = kept_by opened.keeper;
       moment = D.moment opened.keeper.disk;
       left_at = D.left_at opened.keeper.disk;
     })
-    after.documents (Keeps (D.seen after.keeper.disk) after.keeper.gate) (λ payloads keeps. (keeps.files, keeps.told, keeps.image))
+    after.documents (kept_by after.keeper) (λ payloads keeps. (keeps.files, keeps.told, keeps.image))
     c.in-Ok.ensures.begun c.in-Ok.ensures.reads.past c.in-Ok.ensures.reads.images
     c.serve_connection-ended.ensures.past c.into_disk.ensures.valid
     c.exit_code.result c.serve_connection-ended.result

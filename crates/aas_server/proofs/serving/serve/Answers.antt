@@ -1,6 +1,5 @@
 use Rattle.std.proofs.Common.{◌∙◌, inl, inr, refl, sym, arith, lit<}
-use Rattle.aas_journal.specs.Kept.{Keeps}
-use Rattle.aas_journal.specs.Shown.{disk_of as disk_in}
+use Rattle.aas_journal.specs.Shown.{disk_of as disk_in, kept_by}
 use Rattle.aas_outside.proofs.Turns.{passes_on}
 use Rattle.aas_server.specs.Ends.{console_of, disk_of, wire_of}
 use Rattle.aas_server.specs.Status.{exit_code}
@@ -22,11 +21,11 @@ returns-in-Ok-listen-clause-does g c =
           (disk_of D.seen D.moment D.left_at D.faults c.args.disk) (disk_of D.seen D.moment D.left_at D.faults (disk_in after.keeper))
           (record {
             documents = opened.documents;
-            kept = Keeps (D.seen opened.keeper.disk) opened.keeper.gate;
+            kept = kept_by opened.keeper;
             moment = D.moment opened.keeper.disk;
             left_at = D.left_at opened.keeper.disk;
           })
-          after.documents (Keeps (D.seen after.keeper.disk) after.keeper.gate) (λ payloads keeps. (keeps.files, keeps.told, keeps.image))
+          after.documents (kept_by after.keeper) (λ payloads keeps. (keeps.files, keeps.told, keeps.image))
           c.in-Ok.ensures.begun c.in-Ok.ensures.reads.past c.in-Ok.ensures.reads.images c.serve-ended.ensures.past c.into_disk.ensures.valid
           c.args.count c.exit_code.result c.serve-ended.result
           (wire_of L.left L.sent L.faults L.surroundings c.args.wire.now) (wire_of L.left L.sent L.faults L.surroundings c.listen.new.self)
@@ -52,7 +51,7 @@ returns-in-Err-listen-clause-does g c =
         has_begun = has_begun (disk_of D.seen D.moment D.left_at D.faults c.args.disk)
             (record {
               documents = opened.documents;
-              kept = Keeps (D.seen opened.keeper.disk) opened.keeper.gate;
+              kept = kept_by opened.keeper;
               moment = D.moment opened.keeper.disk;
               left_at = D.left_at opened.keeper.disk;
             })
