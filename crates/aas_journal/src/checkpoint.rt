@@ -30,8 +30,9 @@ impl<D: Disk> Journal<D> {
     ///
     /// # Errors
     ///
-    /// `Full`, exactly where the file would have more than 268,435,456 bytes; `Failed`, where the disk's count of faults rises
-    /// too. Then a stop may leave the payloads from before or the one, and the journal is used no more.
+    /// `Full`, exactly where the payload's bytes and 14 more are above 268,435,456; nothing is written then. `Failed`, where the
+    /// disk's count of faults rises too; then a stop may leave the payloads from before or the one, and the journal is used no
+    /// more.
     pub fn checkpoint(&mut self, frame: &Frame) -> Result<(), CheckpointFault>
         // The one payload is kept, and whatever a stop leaves from now on is its image.
         ensures settled { (payloads : List (List ℕ)) → ⟦<Journal<D> as Keeper>⟧.kept self.old payloads →

@@ -32,7 +32,7 @@ pub enum OpenFault {
 /// Why no checkpoint was made.
 #[derive(Clone, Copy, Debug, PartialEq, Eq, Error)]
 pub enum CheckpointFault {
-    /// The file would have more bytes than a journal may. Nothing was written.
+    /// The header and the record would have more bytes than a journal may. Nothing was written.
     #[error("the payload is too long for a journal")]
     Full,
     /// A call of the disk failed. The disk's count of faults says so too.
