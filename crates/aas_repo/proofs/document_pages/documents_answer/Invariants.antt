@@ -8,4 +8,4 @@ use Rattle.aas_repo.proofs.document_pages.documents_answer.Given as goal
 abbrev pub invariant-loop-place : goal.invariant-loop-place
 invariant-loop-place g l =
     l.text.items
-    ≡ l.initial.text.items ++ joined (λ id. document_text l.form (encode_utf8_all id) (g.S.Store.documents l.store)) (take l.place l.page.ids)
+    ≡ l.initial.text.items ++ joined (λ id. document_text l.form (encode_utf8_all id) (g.S.Store.documents l.store)) (take l.place l.id-items)
