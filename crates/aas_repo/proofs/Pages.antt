@@ -1,6 +1,6 @@
 -- Pages, entry by entry.
-use Rattle.std.proofs.Common.{◌≡◌, ◌⊎◌, inl, inr, ⊎_elim, ℕ, suc, ◌+◌, ◌-◌, ◌<◌, ◌≤◌, min, Bool, true, false, nat_lt, List, [], ◌∷◌, ◌++◌, length, map, take, drop, slice_get, decimal, Option, Some, None, option_and_then, option_map, Result, Ok, refl, sym, ap, ap₂, ◌∙◌, arith, cond}
-use Rattle.std.specs.Prelude.{codes, filter, get_or, if◌then◌else◌, ◌&&◌, ◌↔◌}
+use Rattle.std.proofs.Common.{◌≡◌, ⊎_elim, ℕ, suc, ◌+◌, ◌-◌, ◌<◌, ◌≤◌, min, Bool, true, false, nat_lt, List, [], ◌∷◌, ◌++◌, length, map, take, drop, slice_get, decimal, Option, Some, None, option_and_then, option_map, Ok, refl, sym, ap, ap₂, ◌∙◌, arith}
+use Rattle.std.specs.Prelude.{codes, filter, get_or, if◌then◌else◌, ◌&&◌}
 use Rattle.std.specs.FinMap as fin
 use Rattle.std.specs.FinMap.{entries_sorted, get-entries}
 use Rattle.std.specs.List.{All, flat_map, join_by, last_or}

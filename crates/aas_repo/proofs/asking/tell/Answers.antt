@@ -16,11 +16,11 @@ returns-in-ReferencesOf g c = told (g.S.Store.documents c.args.store.now) _ _ _ 
 
 pub returns-in-Submodels : goal.returns-in-Submodels
 unfolding answer_of
-returns-in-Submodels g c = told (g.S.Store.documents c.args.store.now) _ _ _ c.in-Submodels.is c.documents_answer.ensures
+returns-in-Submodels g c = told (g.S.Store.documents c.args.store.now) _ _ _ c.in-Submodels.is c.documents_answer-in-Submodels.ensures
 
 pub returns-in-SubmodelsValue : goal.returns-in-SubmodelsValue
 unfolding answer_of
-returns-in-SubmodelsValue g c = told (g.S.Store.documents c.args.store.now) _ _ _ c.in-SubmodelsValue.is c.documents_answer.ensures
+returns-in-SubmodelsValue g c = told (g.S.Store.documents c.args.store.now) _ _ _ c.in-SubmodelsValue.is c.documents_answer-in-SubmodelsValue.ensures
 
 pub returns-in-Elements : goal.returns-in-Elements
 unfolding answer_of
@@ -28,11 +28,11 @@ returns-in-Elements g c = told (g.S.Store.documents c.args.store.now) _ _ _ c.in
 
 pub returns-in-ElementsMetadata : goal.returns-in-ElementsMetadata
 unfolding answer_of
-returns-in-ElementsMetadata g c = told (g.S.Store.documents c.args.store.now) _ _ _ c.in-ElementsMetadata.is c.children_answer.ensures
+returns-in-ElementsMetadata g c = told (g.S.Store.documents c.args.store.now) _ _ _ c.in-ElementsMetadata.is c.children_answer-in-ElementsMetadata.ensures
 
 pub returns-in-ElementsReference : goal.returns-in-ElementsReference
 unfolding answer_of
-returns-in-ElementsReference g c = told (g.S.Store.documents c.args.store.now) _ _ _ c.in-ElementsReference.is c.children_answer.ensures
+returns-in-ElementsReference g c = told (g.S.Store.documents c.args.store.now) _ _ _ c.in-ElementsReference.is c.children_answer-in-ElementsReference.ensures
 
 pub returns-in-Submodel : goal.returns-in-Submodel
 unfolding answer_of

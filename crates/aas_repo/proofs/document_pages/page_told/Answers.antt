@@ -5,7 +5,6 @@ use Rattle.std.proofs.lemmas.Option.{slice_get_read}
 use Rattle.std.proofs.lemmas.Result.{IfOk-weaker}
 use Rattle.aas_repo.proofs.Pages.{documents_told, entry_more, joined}
 use Rattle.aas_repo.proofs.document_pages.page_told.Goals as goal
-use Rattle.aas_repo.specs.Answers.{page_begin}
 use Rattle.aas_repo.specs.Listed.{document_text}
 
 pub loop-place-preserved : goal.loop-place-preserved
