@@ -1,2 +1,4 @@
 mod Above
+mod Put
+mod Settled
 mod Written

@@ -3,5 +3,7 @@
 #![tactic(auto)]
 
 mod export;
+mod laws;
 
 pub use export::export_text;
+pub use laws::{exports_come_back, twice_is_once};
