@@ -1,2 +1,3 @@
 mod Above
+mod Utf8
 mod Written
