@@ -1,3 +1,5 @@
 mod Above
+mod Payload
 mod Utf8
+pub mod WellFormed
 mod Written
