@@ -5,6 +5,8 @@
 
 mod export;
 mod import;
+mod laws;
 
 pub use export::export_text;
 pub use import::import_frame;
+pub use laws::{exports_come_back, twice_is_once};

@@ -1,9 +1,9 @@
 -- What is done with a command. This profile's own rule.
-use Rattle.std.specs.Prelude.{◌≡◌, ◌≢◌, ℕ, List, [], ◌∷◌, ◌++◌, Result, Ok, Err}
+use Rattle.std.specs.Prelude.{◌≡◌, ◌≢◌, ℕ, List, [], ◌∷◌, ◌++◌, length, Result, Ok, Err}
 use Rattle.aas_command.specs.Commands.{payload_of}
 use Rattle.aas_command.specs.Encoding.{HasFields}
 use Rattle.aas_command.specs.declared.command.Command.{Command}
-use Rattle.aas_command.specs.declared.command.Command.TheVariants.{CreateShell, CreateSubmodel, CreateConcept, AddReference, InsertElement}
+use Rattle.aas_command.specs.declared.command.Command.TheVariants.{CreateShell, CreateSubmodel, CreateConcept, AddReference, InsertElement, Import}
 use Rattle.aas_command.specs.declared.refusal.Refusal.{Refusal}
 use Rattle.aas_command.specs.declared.refusal.Refusal.TheVariants.{NoMemory, StorageFault}
 use Rattle.aas_rule.specs.Rule.{Repository, Room}
@@ -11,7 +11,7 @@ use Rattle.aas_rule.specs.State.{State, Holds, IsFaulted}
 use Rattle.aas_store.specs.Documents.{Documents}
 use Rattle.aas_step.specs.Step.{Steps, accepted, refused}
 use Rattle.aas_repo.specs.declared.repo.Done.{Done}
-use Rattle.aas_repo.specs.declared.repo.Done.TheVariants.{Created, Changed}
+use Rattle.aas_repo.specs.declared.repo.Done.TheVariants.{Created, Changed, Imported}
 
 -- what an accepted command did
 abbrev pub done_of : Command → Done
@@ -20,6 +20,7 @@ done_of (CreateSubmodel d) = Created
 done_of (CreateConcept d) = Created
 done_of (AddReference id r) = Created
 done_of (InsertElement id p e) = Created
+done_of (Import e) = Imported (record { shells = length e.shells; submodels = length e.submodels; concepts = length e.concepts })
 done_of c = Changed
 
 -- The command is accepted and kept, and can be read from its payload.

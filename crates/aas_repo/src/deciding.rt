@@ -9,13 +9,14 @@ ghost use Rattle.aas_command.specs.declared.command.Command.TheVariants.{SetAsse
 ghost use Rattle.aas_constraint_laws.specs.Valid.{is_whole};
 ghost use Rattle.aas_json_mapping.specs.Trees.{asset_informations};
 ghost use Rattle.aas_json_table.specs.TooDeep.{limits};
-ghost use Rattle.aas_step.specs.Causes.{absent_of, first_of};
+ghost use Rattle.aas_step.specs.Causes.{absent_of, document_causes, first_of};
 ghost use Rattle.aas_step.specs.Step.{later_causes};
 ghost use Rattle.aas_step.specs.Valid.{AreValid};
 ghost use Rattle.aas_repo.specs.Decisions.{Deletes, IsDecision, Makes, with_asset};
 
 use crate::decision::Decision;
 use crate::editing::{Deletion, Insertion, Replacement, make_edit};
+use crate::importing::import;
 use crate::references::{add_reference, drop_reference};
 use crate::stored::Stored;
 use crate::updating::update;
@@ -83,6 +84,7 @@ pub(crate) fn decide<S: Store>(
             path,
             value,
         } => update(alloc, store, submodel, path, value, has_room),
+        Command::Import { environment } => import(alloc, store, environment, has_room),
     }
 }
 
@@ -199,14 +201,27 @@ fn later_cause<D: Stored>(
 ) -> Result<Option<Refusal>, NoMemory>
     ensures { IfOk result (λ cause. cause ≡ first_of (later_causes has_room (D.document document.now ∷ []))) }
 {
+    if let Some(refusal) = document_cause(alloc, document)? {
+        return Ok(Some(refusal));
+    }
+    if !has_room {
+        return Ok(Some(Refusal::StorageFull));
+    }
+    Ok(None)
+}
+
+/// The first fault of a new document, or that it has too many elements.
+pub(crate) fn document_cause<D: Stored>(
+    alloc: Global,
+    document: &D,
+) -> Result<Option<Refusal>, NoMemory>
+    ensures { IfOk result (λ cause. cause ≡ first_of (document_causes (D.document document.now))) }
+{
     if let Some(fault) = document.check(alloc)? {
         return Ok(Some(Refusal::from(fault)));
     }
     if document.is_too_large() {
         return Ok(Some(Refusal::TooMany));
-    }
-    if !has_room {
-        return Ok(Some(Refusal::StorageFull));
     }
     Ok(None)
 }

@@ -13,6 +13,7 @@ mod document_pages;
 mod editing;
 mod element_answers;
 mod forms;
+mod importing;
 mod page_text;
 mod place_pages;
 mod planning;
@@ -24,8 +25,9 @@ mod texts;
 mod updating;
 
 pub use decision::Decision;
+pub use importing::first_repeated;
 pub use planning::change;
-pub use repo::{Done, Repo};
+pub use repo::{Counts, Done, Repo};
 
 #[cfg(test)]
 mod tests;

@@ -29,6 +29,16 @@ pub enum Done {
     Created,
     /// It changed or deleted something.
     Changed,
+    /// It created or replaced each document of an environment.
+    Imported { counts: Counts },
+}
+
+/// How many documents an environment has.
+#[derive(Clone, Copy, Debug, PartialEq, Eq, Drop)]
+pub struct Counts {
+    pub shells: u64,
+    pub submodels: u64,
+    pub concepts: u64,
 }
 
 /// A repository of shells, submodels and concept descriptions: documents in a store, and the commands that made them in a
@@ -165,6 +175,13 @@ fn done_of(command: &Command) -> Done
         Command::CreateConcept { .. } => Done::Created,
         Command::AddReference { .. } => Done::Created,
         Command::InsertElement { .. } => Done::Created,
+        Command::Import { environment } => Done::Imported {
+            counts: Counts {
+                shells: environment.shells.len() as u64,
+                submodels: environment.submodels.len() as u64,
+                concepts: environment.concepts.len() as u64,
+            },
+        },
         _ => Done::Changed,
     }
 }

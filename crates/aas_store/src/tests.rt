@@ -1,5 +1,7 @@
 // Documents put in any order, one by one or all at once, are found, listed in order, replaced and deleted. Shells, submodels and elements go through
 // the same shelves; the examples of runs call them.
+ghost use Rattle.std.specs.Prelude.{◌≡◌, [], IfOk};
+
 use crate::{Store, TreeStore};
 use aas_model::{Collection, Concept, Environment, Head, Many, NoMemory, Text};
 use std::alloc::Global;
@@ -22,7 +24,9 @@ fn concept(alloc: Global, id: &str) -> Result<Concept, NoMemory> {
     })
 }
 
-fn concepts(alloc: Global, ids: &[&str]) -> Result<Environment, NoMemory> {
+fn concepts(alloc: Global, ids: &[&str]) -> Result<Environment, NoMemory>
+    ensures { IfOk result (λ e. e.submodels ≡ []) }
+{
     let mut concepts = Many::new(alloc);
     for id in ids {
         concepts.push(concept(alloc, id)?)?;

@@ -1,0 +1,213 @@
+-- What an import comes to, by the causes that were tried.
+use Rattle.std.proofs.Common.{◌≡◌, ◌+◌, ◌<◌, ℕ, zero, suc, add-one, drop, get_or, Bool, true, false, List, [], ◌∷◌, ◌++◌, length, arith, Option, Some, None, refl, sym, ap, ◌∙◌, subst}
+use Rattle.std.specs.Prelude.{◌&&◌, ◌==◌, ◌≢◌, All, not, flat_map, if◌then◌else◌, is_some, map, option_map, slice_index_or}
+use Rattle.std.specs.BTreeMap.{is_at}
+use Rattle.std.specs.BTreeSet.{BTreeSet, insert_key}
+use Rattle.std.specs.Cmp.Lexicographic.{slice_cmp}
+use Rattle.std.specs.List.{list_all, list_any}
+use Rattle.std.specs.Ordering.{nat_cmp}
+use Rattle.std.specs.Str.{IsUtf8, chars, encode_utf8_all}
+use Rattle.std.specs.Option.{option_or}
+use Rattle.std.proofs.Math.Seq.{drop-cons}
+use Rattle.std.proofs.lemmas.Bool.{and_parts}
+use Rattle.std.proofs.lemmas.Grind.{flat_map-append}
+use Rattle.std.proofs.lemmas.Str.{encodes-chars, encodes_same}
+use denote.Ref.{Bor}
+use Rattle.aas_command.specs.Refusals.{refusal_of_fault}
+use Rattle.aas_command.specs.declared.command.Command.TheVariants.{Import}
+use Rattle.aas_command.specs.declared.refusal.Refusal.{Refusal}
+use Rattle.aas_command.specs.declared.refusal.Refusal.TheVariants.{Conflict, Constraint, Lexical, StorageFault, StorageFull, TooMany}
+use Rattle.aas_constraint_parts.proofs.Sets.{again, one_more}
+use Rattle.aas_constraint_parts.specs.Repeats.{HasTexts}
+use Rattle.aas_constraint_rules.specs.Texts.{is_among}
+use Rattle.aas_constraint_rules.specs.Faults.{Document, concept, faults_of, shell, submodel}
+use Rattle.aas_json_mapping.specs.Whole.{is_whole_concept, is_whole_environment, is_whole_shell, is_whole_submodel}
+use Rattle.aas_json_table.specs.TooDeep.{limits}
+use Rattle.aas_model.specs.declared.documents.Environment.{Environment}
+use Rattle.aas_model.specs.declared.documents.Submodel.{Submodel}
+use Rattle.aas_model.specs.declared.path.Fault.{Fault}
+use Rattle.aas_model_names.specs.declared.collection.Collection.TheVariants.{Shells, Submodels, Concepts}
+use Rattle.aas_reference.specs.Rules.{first}
+use Rattle.aas_step.proofs.Imported.{with_all_documents}
+use Rattle.aas_step.specs.Causes.{Cause, causes, document_causes, first_of, first_repeated, first_repeated_in, has_repeated, has_too_many, unless, when}
+use Rattle.aas_step.specs.Laws.{ValidIsStorable}
+use Rattle.aas_step.specs.Made.{documents_in, with_documents}
+use Rattle.aas_step.specs.Step.{ComesBy, ComesTo, accepted, later_causes, refused, result_of}
+use Rattle.aas_store.specs.Documents.{Documents, with_all}
+use Rattle.aas_store.specs.Storable.{IsStorable}
+use Rattle.aas_repo.specs.Decisions.{IsDecision}
+use Rattle.aas_repo.specs.declared.decision.Decision.TheVariants as decision
+
+-- ---- identifiers that were seen
+
+text_of : (bytes text : List ℕ) → IsUtf8 bytes → bytes ≡ encode_utf8_all text → chars bytes ≡ text
+text_of bytes text utf8 is = encodes_same (chars bytes) text (encodes-chars bytes utf8 ∙ is)
+
+pub again_seen : (s : BTreeSet (Bor (List ℕ))) (k : Bor (List ℕ)) (is_new : Bool) → IsUtf8 k.now → is_new ≡ not (list_any (is_at (λ (y : Bor (List ℕ)). slice_cmp nat_cmp k.now y.now)) s.keys)
+    → (text : List ℕ) (ids : List (List ℕ)) → k.now ≡ encode_utf8_all text → HasTexts s ids → not is_new ≡ is_among text ids
+again_seen s k is_new utf8 added text ids is has = again s k is_new utf8 added ids has ∙ ap (λ t. is_among t ids) (text_of k.now text utf8 is)
+
+pub one_more_seen : (s n : BTreeSet (Bor (List ℕ))) (k : Bor (List ℕ)) → IsUtf8 k.now → n.keys ≡ insert_key (λ (x y : Bor (List ℕ)). slice_cmp nat_cmp x.now y.now) s.keys k
+    → (text : List ℕ) (ids : List (List ℕ)) → k.now ≡ encode_utf8_all text → HasTexts s ids → HasTexts n (ids ++ text ∷ [])
+one_more_seen s n k utf8 keys text ids is has = subst (λ t. HasTexts n (ids ++ t ∷ [])) (text_of k.now text utf8 is) (one_more s n k utf8 keys ids has)
+
+-- ---- causes in turn
+
+first_in : (os more : List Cause) → first_of (os ++ more) ≡ option_or (first_of os) (first_of more)
+first_in [] more = refl
+first_in (None ∷ os) more = first_in os more
+first_in (Some why ∷ os) more = refl
+
+alone : (o : Cause) → first_of (o ∷ []) ≡ o
+alone None = refl
+alone (Some why) = refl
+
+-- the first of all causes of some documents
+abbrev pub cause_of : {D : Type 0} → (D → Document) → List D → Cause
+cause_of wrap xs = first_of (flat_map document_causes (map wrap xs))
+
+-- of those from a place on
+pub from_here : {D : Type 0} (wrap : D → Document) (xs : List D) (i : ℕ) (x : D) → i < length xs → x ≡ get_or xs i x
+    → cause_of wrap (drop i xs) ≡ option_or (first_of (document_causes (wrap x))) (cause_of wrap (drop (i + 1) xs))
+from_here {D = D} wrap xs i x lt at =
+    let front : drop i xs ≡ x ∷ drop (i + 1) xs =
+    drop-cons xs i x lt ∙ ap (λ (y : D). y ∷ drop (suc i) xs) (sym at) ∙ ap (λ (n : ℕ). x ∷ drop n xs) (sym (add-one i)) in
+    ap (cause_of wrap) front ∙ first_in (document_causes (wrap x)) (flat_map document_causes (map wrap (drop (i + 1) xs)))
+
+-- the first cause of each list of an environment, in turn
+by_lists : (has_room : Bool) (e : Environment) → first_of (later_causes has_room (documents_in e)) ≡
+    option_or
+    (option_or (cause_of shell e.shells)
+    (option_or (cause_of submodel e.submodels) (cause_of concept e.concepts)))
+    (unless has_room StorageFull)
+by_lists has_room e =
+    let ss : List Document = map shell e.shells in
+    let ms : List Document = map submodel e.submodels in
+    let cs : List Document = map concept e.concepts in
+    let both = ap first_of (flat_map-append document_causes ms cs) ∙ first_in (flat_map document_causes ms) (flat_map document_causes cs) in
+    let all =
+    ap first_of (flat_map-append document_causes ss (ms ++ cs)) ∙ first_in (flat_map document_causes ss) (flat_map document_causes (ms ++ cs))
+    ∙ ap (option_or (first_of (flat_map document_causes ss))) both in
+    first_in (flat_map document_causes (ss ++ (ms ++ cs))) (unless has_room StorageFull ∷ [])
+    ∙ ap (option_or (first_of (flat_map document_causes (ss ++ (ms ++ cs))))) (alone (unless has_room StorageFull))
+    ∙ ap (λ o. option_or o (unless has_room StorageFull)) all
+
+none_in : (o more : Cause) → None ≡ option_or o more → (o ≡ None) × (more ≡ None)
+none_in None more e = (refl, sym e)
+none_in (Some why) more e = absurd (cc)
+
+-- ---- refusals
+
+of_fault : (b : Bool) (f : Fault) (refusal : Refusal) → Some refusal ≡ Some (if b then Lexical f.path else Constraint f) → refusal ≢ StorageFault
+of_fault true f refusal e is = absurd (cc)
+of_fault false f refusal e is = absurd (cc)
+
+by_document : (faults : List Fault) (many : Bool) (more : List Cause) (refusal : Refusal) → (Some refusal ≡ first_of more → refusal ≢ StorageFault)
+    → Some refusal ≡ first_of (option_map refusal_of_fault (first faults) ∷ when many TooMany ∷ more) → refusal ≢ StorageFault
+by_document [] true more refusal rest e is = absurd (cc)
+by_document [] false more refusal rest e is = rest e is
+by_document (f ∷ fs) many more refusal rest e is = of_fault (f.number == 0) f refusal e is
+
+no_storage_fault : (has_room : Bool) (new : List Document) (refusal : Refusal) → Some refusal ≡ first_of (later_causes has_room new) → refusal ≢ StorageFault
+no_storage_fault true [] refusal e is = absurd (cc)
+no_storage_fault false [] refusal e is = absurd (cc)
+no_storage_fault has_room (x ∷ xs) refusal e is =
+    by_document (faults_of x) (has_too_many x) (later_causes has_room xs) refusal (no_storage_fault has_room xs refusal) e is
+
+-- ---- what it comes to
+
+-- all causes of an import, in their order
+abbrev pub import_causes : Bool → Environment → List Cause
+import_causes has_room e = when (has_repeated e) Conflict ∷ later_causes has_room (documents_in e)
+
+later_than : (b : Bool) (later : List Cause) → b ≡ false → first_of (when b Conflict ∷ later) ≡ first_of later
+later_than true later is = absurd (cc)
+later_than false later is = refl
+
+-- where no identifier is repeated: the first causes of the three lists, and then the room
+pub in_turn : (has_room : Bool) (e : Environment) (a b c : Cause) → has_repeated e ≡ false → a ≡ cause_of shell e.shells → b ≡ cause_of submodel e.submodels → c ≡ cause_of concept e.concepts
+    → option_or (option_or a (option_or b c)) (unless has_room StorageFull) ≡ first_of (import_causes has_room e)
+in_turn has_room e a b c once is_a is_b is_c =
+    ap (λ o. option_or (option_or o (option_or b c)) (unless has_room StorageFull)) is_a
+    ∙ ap (λ o. option_or (option_or (cause_of shell e.shells) (option_or o c)) (unless has_room StorageFull)) is_b
+    ∙ ap (λ o. option_or (option_or (cause_of shell e.shells) (option_or (cause_of submodel e.submodels) o)) (unless has_room StorageFull)) is_c
+    ∙ sym (later_than (has_repeated e) (later_causes has_room (documents_in e)) once ∙ by_lists has_room e)
+
+-- the first place at which an identifier is repeated, list by list
+pub places : (e : Environment) (a b c : Option ℕ) → a ≡ first_repeated (map (λ s. s.head.id) e.shells) → b ≡ first_repeated (map (λ s. s.head.id) e.submodels)
+    → c ≡ first_repeated (map (λ c. c.head.id) e.concepts)
+    → option_or (option_map (λ n. (Shells, n)) a) (option_or (option_map (λ n. (Submodels, n)) b) (option_map (λ n. (Concepts, n)) c)) ≡ first_repeated_in e
+places e a b c is_a is_b is_c =
+    ap (λ o. option_or (option_map (λ n. (Shells, n)) o) (option_or (option_map (λ n. (Submodels, n)) b) (option_map (λ n. (Concepts, n)) c))) is_a
+    ∙ ap (λ o. option_or (option_map (λ n. (Shells, n)) (first_repeated (map (λ s. s.head.id) e.shells))) (option_or (option_map (λ n. (Submodels, n)) o) (option_map (λ n. (Concepts, n)) c))) is_b
+    ∙ ap (λ o. option_or (option_map (λ n. (Shells, n)) (first_repeated (map (λ s. s.head.id) e.shells)))
+    (option_or (option_map (λ n. (Submodels, n)) (first_repeated (map (λ s. s.head.id) e.submodels))) (option_map (λ n. (Concepts, n)) o))) is_c
+
+comes : (has_room : Bool) (d : Documents) (e : Environment) (o : Cause) → has_repeated e ≡ false → o ≡ first_of (later_causes has_room (documents_in e))
+    → ComesTo has_room d (Import e) (result_of o (with_documents d (documents_in e)))
+unfolding ComesTo
+comes has_room d e o once is =
+    subst (λ b. ComesBy (first_of (when b Conflict ∷ [])) has_room d (Import e) (result_of o (with_documents d (documents_in e)))) (sym once)
+    (documents_in e, refl, ap (λ (o : Cause). result_of o (with_documents d (documents_in e))) is)
+
+-- an identifier is repeated, or none is
+by_repeated : (b : Bool) (refusal : Refusal) (later : List Cause) → Some refusal ≡ first_of (when b Conflict ∷ later) → (b ≡ true → refusal ≡ Conflict) × (b ≡ false → Some refusal ≡ first_of later)
+by_repeated true refusal later e = (λ is. cc, λ is. absurd (cc))
+by_repeated false refusal later e = (λ is. absurd (cc), λ is. e)
+
+pub refuses : (has_room : Bool) (d new : Documents) (e : Environment) (refusal : Refusal) → Some refusal ≡ first_of (import_causes has_room e) → new ≡ d
+    → IsDecision has_room d (Import e) new (decision.Refused refusal)
+unfolding ComesTo
+refuses has_room d new e refusal why same = by (has_repeated e) refl
+  where
+    told : (has_repeated e ≡ true → refusal ≡ Conflict) × (has_repeated e ≡ false → Some refusal ≡ first_of (later_causes has_room (documents_in e)))
+    told = by_repeated (has_repeated e) refusal (later_causes has_room (documents_in e)) why
+
+    by : (b : Bool) → has_repeated e ≡ b → IsDecision has_room d (Import e) new (decision.Refused refusal)
+    by true is =
+        let conflict : refusal ≡ Conflict = told.0 is in
+        (same, λ fault. absurd (cc), subst (λ b. ComesBy (first_of (when b Conflict ∷ [])) has_room d (Import e) (refused refusal)) (sym is) (ap refused conflict))
+    by false is = let later = told.1 is in (same, no_storage_fault has_room (documents_in e) refusal later, comes has_room d e (Some refusal) is later)
+
+-- no cause is left
+clear : (b has_room : Bool) (new : List Document) → None ≡ first_of (when b Conflict ∷ later_causes has_room new) → (b ≡ false) × (None ≡ first_of (later_causes has_room new)) × (has_room ≡ true)
+clear true has_room new none = absurd (cc)
+clear false true new none = (refl, none, refl)
+clear false false new none =
+    let full = none_in (first_of (flat_map document_causes new)) (Some StorageFull) (none ∙ first_in (flat_map document_causes new) (Some StorageFull ∷ [])) in
+    absurd (cc)
+
+pub imports : (has_room : Bool) (d new : Documents) (e : Environment) → None ≡ first_of (import_causes has_room e) → new ≡ with_all d e
+    → IsDecision has_room d (Import e) new decision.Made
+imports has_room d new e none same =
+    let is = clear (has_repeated e) has_room (documents_in e) none in
+    (is.2, subst (λ (n : Documents). ComesTo has_room d (Import e) (accepted n)) (with_all_documents d e ∙ sym same) (comes has_room d e None is.0 is.1))
+
+-- ---- submodels that a store takes
+
+faultless : (faults : List Fault) (many : Bool) → first_of (option_map refusal_of_fault (first faults) ∷ when many TooMany ∷ []) ≡ None → (faults ≡ []) × (many ≡ false)
+faultless [] true e = absurd (cc)
+faultless [] false e = (refl, refl)
+faultless (f ∷ fs) many e = absurd (cc)
+
+all_of : {X : Type 0} (P : X → Type 0) (x : X) (xs : List X) → P x → All P xs → All P (x ∷ xs)
+all_of P x xs here rest zero d lt = here
+all_of P x xs here rest (suc k) d lt = rest k d (omega (arith, lt))
+
+all_storable : (ss : List Submodel) → ValidIsStorable → list_all (is_whole_submodel limits) ss ≡ true → first_of (flat_map document_causes (map submodel ss)) ≡ None → All IsStorable ss
+all_storable [] law whole none = λ k d lt. absurd (omega (arith, lt))
+all_storable (s ∷ ss) law whole none =
+    let wholes = and_parts (is_whole_submodel limits s) (list_all (is_whole_submodel limits) ss) whole in
+    let nones = none_in (first_of (document_causes (submodel s))) (first_of (flat_map document_causes (map submodel ss)))
+    (sym none ∙ first_in (document_causes (submodel s)) (flat_map document_causes (map submodel ss))) in
+    let own = faultless (faults_of (submodel s)) (has_too_many (submodel s)) nones.0 in
+    all_of IsStorable s ss (law s (record { whole = wholes.0; faultless = own.0 }) own.1) (all_storable ss law wholes.1 nones.1)
+
+pub storable : (has_room : Bool) (e : Environment) → ValidIsStorable → is_whole_environment limits e ≡ true → None ≡ first_of (import_causes has_room e) → All IsStorable e.submodels
+storable has_room e law whole none =
+    let is = clear (has_repeated e) has_room (documents_in e) none in
+    let lists = none_in _ (unless has_room StorageFull) (is.1 ∙ by_lists has_room e) in
+    let behind = none_in (cause_of shell e.shells) _ (sym lists.0) in
+    let own = none_in (cause_of submodel e.submodels) _ (sym behind.1) in
+    let front = and_parts (list_all (is_whole_shell limits) e.shells && list_all (is_whole_submodel limits) e.submodels) (list_all (is_whole_concept limits) e.concepts) whole in
+    all_storable e.submodels law (and_parts (list_all (is_whole_shell limits) e.shells) (list_all (is_whole_submodel limits) e.submodels) front.0).1 own.0

@@ -1,0 +1,131 @@
+// An environment is imported: all its documents are put in, or none.
+ghost use Rattle.std.specs.Prelude.{◌≡◌, ◌∷◌, [], ◌++◌, ℕ, List, encode_utf8_all, flat_map, map, IfOk};
+ghost use Rattle.aas_command.specs.declared.command.Command.TheVariants.{Import};
+ghost use Rattle.aas_command.specs.declared.refusal.Refusal.TheVariants.{Conflict};
+ghost use Rattle.aas_constraint_parts.specs.Repeats.{HasTexts};
+ghost use Rattle.aas_constraint_rules.specs.Texts.{is_among};
+ghost use Rattle.aas_json_mapping.specs.Trees.{environments};
+ghost use Rattle.aas_json_table.specs.TooDeep.{limits};
+ghost use Rattle.aas_step.specs.Causes.{document_causes, first_of, first_repeated, first_repeated_in, has_repeated, when};
+ghost use Rattle.aas_step.specs.Made.{documents_in, id_of};
+ghost use Rattle.aas_step.specs.Step.{later_causes};
+ghost use Rattle.aas_repo.specs.Decisions.{IsDecision};
+
+use crate::deciding::document_cause;
+use crate::decision::Decision;
+use crate::stored::Stored;
+use aas_command::Refusal;
+use aas_model::{Collection, Environment, NoMemory};
+use aas_step::valid_submodels_are_storable;
+use aas_store::Store;
+use std::alloc::Global;
+use std::collections::BTreeSet;
+
+/// Puts all documents of an environment in, unless a cause refuses the command.
+pub(crate) fn import<S: Store>(
+    alloc: Global,
+    store: &mut S,
+    environment: Environment,
+    has_room: bool,
+) -> Decision
+    requires { environments.IsWhole limits environment }
+    ensures { IsDecision has_room (S.documents store.old) (Import environment) (S.documents store.new) result }
+{
+    valid_submodels_are_storable();
+    match import_cause(alloc, &environment, has_room) {
+        Ok(None) => match store.put_all(environment) {
+            Ok(()) => Decision::Made,
+            Err(NoMemory) => Decision::NoMemory,
+        },
+        Ok(Some(refusal)) => Decision::Refused(refusal),
+        Err(NoMemory) => Decision::NoMemory,
+    }
+}
+
+/// Why an environment isn't imported: an identifier stands twice, or the first cause of its documents in their order, or
+/// there is no room.
+fn import_cause(
+    alloc: Global,
+    environment: &Environment,
+    has_room: bool,
+) -> Result<Option<Refusal>, NoMemory>
+    ensures { IfOk result (λ cause. cause ≡ first_of
+        (when (has_repeated environment.now) Conflict ∷ later_causes has_room (documents_in environment.now))) }
+{
+    if first_repeated(alloc, environment)?.is_some() {
+        return Ok(Some(Refusal::Conflict));
+    }
+    if let Some(refusal) = cause_among(alloc, environment.shells.as_slice())? {
+        return Ok(Some(refusal));
+    }
+    if let Some(refusal) = cause_among(alloc, environment.submodels.as_slice())? {
+        return Ok(Some(refusal));
+    }
+    if let Some(refusal) = cause_among(alloc, environment.concepts.as_slice())? {
+        return Ok(Some(refusal));
+    }
+    if !has_room {
+        return Ok(Some(Refusal::StorageFull));
+    }
+    Ok(None)
+}
+
+/// The first cause of some documents, in their order.
+fn cause_among<D: Stored>(alloc: Global, documents: &[D]) -> Result<Option<Refusal>, NoMemory>
+    ensures { IfOk result (λ cause. cause ≡ first_of (flat_map document_causes (map D.document documents.now))) }
+{
+    for document in documents {
+        if let Some(refusal) = document_cause(alloc, document)? {
+            return Ok(Some(refusal));
+        }
+    }
+    Ok(None)
+}
+
+/// The place of the first document in a list of an environment, counted from 0, whose identifier stands before it too: in its
+/// shells, or else its submodels, or else its concept descriptions.
+pub fn first_repeated(
+    alloc: Global,
+    environment: &Environment,
+) -> Result<Option<(Collection, usize)>, NoMemory>
+    ensures { IfOk result (λ place. place ≡ first_repeated_in environment.now) }
+{
+    if let Some(place) = first_repeated_among(alloc, environment.shells.as_slice())? {
+        return Ok(Some((Collection::Shells, place)));
+    }
+    if let Some(place) = first_repeated_among(alloc, environment.submodels.as_slice())? {
+        return Ok(Some((Collection::Submodels, place)));
+    }
+    if let Some(place) = first_repeated_among(alloc, environment.concepts.as_slice())? {
+        return Ok(Some((Collection::Concepts, place)));
+    }
+    Ok(None)
+}
+
+fn first_repeated_among<D: Stored>(
+    alloc: Global,
+    documents: &[D],
+) -> Result<Option<usize>, NoMemory>
+    ensures { IfOk result (λ place. place ≡ first_repeated (map (λ x. id_of (D.document x)) documents.now)) }
+{
+    let mut seen = BTreeSet::new(alloc);
+    for (place, document) in documents.iter().enumerate() {
+        if meet(&mut seen, document.id())? {
+            return Ok(Some(place));
+        }
+    }
+    Ok(None)
+}
+
+/// Whether the identifier is one of those seen, which have it from then on.
+fn meet<'a>(seen: &mut BTreeSet<&'a str>, id: &'a str) -> Result<bool, NoMemory>
+    ensures again { IfOk result (λ again. (text : List ℕ) (ids : List (List ℕ)) → id.now ≡ encode_utf8_all text → HasTexts seen.old ids
+        → again ≡ is_among text ids) }
+    ensures has { IfOk result (λ again. (text : List ℕ) (ids : List (List ℕ)) → id.now ≡ encode_utf8_all text → HasTexts seen.old ids
+        → HasTexts seen.new (ids ++ text ∷ [])) }
+{
+    match seen.insert(id) {
+        Ok(is_new) => Ok(!is_new),
+        Err(_) => Err(NoMemory),
+    }
+}
