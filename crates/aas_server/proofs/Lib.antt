@@ -1,8 +1,12 @@
+mod Checkpointed
 mod Early
 mod Given
+mod Held
 mod OneWay
 mod Opened
 mod Replayed
 mod Since
+mod Told
 mod ValueAnswers
+mod Whole
 mod Words

@@ -5,7 +5,9 @@ use Rattle.aas_server.specs.declared.command_line.CommandLine.{CommandLine}
 use Rattle.aas_server.specs.declared.command_line.CommandLine.TheVariants.{Value, Init, Pipe, Serve, Check, Export, Checkpoint}
 use Rattle.aas_server.specs.Answer.{Says, not_a_command}
 use Rattle.aas_server.specs.CheckText.{check_text}
+use Rattle.aas_server.specs.Checkpointing.{Checkpoints}
 use Rattle.aas_server.specs.Ends.{ConsoleState, DiskState, WireState}
+use Rattle.aas_server.specs.ExportText.{export_text}
 use Rattle.aas_server.specs.Init.{Inits}
 use Rattle.aas_server.specs.Pipe.{Pipes}
 use Rattle.aas_server.specs.Serve.{Serves}
@@ -45,6 +47,10 @@ Does view (Some Pipe) status old new wire_old wire_new disk_old disk_new =
     Pipes status old new (view disk_old) (view disk_new) × (wire_new ≡ wire_old)
 Does view (Some Check) status old new wire_old wire_new disk_old disk_new =
     Tells check_text status old new (view disk_old) (view disk_new) × (wire_new ≡ wire_old)
+Does view (Some Export) status old new wire_old wire_new disk_old disk_new =
+    Tells export_text status old new (view disk_old) (view disk_new) × (wire_new ≡ wire_old)
+Does view (Some Checkpoint) status old new wire_old wire_new disk_old disk_new =
+    Checkpoints status old new (view disk_old) (view disk_new) × (wire_new ≡ wire_old)
 Does view (Some (Serve count)) status old new wire_old wire_new disk_old disk_new =
     Serves count status old new wire_old wire_new (view disk_old) (view disk_new)
 
