@@ -39,6 +39,10 @@ still_opens d payloads moment left_at replays alone t since until image left =
     let now : t ≡ moment = omega (arith, since, until) in
     (payloads, (alone image (subst (λ (at : ℕ). left_at at image) now left), replays))
 
+-- what is said of a line with these bytes, or of why there is none
+abbrev pub IsSaid : {V : Type 0} → (V → List ℕ) → Result V Unmade → Answer → Type 0
+IsSaid items made answer = MatchResult made (λ line. answer ≡ done (items line)) (λ why. IsSaidThen why answer)
+
 -- ---- from the start on
 
 -- a journal, seen so, before a checkpoint of these documents and after it; V is the line that is to be said
@@ -60,9 +64,6 @@ module _ {V J : Type 0} (items : V → List ℕ) (view : J → DiskState) (start
 
   abbrev Stays : Type 0
   Stays = (payloads : List (List ℕ)) → Replays payloads d → IsSettledState IsBankImage opened payloads → OpensMeanwhile d mid.moment last
-
-  abbrev IsSaid : Result V Unmade → Answer → Type 0
-  IsSaid made answer = MatchResult made (λ line. answer ≡ done (items line)) (λ why. IsSaidThen why answer)
 
   module _ (one_list : HaveOneList) (one_replay : OneReplay) (is_opened : IfSome start.seen (IsOpened opened))
       (reads : IsUnwritten start mid) (later : start.faults ≤ mid.faults)
@@ -102,7 +103,7 @@ module _ {V J : Type 0} (items : V → List ℕ) (view : J → DiskState) (start
     }
 
     pub checkpoints : (made : Result V Unmade) → ComesTo made → (made ≡ Err unmade.NoMemory → new ≡ old)
-        → Says (IsSaid made) status console_old console_new
+        → Says (IsSaid items made) status console_old console_new
         → (made ≡ Err unmade.NoMemory → (status ≡ 10) × (console_new ≡ console_old)) → Checkpoints status console_old console_new start last
     checkpoints (Ok line) outcome forgone says silent = inr (inr (is_checkpointed (λ payloads keeps.
         let both = outcome payloads keeps in (

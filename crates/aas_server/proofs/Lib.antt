@@ -1,5 +1,6 @@
 mod Checkpointed
 mod Early
+mod Few
 mod Given
 mod Held
 mod OneWay

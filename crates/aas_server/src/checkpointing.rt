@@ -155,7 +155,7 @@ fn make<D: Disk>(
 
 /// Says what came of it. For want of memory nothing is said.
 fn say<C: Link>(console: &mut C, made: Result<Vec<u8>, Unmade>) -> Status
-    ensures says { Says (λ answer. MatchResult made (λ line. answer ≡ done line.items) (λ unmade. IsSaidThen unmade answer))
+    ensures says { Says (λ answer. MatchResult made (λ line. answer ≡ done line.items) (λ why. IsSaidThen why answer))
         (exit_code result)
         (console_of C.left C.sent C.faults console.old) (console_of C.left C.sent C.faults console.new) }
     ensures unread { C.left console.new ≡ C.left console.old }
@@ -164,8 +164,21 @@ fn say<C: Link>(console: &mut C, made: Result<Vec<u8>, Unmade>) -> Status
 {
     match made {
         Ok(line) => end_with(console, &line, Status::Done),
-        Err(Unmade::Full) => end_with(console, b"aasd: journal full\n", Status::JournalFull),
-        Err(Unmade::Failed) => end_with(console, b"aasd: disk fault\n", Status::DiskFault),
-        Err(Unmade::NoMemory) => Status::NoMemory,
+        Err(unmade) => say_unmade(console, unmade),
+    }
+}
+
+/// Says why no checkpoint was made.
+fn say_unmade<C: Link>(console: &mut C, unmade: Unmade) -> Status
+    ensures says { Says (IsSaidThen unmade) (exit_code result)
+        (console_of C.left C.sent C.faults console.old) (console_of C.left C.sent C.faults console.new) }
+    ensures unread { C.left console.new ≡ C.left console.old }
+    ensures silent { unmade ≡ Unmade.NoMemory → (exit_code result ≡ 10) × (console.new ≡ console.old) }
+    ensures statuses { Contains (statuses_of (Some CommandLine.Checkpoint)) (exit_code result) }
+{
+    match unmade {
+        Unmade::Full => end_with(console, b"aasd: journal full\n", Status::JournalFull),
+        Unmade::Failed => end_with(console, b"aasd: disk fault\n", Status::DiskFault),
+        Unmade::NoMemory => Status::NoMemory,
     }
 }

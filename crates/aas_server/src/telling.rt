@@ -1,5 +1,5 @@
 // The commands that tell something of the documents on a disk.
-ghost use Rattle.std.specs.Prelude.{◌≡◌, ◌≤◌, ◌⊎◌, List, ℕ, Contains, IfOk};
+ghost use Rattle.std.specs.Prelude.{◌≡◌, ◌≤◌, List, ℕ, Contains, IfOk};
 ghost use Rattle.aas_outside.specs.Moments.{Passes};
 ghost use Rattle.aas_store.specs.Documents.{Documents};
 ghost use Rattle.aas_step.specs.Valid.{AreValid};
@@ -94,7 +94,7 @@ fn give<C: Link>(console: &mut C, text: Result<Vec<u8>, NoMemory>) -> Status
     ensures unread { C.left console.new ≡ C.left console.old }
     ensures silent { exit_code result ≡ 10 →
         console_of C.left C.sent C.faults console.new ≡ console_of C.left C.sent C.faults console.old }
-    ensures statuses { (exit_code result ≡ 3) ⊎ (exit_code result ≡ 0) ⊎ (exit_code result ≡ 10) }
+    ensures statuses { Contains (statuses_of (Some CommandLine.Check)) (exit_code result) }
 {
     match text {
         Ok(text) => end_with(console, &text, Status::Done),
