@@ -1,5 +1,5 @@
 -- What is asked for is well formed, since a tree that is read is whole.
-use Rattle.std.proofs.Common.{◌≡◌, inl, inr, ℕ, ◌+◌, List, [], ◌∷◌, length, Bool, true, false, Option, Some, None, Result, Ok, Err, refl, sym, subst}
+use Rattle.std.proofs.Common.{◌≡◌, inl, inr, ℕ, ◌+◌, List, [], ◌∷◌, length, Bool, true, false, Option, Some, None, Result, Ok, Err, refl, sym, subst, ap}
 use Rattle.std.specs.Prelude.{bytes_eq, if◌then◌else◌}
 use Rattle.std.specs.List.{last_or}
 use Rattle.serde_json.specs.Data.{Data}
@@ -313,14 +313,21 @@ module _ (c : Command) where
 
 -- ---- requests
 
+abbrev asked_in : Called → Option Ask
+asked_in (Ok call) = Some call.ask
+asked_in (Err why) = None
+
 module _ (through : Option (List ℕ)) (c : Command) where
   -- where it is called so, it is well formed
   abbrev KeepsCall : (Called → Type 0) → Type 0
   KeepsCall Calls = Calls (Ok (record { through = through; ask = Act c })) → IsWellFormed c
 
   is_call : (shell : Option (List ℕ)) (Asks : Asked → Type 0) → ((d : Command) → Keeps d Asks) → KeepsCall (IsCall shell Asks)
-  is_call shell Asks each (Ok (Act d), asks, is) = let same : d ≡ c = cc in subst IsWellFormed same (each d asks)
-  is_call shell Asks each (Ok (Answer q), asks, is) = absurd (cc)
+  is_call shell Asks each (Ok (Act d), asks, is) =
+      let same_ask : Some (Act c) ≡ Some (Act d) = ap asked_in is in
+      let same : d ≡ c = cc in subst IsWellFormed same (each d asks)
+  is_call shell Asks each (Ok (Answer q), asks, is) =
+      let same_ask : Some (Act c) ≡ Some (Answer q) = ap asked_in is in absurd (cc)
   is_call shell Asks each (Err why, asks, is) = absurd (cc)
 
   by_shell : (segment : Option (List ℕ)) (Asks : Asked → Type 0) → ((d : Command) → Keeps d Asks) → KeepsCall (Through segment Asks)

@@ -53,7 +53,7 @@ one_more_seen s n k utf8 keys text ids is has = subst (λ t. HasTexts n (ids ++ 
 
 -- ---- causes in turn
 
-first_in : (os more : List Cause) → first_of (os ++ more) ≡ option_or (first_of os) (first_of more)
+pub first_in : (os more : List Cause) → first_of (os ++ more) ≡ option_or (first_of os) (first_of more)
 first_in [] more = refl
 first_in (None ∷ os) more = first_in os more
 first_in (Some why ∷ os) more = refl

@@ -1,17 +1,17 @@
 -- Pages, entry by entry.
-use Rattle.std.proofs.Common.{◌≡◌, ◌⊎◌, inl, inr, ⊎_elim, ℕ, suc, ◌+◌, ◌-◌, ◌<◌, ◌≤◌, min, Bool, true, false, nat_lt, List, [], ◌∷◌, ◌++◌, length, map, take, drop, slice_get, decimal, Option, Some, None, option_map, Result, Ok, refl, sym, ap, ap₂, ◌∙◌, arith, cond}
-use Rattle.std.specs.Prelude.{codes, filter, get_or, if◌then◌else◌, ◌&&◌, ◌↔◌}
+use Rattle.std.proofs.Common.{◌≡◌, ⊎_elim, ℕ, suc, ◌+◌, ◌-◌, ◌<◌, ◌≤◌, min, Bool, true, false, nat_lt, List, [], ◌∷◌, ◌++◌, length, map, take, drop, slice_get, decimal, Option, Some, None, option_and_then, option_map, Ok, refl, sym, ap, ap₂, ◌∙◌, arith}
+use Rattle.std.specs.Prelude.{codes, filter, get_or, if◌then◌else◌, ◌&&◌}
 use Rattle.std.specs.FinMap as fin
 use Rattle.std.specs.FinMap.{entries_sorted, get-entries}
 use Rattle.std.specs.List.{All, flat_map, join_by, last_or}
 use Rattle.std.specs.Option.{option_map_or}
 use Rattle.std.specs.Str.{encode_utf8_all}
-use Rattle.std.proofs.lemmas.Bool.{cases_lt, lt-ltb, ltb_from_iff, ltb-true}
+use Rattle.std.proofs.lemmas.Bool.{and_parts, cases_lt, lt-ltb, ltb_from_iff, ltb-true}
 use Rattle.std.proofs.lemmas.List.{append-nil, append_assoc, get_or-drop, length-drop, length-take-le, take_all, take_more}
 use Rattle.std.proofs.lemmas.List.Concat.{flat_map-append}
 use Rattle.std.proofs.lemmas.List.Elements.{All-head, All-tail, All-filter, All-take}
 use Rattle.std.proofs.lemmas.List.Folds.{flat_map-map}
-use Rattle.std.proofs.lemmas.Option.{get_or_from_slice_get, slice_get_within, slice_get-get_or}
+use Rattle.std.proofs.lemmas.Option.{get_or_from_slice_get, slice_get_cases, slice_get_within, slice_get-get_or}
 use Rattle.std.proofs.lemmas.Simd.{map-map}
 use Rattle.base64.specs.Engines.{url_safe_no_pad}
 use Rattle.base64.specs.GeneralPurpose.{encode_of}
@@ -23,11 +23,17 @@ use Rattle.aas_page.specs.Pages.{PageOf, ids_on, page_after, page_from, page_of}
 use Rattle.aas_page.specs.declared.filter.Selection.{Selection}
 use Rattle.aas_page.specs.declared.filter.Span.{Span}
 use Rattle.aas_model.specs.declared.documents.Submodel.{Submodel}
+use Rattle.aas_model.specs.declared.element.Element.{Element}
+use Rattle.aas_form.specs.ReferenceTo.{child_reference}
+use Rattle.aas_json_write.specs.Order.{element_in_order, elements_in_order, head_in_order, submodel_in_order}
 use Rattle.aas_step.specs.Valid.{AreValid}
 use Rattle.aas_store.specs.Documents.{Documents, Identifier, Map, is_above, without_children}
 use Rattle.aas_store.proofs.Ordered.{found_at}
-use Rattle.aas_repo.specs.Answers.{documents_page, page_begin, page_text, places_page}
-use Rattle.aas_repo.specs.Listed.{HasValidHead, collection_of, document_text, documents_in, shell_text, submodel_text}
+use Rattle.aas_repo.specs.Answers.{Answer, documents_page, page_begin, page_text, places_page, reference_text}
+use Rattle.aas_repo.specs.Listed.{HasValidHead, child_text, collection_of, document_text, documents_in, shell_text, submodel_text}
+use Rattle.aas_repo.proofs.Reached.{kids_at}
+use Rattle.aas_repo.specs.declared.forms.ChildForm.{ChildForm}
+use Rattle.aas_repo.specs.declared.forms.ChildForm.TheVariants as child
 use Rattle.aas_repo.specs.declared.forms.DocumentForm.{DocumentForm}
 use Rattle.aas_repo.specs.declared.forms.DocumentForm.TheVariants as document
 
@@ -43,6 +49,7 @@ joined_more {X = X} text (y ∷ ys) x =
     ap (λ t. text y ++ t) (flat_map-append after ys (x ∷ []) ∙ ap (λ t. flat_map after ys ++ t) (append-nil (after x)))
     ∙ sym (append_assoc (text y) (flat_map after ys) (after x))
     ∙ sym (append_assoc (text y ++ flat_map after ys) (codes ",") (text x))
+    ∙ ap (λ later. ((text y ++ flat_map after ys) ++ comma_if later) ++ text x) (sym (lt-ltb 0 (length (y ∷ ys)) (omega arith)))
 
 joined_texts : {X : Type 0} (text : X → List ℕ) (xs : List X) → joined text xs ≡ joined (λ t. t) (map text xs)
 joined_texts text [] = refl
@@ -83,8 +90,8 @@ module _ {X : Type 0} (xs : List X) (from limit : ℕ) where
   pub place_behind : (place : ℕ) (x : X) → from ≤ place → slice_get xs place ≡ Some x → slice_get (drop from xs) (place - from) ≡ Some x
   place_behind place x le at = behind_front (place - from) x (let same : from + (place - from) ≡ place = omega arith in ap (slice_get xs) same ∙ at)
 
-  pub is_later : (place : ℕ) (later : Bool) → (later ≡ true ↔ from < place) → later ≡ nat_lt 0 (place - from)
-  is_later place later test = ltb_from_iff (λ is. let more = test.0 is in omega arith, λ more. test.1 (omega arith))
+  is_later : (place : ℕ) → nat_lt from place ≡ nat_lt 0 (place - from)
+  is_later place = ltb_from_iff (λ less. let lt = ltb-true from place less in omega arith, λ lt. lt-ltb from place (omega arith))
 
   -- the entries up to the end of a page are all of it
   pub entries_to_end : (place : ℕ) → min (from + limit) (length xs) ≤ place → (from ≤ min (from + limit) (length xs) → place ≤ min (from + limit) (length xs))
@@ -114,13 +121,22 @@ module _ {X : Type 0} (xs : List X) (from limit : ℕ) where
       by false more = refl
 
   -- one more entry, at its place
-  pub place_more : (text : X → List ℕ) (place : ℕ) (x : X) (later : Bool) (begin old comma new : List ℕ) → from ≤ place → slice_get xs place ≡ Some x
-      → (later ≡ true ↔ from < place) → old ≡ begin ++ joined text (take (place - from) (drop from xs)) → comma ≡ old ++ comma_if later
-      → new ≡ comma ++ text x → new ≡ begin ++ joined text (take (place + 1 - from) (drop from xs))
-  place_more text place x later begin old comma new le at test so_far behind told =
+  pub place_more : (text : X → List ℕ) (place : ℕ) (x : X) (begin old comma new : List ℕ) → from ≤ place → slice_get xs place ≡ Some x
+      → old ≡ begin ++ joined text (take (place - from) (drop from xs)) → comma ≡ old ++ comma_if (nat_lt from place) → new ≡ comma ++ text x
+      → new ≡ begin ++ joined text (take (place + 1 - from) (drop from xs))
+  place_more text place x begin old comma new le at so_far behind told =
       let next : place + 1 - from ≡ place - from + 1 = omega arith in
-      entry_more text (drop from xs) (place - from) x later begin old comma new (place_behind place x le at) (is_later place later test) so_far behind told
+      entry_more text (drop from xs) (place - from) x (nat_lt from place) begin old comma new (place_behind place x le at) (is_later place) so_far behind told
       ∙ ap (λ n. begin ++ joined text (take n (drop from xs))) (sym next)
+
+  -- the same where the entry is looked up
+  pub place_told : (text : X → List ℕ) (place : ℕ) (begin old comma new : List ℕ) → from ≤ place → place < length xs
+      → old ≡ begin ++ joined text (take (place - from) (drop from xs)) → comma ≡ old ++ comma_if (nat_lt from place)
+      → new ≡ comma ++ option_map_or text (slice_get xs place) [] → new ≡ begin ++ joined text (take (place + 1 - from) (drop from xs))
+  place_told text place begin old comma new le within so_far behind told = ⊎_elim
+      (λ here. place_more text place here.0 begin old comma new le here.2 so_far behind (told ∙ ap (λ o. comma ++ option_map_or text o []) here.2))
+      (λ past. let beyond = past.0 in absurd (omega arith))
+      (slice_get_cases xs place).1
 
 pub places_told : {X : Type 0} (text : X → List ℕ) (xs : List X) (span : Span) (end place : ℕ) (cursor : Option (List ℕ)) (written page : List ℕ)
     → end ≡ min (span.from + span.limit) (length xs) → end ≤ place → (span.from ≤ end → place ≤ end)
@@ -208,13 +224,13 @@ last_cursor more ids found is at =
 
 -- ---- what a store tells of a submodel without its children
 
+some_same : (a b : Submodel) → Some a ≡ Some b → a ≡ b
+some_same a b e = cc
+
 pub head_there : (o : Option Submodel) (h : Submodel) → Some (without_children h) ≡ option_map without_children o
     → (s : Submodel) × (o ≡ Some s) × (without_children h ≡ without_children s)
 head_there None h is = absurd (cc)
 head_there (Some s) h is = (s, refl, some_same (without_children h) (without_children s) is)
-  where
-    some_same : (a b : Submodel) → Some a ≡ Some b → a ≡ b
-    some_same a b e = cc
 
 pub valid_head : (d : Documents) (id : Identifier) (h : Submodel) → AreValid d
     → Some (without_children h) ≡ option_map without_children (fin.get d.submodels id) → HasValidHead h
@@ -228,3 +244,22 @@ pub told_of_head : {A : Type 0} (tell : Submodel → A) (none : A) (o : Option S
 told_of_head tell none o h is =
     let there = head_there o h is in
     ap tell there.2 ∙ ap (λ o. option_map_or (λ s. tell (without_children s)) o none) (sym there.1)
+
+-- ---- children of a submodel, of which its head tells
+
+child_texts : (form : ChildForm) (h s : Submodel) → without_children h ≡ without_children s → child_text form h ≡ child_text form s
+child_texts (child.Whole level extent) h s same = refl
+child_texts child.Metadata h s same = refl
+child_texts child.Reference h s same = ap (λ s e. reference_text (child_reference s e)) same
+
+pub children_told : (form : ChildForm) (h : Submodel) (span : Span) (text : List ℕ) (none : Answer) (o : Option Submodel)
+    → Some (without_children h) ≡ option_map without_children o → places_page (child_text form h) span (option_map_or (λ s. s.kids) o []) ≡ Ok text
+    → Ok text ≡ option_map_or (λ s. places_page (child_text form s) span s.kids) o none
+children_told form h span text none None is told = absurd (cc)
+children_told form h span text none (Some s) is told =
+    sym told ∙ ap (λ t. places_page t span s.kids) (child_texts form h s (some_same (without_children h) (without_children s) is))
+
+pub child_in_order : (o : Option Submodel) (n : ℕ) (e : Element) → ((s : Submodel) → o ≡ Some s → submodel_in_order s ≡ true)
+    → Some e ≡ option_and_then (λ s. slice_get s.kids n) o → element_in_order e ≡ true
+child_in_order None n e order is = absurd (cc)
+child_in_order (Some s) n e order is = kids_at s.kids n e (and_parts (head_in_order s.head) (elements_in_order s.kids) (order s refl)).1 (sym is)

@@ -103,7 +103,7 @@ replaces s (t ∷ p) e some found fits = by_element (element_at s (t ∷ p)) ref
 
 -- ---- what is found
 
-kids_at : (ks : List Element) (i : ℕ) (k : Element) → elements_in_order ks ≡ true → slice_get ks i ≡ Some k → element_in_order k ≡ true
+pub kids_at : (ks : List Element) (i : ℕ) (k : Element) → elements_in_order ks ≡ true → slice_get ks i ≡ Some k → element_in_order k ≡ true
 kids_at ks i k whole is = all_at (λ e. element_in_order e) ks i k (map_true ks whole) is
   where
     map_true : (ks : List Element) → each_true (each element_in_order ks) ≡ true → list_all (λ e. element_in_order e) ks ≡ true

@@ -1,12 +1,15 @@
 // The bodies of replies to questions about pages of documents.
-ghost use Rattle.std.specs.Prelude.{◌≡◌, ◌++◌, ◌⊎◌, [], Err, OnOk};
+ghost use Rattle.std.specs.Prelude.{◌≡◌, ◌++◌, ◌⊎◌, [], Ok, Err, IfOk, OnOk, option_map};
 ghost use Rattle.std.specs.FinMap as map;
-ghost use Rattle.std.specs.Option.{option_map_or};
+ghost use Rattle.std.specs.Option.{option_copied, option_map_or};
+ghost use Rattle.std.specs.Str.{encode_utf8_all};
 ghost use Rattle.aas_command.specs.declared.refusal.Refusal.TheVariants as refused;
 ghost use Rattle.aas_json_mapping.specs.Trees.{shells};
 ghost use Rattle.aas_json_table.specs.TooDeep.{limits};
+ghost use Rattle.aas_page.specs.Pages.{page_of, shown};
+ghost use Rattle.aas_page.specs.declared.filter.Selection as asked;
 ghost use Rattle.aas_step.specs.Valid.{AreValid};
-ghost use Rattle.aas_repo.specs.Listed.{document_text, documents_in, shell_text, submodel_text};
+ghost use Rattle.aas_repo.specs.Listed.{collection_of, document_text, documents_in, shell_text, submodel_text};
 
 use crate::forms::{DocumentForm, ShellForm, SubmodelForm};
 use crate::page_text::{append_comma, begin_page, document_cursor, end_page};
@@ -15,7 +18,7 @@ use aas_command::Refusal;
 use aas_form::{reference_of_shell, reference_of_submodel};
 use aas_json_write::{whole_trees_are_in_order, write_concept, write_shell};
 use aas_model::{Many, NoMemory, Shell};
-use aas_page::{Selection, page};
+use aas_page::{Page, Selection, page};
 use aas_reference::write_reference;
 use aas_store::Store;
 use std::alloc::Global;
@@ -30,24 +33,45 @@ pub(crate) fn documents_answer<S: Store>(
     requires { AreValid (S.documents store.now) }
     ensures { (result ≡ Err refused.NoMemory) ⊎ (result ≡ documents_in form (S.documents store.now) selection.now) }
 {
-    let after = match &selection.after {
-        Some(id) => Some(id.as_str()),
-        None => None,
-    };
     let page = page(
         alloc,
         store,
         form.collection(),
         &selection.filter,
-        after,
+        after(selection),
         selection.limit,
     )?;
-    let mut text = begin_page(alloc, &document_cursor(alloc, &page)?)?;
+    Ok(page_told(alloc, store, &page, form)?)
+}
+
+/// The identifier behind which the page begins.
+fn after(selection: &Selection) -> Option<&str>
+    ensures { option_copied result ≡ option_map encode_utf8_all selection.now.after }
+{
+    match &selection.after {
+        Some(id) => Some(id.as_str()),
+        None => None,
+    }
+}
+
+/// The text of a page of documents, whichever selection it is of.
+fn page_told<S: Store>(
+    alloc: Global,
+    store: &S,
+    page: &Page,
+    form: DocumentForm,
+) -> Result<Many<u8>, NoMemory>
+    requires { AreValid (S.documents store.now) }
+    ensures { IfOk result (λ text. (s : asked.Selection) →
+        shown page.now ≡ page_of (collection_of form) s.filter (option_map encode_utf8_all s.after) s.limit (S.documents store.now) →
+        documents_in form (S.documents store.now) s ≡ Ok text) }
+{
+    let mut text = begin_page(alloc, &document_cursor(alloc, page)?)?;
     for (place, id) in page.ids.as_slice().iter().enumerate() {
         append_comma(place > 0, &mut text)?;
         append_document(alloc, store, id.as_str(), form, &mut text)?;
     }
-    Ok(end_page(text)?)
+    end_page(text)
 }
 
 /// Appends what is told of the document of the identifier.

@@ -2,6 +2,7 @@
 ghost use Rattle.std.specs.Prelude.{◌≡◌, ◌∷◌, [], ◌++◌, ℕ, List, encode_utf8_all, flat_map, map, IfOk};
 ghost use Rattle.aas_command.specs.declared.command.Command.TheVariants.{Import};
 ghost use Rattle.aas_command.specs.declared.refusal.Refusal.TheVariants.{Conflict};
+ghost use Rattle.std.specs.List.{position_from};
 ghost use Rattle.aas_constraint_parts.specs.Repeats.{HasTexts};
 ghost use Rattle.aas_constraint_rules.specs.Texts.{is_among};
 ghost use Rattle.aas_json_mapping.specs.Trees.{environments};
@@ -10,6 +11,7 @@ ghost use Rattle.aas_step.specs.Causes.{document_causes, first_of, first_repeate
 ghost use Rattle.aas_step.specs.Made.{documents_in, id_of};
 ghost use Rattle.aas_step.specs.Step.{later_causes};
 ghost use Rattle.aas_repo.specs.Decisions.{IsDecision};
+ghost use Rattle.aas_repo.specs.Faulty.{first_faulty_in, is_faulty};
 
 use crate::deciding::document_cause;
 use crate::decision::Decision;
@@ -77,6 +79,37 @@ fn cause_among<D: Stored>(alloc: Global, documents: &[D]) -> Result<Option<Refus
     for document in documents {
         if let Some(refusal) = document_cause(alloc, document)? {
             return Ok(Some(refusal));
+        }
+    }
+    Ok(None)
+}
+
+/// The place of the first document in a list of an environment, counted from 0, that has a fault or too many elements: in its
+/// shells, or else its submodels, or else its concept descriptions.
+pub fn first_faulty(
+    alloc: Global,
+    environment: &Environment,
+) -> Result<Option<(Collection, usize)>, NoMemory>
+    ensures { IfOk result (λ place. place ≡ first_faulty_in environment.now) }
+{
+    if let Some(place) = first_faulty_among(alloc, environment.shells.as_slice())? {
+        return Ok(Some((Collection::Shells, place)));
+    }
+    if let Some(place) = first_faulty_among(alloc, environment.submodels.as_slice())? {
+        return Ok(Some((Collection::Submodels, place)));
+    }
+    if let Some(place) = first_faulty_among(alloc, environment.concepts.as_slice())? {
+        return Ok(Some((Collection::Concepts, place)));
+    }
+    Ok(None)
+}
+
+fn first_faulty_among<D: Stored>(alloc: Global, documents: &[D]) -> Result<Option<usize>, NoMemory>
+    ensures { IfOk result (λ place. place ≡ position_from is_faulty 0 (map D.document documents.now)) }
+{
+    for (place, document) in documents.iter().enumerate() {
+        if document_cause(alloc, document)?.is_some() {
+            return Ok(Some(place));
         }
     }
     Ok(None)

@@ -25,7 +25,7 @@ mod texts;
 mod updating;
 
 pub use decision::Decision;
-pub use importing::first_repeated;
+pub use importing::{first_faulty, first_repeated};
 pub use planning::change;
 pub use repo::{Counts, Done, Repo};
 

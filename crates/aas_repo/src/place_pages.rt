@@ -1,16 +1,18 @@
 // The bodies of replies to questions about pages of children and of references to submodels, which are listed by their places.
-ghost use Rattle.std.specs.Prelude.{◌≡◌, ◌++◌, ◌⊎◌, true, Ok, Err, IfOk, OnOk};
+ghost use Rattle.std.specs.Prelude.{◌≡◌, ◌++◌, ◌⊎◌, [], true, length, slice_get, Ok, Err, IfOk, OnOk};
+ghost use Rattle.std.specs.Option.{option_map_or};
 ghost use Rattle.aas_command.specs.declared.refusal.Refusal.TheVariants as refused;
 ghost use Rattle.aas_json_write.specs.Order.{element_in_order};
 ghost use Rattle.aas_step.specs.Valid.{AreValid};
 ghost use Rattle.aas_repo.specs.Answers.{of_children, of_shell, places_page, reference_text};
-ghost use Rattle.aas_repo.specs.Listed.{child_text};
+ghost use Rattle.aas_repo.specs.Listed.{child_text, children_of};
 
 use crate::element_answers::{append_metadata, append_shown};
 use crate::forms::ChildForm;
 use crate::page_text::{append_comma, begin_page, end_of, end_page, place_cursor};
 use aas_command::{Absent, Refusal};
 use aas_form::reference_of_child;
+use aas_json_write::whole_trees_are_in_order;
 use aas_model::{Element, Many, NoMemory, Reference, Submodel, Text};
 use aas_page::Span;
 use aas_reference::write_reference;
@@ -70,15 +72,52 @@ pub(crate) fn children_answer<S: Store>(
             what: Absent::Submodel,
         });
     };
+    Ok(children_page(alloc, store, id, head, count, span, form)?)
+}
+
+/// The page where the submodel of the identifier has so many children.
+fn children_page<S: Store>(
+    alloc: Global,
+    store: &S,
+    id: &str,
+    head: &Submodel,
+    count: u64,
+    span: Span,
+    form: ChildForm,
+) -> Result<Many<u8>, NoMemory>
+    requires valid { AreValid (S.documents store.now) }
+    requires count { count ≡ length (children_of (S.documents store.now) id.now) }
+    ensures { IfOk result (λ text.
+        places_page (child_text form head.now) span (children_of (S.documents store.now) id.now) ≡ Ok text) }
+{
     let end = end_of(span, count);
     let mut text = begin_page(alloc, &place_cursor(alloc, end, count)?)?;
     for place in span.from..end {
         append_comma(place > span.from, &mut text)?;
-        if let Some(child) = store.child_at(id, place)? {
-            append_child(alloc, head, child, form, &mut text)?;
-        }
+        append_child_at(alloc, store, id, place, head, form, &mut text)?;
     }
-    Ok(end_page(text)?)
+    end_page(text)
+}
+
+/// Appends what is told of the child at a place in the submodel of the identifier; nothing where there is none.
+fn append_child_at<S: Store>(
+    alloc: Global,
+    store: &S,
+    id: &str,
+    place: u64,
+    head: &Submodel,
+    form: ChildForm,
+    text: &mut Vec<u8>,
+) -> Result<(), NoMemory>
+    requires { AreValid (S.documents store.now) }
+    ensures { OnOk result (text.new.items ≡ text.old.items
+        ++ option_map_or (child_text form head.now) (slice_get (children_of (S.documents store.now) id.now) place) []) }
+{
+    whole_trees_are_in_order();
+    match store.child_at(id, place)? {
+        Some(child) => append_child(alloc, head, child, form, text),
+        None => Ok(()),
+    }
 }
 
 /// Appends what is told of a child of the submodel.
