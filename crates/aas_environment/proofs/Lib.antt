@@ -1,4 +1,7 @@
 mod Above
+mod Payload
 mod Put
 mod Settled
+mod Utf8
+pub mod WellFormed
 mod Written

@@ -1,5 +1,6 @@
 // The text of an environment, document by document.
 ghost use Rattle.std.specs.Prelude.{◌≡◌, ◌∷◌, ◌++◌, [], IfOk, OnOk};
+ghost use Rattle.std.specs.Str.{IsUtf8};
 ghost use Rattle.serde_json.specs.Data.{Members, array, string};
 ghost use Rattle.serde_json.specs.Written.{comma_if, compact_text, members_text};
 ghost use Rattle.aas_json_mapping.specs.Trees.{environments};
@@ -20,7 +21,8 @@ use std::alloc::Global;
 /// document at a time.
 pub fn export_text<S: Store>(alloc: Global, store: &S) -> Result<Vec<u8>, NoMemory>
     requires { AreValid (S.documents store.now) }
-    ensures { IfOk result (λ text. text.items ≡ canonical_text environments (environment_of (S.documents store.now))) }
+    ensures text { IfOk result (λ text. text.items ≡ canonical_text environments (environment_of (S.documents store.now))) }
+    ensures utf8 { IfOk result (λ text. IsUtf8 text.items) }
 {
     let mut text = Vec::from_slice(alloc, b"{")?;
     let later = append_member(alloc, store, Collection::Shells, false, &mut text)?;
@@ -40,9 +42,10 @@ fn append_member<S: Store>(
     text: &mut Vec<u8>,
 ) -> Result<bool, NoMemory>
     requires { AreValid (S.documents store.now) }
-    ensures { IfOk result (λ next_is_later. (others : Members) →
+    ensures told { IfOk result (λ next_is_later. (others : Members) →
         text.old.items ++ members_text is_later (with_member collection (environment_of (S.documents store.now)) others)
         ≡ text.new.items ++ members_text next_is_later others) }
+    ensures utf8 { OnOk result (IsUtf8 text.old.items → IsUtf8 text.new.items) }
 {
     if store.count(collection) == 0 {
         return Ok(is_later);
@@ -55,7 +58,8 @@ fn append_member<S: Store>(
 
 /// Appends the name of the member that lists a collection, and its colon.
 fn append_name(alloc: Global, collection: Collection, text: &mut Vec<u8>) -> Result<(), NoMemory>
-    ensures { OnOk result (text.new.items ≡ text.old.items ++ compact_text (string (name_of collection)) ++ 58 ∷ []) }
+    ensures told { OnOk result (text.new.items ≡ text.old.items ++ compact_text (string (name_of collection)) ++ 58 ∷ []) }
+    ensures utf8 { OnOk result (IsUtf8 text.old.items → IsUtf8 text.new.items) }
 {
     let name = match collection {
         Collection::Shells => name::ASSET_ADMINISTRATION_SHELLS,
@@ -75,7 +79,8 @@ fn append_documents<S: Store>(
     text: &mut Vec<u8>,
 ) -> Result<(), NoMemory>
     requires { AreValid (S.documents store.now) }
-    ensures { OnOk result (text.new.items ≡ text.old.items ++ compact_text (array (spellings collection (environment_of (S.documents store.now))))) }
+    ensures told { OnOk result (text.new.items ≡ text.old.items ++ compact_text (array (spellings collection (environment_of (S.documents store.now))))) }
+    ensures utf8 { OnOk result (IsUtf8 text.old.items → IsUtf8 text.new.items) }
 {
     text.extend_from_slice(b"[")?;
     let mut after = None;
@@ -97,7 +102,8 @@ fn append_document<S: Store>(
     text: &mut Vec<u8>,
 ) -> Result<(), NoMemory>
     requires { AreValid (S.documents store.now) }
-    ensures { OnOk result (text.new.items ≡ text.old.items ++ document_text collection (S.documents store.now) id.now) }
+    ensures told { OnOk result (text.new.items ≡ text.old.items ++ document_text collection (S.documents store.now) id.now) }
+    ensures utf8 { OnOk result (IsUtf8 text.old.items → IsUtf8 text.new.items) }
 {
     whole_trees_are_in_order();
     match collection {
@@ -118,7 +124,8 @@ fn append_document<S: Store>(
 
 /// Appends a comma where something stands before.
 fn append_comma(is_later: bool, text: &mut Vec<u8>) -> Result<(), NoMemory>
-    ensures { OnOk result (text.new.items ≡ text.old.items ++ comma_if is_later) }
+    ensures told { OnOk result (text.new.items ≡ text.old.items ++ comma_if is_later) }
+    ensures utf8 { OnOk result (IsUtf8 text.old.items → IsUtf8 text.new.items) }
 {
     if is_later {
         text.extend_from_slice(b",")?;

@@ -1,5 +1,5 @@
 -- What was given to the console, and with which status a run ends.
-use Rattle.std.proofs.Common.{◌≡◌, ◌≢◌, ◌⊎◌, ⊎_elim, ℕ, List, [], ◌∷◌, Option, refl, subst, sym, ◌∙◌, inl, inr, lit<}
+use Rattle.std.proofs.Common.{◌≡◌, ◌≢◌, ◌⊎◌, ⊎_elim, ℕ, zero, suc, List, [], ◌∷◌, Option, refl, subst, sym, ◌∙◌, inl, inr, arith, lit<}
 use Rattle.std.specs.Prelude.{Contains}
 use Rattle.std.specs.Io.KnownBytes.{append_known}
 use Rattle.aas_outside.specs.Faults.{Rose}
@@ -29,6 +29,15 @@ says_weaker P Q status old new then says = record {
 
 three_or_ten : (n : ℕ) → n ≡ 3 → n ≡ 10 → ⊥
 three_or_ten n three ten = cc
+
+-- nothing is said for want of memory
+pub says_nothing : (P : Answer → Type 0) (old : ConsoleState) → Says P 10 old old
+says_nothing P old = record {
+  given = λ not3 not10. absurd (not10 refl);
+  front = λ is. absurd (three_or_ten 10 is refl);
+  fault = λ is. absurd (three_or_ten 10 is refl);
+  memory = λ is. refl;
+}
 
 -- a line that takes no memory
 pub says_line : (answer : Answer) (status : ℕ) (old new : ConsoleState) → answer.status ≢ 10
@@ -76,3 +85,13 @@ made_status n (inr is) = (0, lit< tt, sym is)
 pub there_status : (n : ℕ) → (n ≡ 3) ⊎ (n ≡ 8) → Contains (0 ∷ 3 ∷ 4 ∷ 8 ∷ []) n
 there_status n (inl is) = (1, lit< tt, sym is)
 there_status n (inr is) = (3, lit< tt, sym is)
+
+-- where no repository is begun
+pub early_status : (n : ℕ) → Contains (0 ∷ 3 ∷ 4 ∷ 5 ∷ 6 ∷ 10 ∷ []) n → Contains (0 ∷ 3 ∷ 4 ∷ 5 ∷ 6 ∷ 9 ∷ 10 ∷ []) n
+early_status n (zero, low, is) = (0, lit< tt, is)
+early_status n (suc zero, low, is) = (1, lit< tt, is)
+early_status n (suc (suc zero), low, is) = (2, lit< tt, is)
+early_status n (suc (suc (suc zero)), low, is) = (3, lit< tt, is)
+early_status n (suc (suc (suc (suc zero))), low, is) = (4, lit< tt, is)
+early_status n (suc (suc (suc (suc (suc zero)))), low, is) = (6, lit< tt, is)
+early_status n (suc (suc (suc (suc (suc (suc k))))), low, is) = absurd (omega (arith, low))

@@ -1,8 +1,13 @@
+mod Checkpointed
 mod Early
+mod Few
 mod Given
+mod Held
 mod OneWay
 mod Opened
 mod Replayed
 mod Since
+mod Told
 mod ValueAnswers
+mod Whole
 mod Words

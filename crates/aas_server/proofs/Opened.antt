@@ -29,17 +29,9 @@ use Rattle.aas_server.specs.OnDisk.{StandsFor, state_on}
 use Rattle.aas_server.specs.Opening.{HasBegun, Opens, OpensAs, begun}
 use Rattle.aas_server.specs.Pipe.{IsConsoleServed, IsPiped, pipe_status}
 use Rattle.aas_server.specs.Serve.{IsServed, IsWireServed, serve_status}
-use Rattle.aas_server.proofs.OneWay.{same_repository}
+use Rattle.aas_server.proofs.Held.{IsOpened, has_begun, here, same}
 use Rattle.aas_server.proofs.Replayed.{AreRead, Replay}
 use Rattle.aas_server.proofs.Since.{all_since, served_since}
-
--- the files open as the repository of this state, which is settled
-abbrev pub IsOpened : State Documents Files → Files → Type 0
-IsOpened state files = (payloads : List (List ℕ)) × Opens files (begun (repository_of state payloads))
-    × IsSettledState IsBankImage state payloads
-
-pub has_begun : (start : DiskState) (state : State Documents Files) → IfSome start.seen (IsOpened state) → HasBegun start
-has_begun start state opened = IfSome_then start.seen opened (λ files is. (repository_of state is.0, is.1))
 
 -- the disk at the start and at the end, what the journal held when it was opened, and the documents at the end
 module _ (one_list : HaveOneList) (one_replay : OneReplay) (asks_well_formed : AsksWellFormed) (accepted_replay : AcceptedReplay)
@@ -79,11 +71,11 @@ module _ (one_list : HaveOneList) (one_replay : OneReplay) (asks_well_formed : A
   kept_opens payloads replays holds = let files = told payloads holds in (files.0, files.1, (files.2, replays))
 
   module _ (r : Repository Documents) (opens : OpensAs start r) where
-    here : IsOpened opened opens.0
-    here = subst (λ (seen : Option Files). IfSome seen (IsOpened opened)) opens.1 is_opened
+    abbrev held : IsOpened opened opens.0
+    held = here one_list one_replay start opened is_opened r opens
 
-    same : repository_of opened here.0 ≡ r
-    same = same_repository one_list one_replay opens.0 (repository_of opened here.0) r here.1 opens.2
+    as_told : repository_of opened held.0 ≡ r
+    as_told = same one_list one_replay start opened is_opened r opens
 
     read : AreRead r
     read = opens.2.1
@@ -106,7 +98,7 @@ module _ (one_list : HaveOneList) (one_replay : OneReplay) (asks_well_formed : A
       served = served_since asks_well_formed accepted_replay has_room_behind IsBankImage (StandsFor start r) weaker
           d last.moment last.left_at kept (state_on last d).kept kept_opens
           start.moment opened.moment r read reads.later before input old.sent new.sent (Rose old.faults new.faults) end
-          (subst (λ (x : Repository Documents). Session x input end old new) same (serves input here.0 left here.2));
+          (subst (λ (x : Repository Documents). Session x input end old new) as_told (serves input held.0 left held.2));
       valid = valid;
     }
 
@@ -118,8 +110,8 @@ module _ (one_list : HaveOneList) (one_replay : OneReplay) (asks_well_formed : A
           d last.moment last.left_at kept (state_on last d).kept kept_opens
           start.moment opened.moment r read reads.later before c.coming (sent_on_all c sent) count new.connections new.sent
           (Rose old.faults new.faults) end
-          (subst (λ (x : Repository Documents). Sessions x c sent count end old new) same
-          (serves c sent here.0 known known_sent here.2));
+          (subst (λ (x : Repository Documents). Sessions x c sent count end old new) as_told
+          (serves c sent held.0 known known_sent held.2));
       valid = valid;
     }
 

@@ -35,10 +35,13 @@ IsCheckpointAnswer d old new answer =
     ⊎ ((answer ≡ journal_full) × (most_bytes < checkpoint_size d) × IsUnwritten old new)
     ⊎ ((answer ≡ disk_failed) × Rose old.faults new.faults)
 
+-- whatever a stop at a moment from this one to now leaves opens as these documents
+abbrev pub OpensMeanwhile : Documents → ℕ → DiskState → Type 0
+OpensMeanwhile d from new = (t : ℕ) → from ≤ t → t ≤ new.moment → (image : Files) → new.left_at t image → OpensTo d image
+
 -- Where whatever a stop at the start may have left opens as these documents, so does whatever one at a moment since leaves.
 abbrev pub StaysOpen : Documents → DiskState → DiskState → Type 0
-StaysOpen d old new = OpensAnyway old d
-    → (t : ℕ) → old.moment ≤ t → t ≤ new.moment → (image : Files) → new.left_at t image → OpensTo d image
+StaysOpen d old new = OpensAnyway old d → OpensMeanwhile d old.moment new
 
 -- The documents are those from before, in one record.
 pub record IsCheckpointed (status : ℕ) (old new : ConsoleState) (disk_old disk_new : DiskState) : Type 0 where

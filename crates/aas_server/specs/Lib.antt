@@ -9,6 +9,7 @@ pub mod Ends
 pub mod ExportText
 pub mod Init
 pub mod Laws
+pub mod Making
 pub mod OnDisk
 pub mod Opening
 pub mod Pipe

@@ -1,9 +1,9 @@
 // The text of the command `check`.
 ghost use Rattle.std.specs.Prelude.{◌≡◌, ◌++◌, OnOk, IfOk};
 ghost use Rattle.aas_resolve.specs.Resolved.{HaveFewElements};
-ghost use Rattle.aas_server.specs.CheckText.{check_text, dangling_line, dangling_text, member_text, total_line};
+ghost use Rattle.aas_server.specs.CheckText.{check_text, dangling_line, dangling_text, total_line};
 
-use aas_model::{Collection, NoMemory};
+use aas_model::NoMemory;
 use aas_path::print_fault_path;
 use aas_resolve::dangling;
 use aas_resolve::report::Dangling;
@@ -34,7 +34,7 @@ fn append_line(reference: &Dangling, text: &mut Vec<u8>) -> Result<(), NoMemory>
     ensures { OnOk result (text.new.items ≡ text.old.items ++ dangling_line reference.now) }
 {
     text.extend_from_slice(b"dangling ")?;
-    text.extend_from_slice(member_text(reference.collection).as_bytes())?;
+    text.extend_from_slice(reference.collection.name().as_bytes())?;
     text.extend_from_slice(b" ")?;
     text.extend_from_slice(reference.id.as_str().as_bytes())?;
     text.extend_from_slice(b" at ")?;
@@ -52,15 +52,4 @@ fn append_total(count: usize, text: &mut Vec<u8>) -> Result<(), NoMemory>
     text.extend_from_slice(Buffer::new().format(count).as_bytes())?;
     text.extend_from_slice(b"\n")?;
     Ok(())
-}
-
-/// What a document of the collection is called.
-fn member_text(collection: Collection) -> &'static str
-    ensures { result.now ≡ member_text collection }
-{
-    match collection {
-        Collection::Shells => "shell",
-        Collection::Submodels => "submodel",
-        Collection::Concepts => "concept description",
-    }
 }

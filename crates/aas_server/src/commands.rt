@@ -10,12 +10,13 @@ ghost use Rattle.aas_server.specs.Status.{exit_code};
 ghost use Rattle.aas_server.specs.Stop.{IfRefused};
 ghost use Rattle.aas_server.specs.ValueAnswer.{IsValueAnswer};
 
+use crate::checkpointing::checkpoint;
 use crate::command_line::{CommandLine, command_of};
 use crate::console::{end_refused, end_with, read_input};
 use crate::serving::{pipe, serve};
 use crate::status::Status;
 use crate::stop::Stop;
-use crate::telling::{DanglingReferences, tell};
+use crate::telling::{DanglingReferences, Export, tell};
 use crate::value::answer_value;
 use aas_command::Refusal;
 use aas_journal::{InitFault, init_journal};
@@ -60,6 +61,8 @@ pub fn run<C: Link, W: Wire, D: Disk>(
         },
         Some(CommandLine::Pipe) => pipe(alloc, console, disk),
         Some(CommandLine::Check) => tell::<DanglingReferences, C, D>(alloc, console, disk),
+        Some(CommandLine::Export) => tell::<Export, C, D>(alloc, console, disk),
+        Some(CommandLine::Checkpoint) => checkpoint(alloc, console, disk),
         Some(CommandLine::Serve { count }) => {
             serve(alloc, address(words), console, wire, count, disk)
         }

@@ -4,6 +4,7 @@
 #![tactic(auto)]
 
 mod check_text;
+mod checkpointing;
 mod command_line;
 mod commands;
 mod console;

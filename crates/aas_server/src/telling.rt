@@ -1,11 +1,12 @@
 // The commands that tell something of the documents on a disk.
-ghost use Rattle.std.specs.Prelude.{◌≡◌, ◌≤◌, ◌⊎◌, List, ℕ, Contains, IfOk};
+ghost use Rattle.std.specs.Prelude.{◌≡◌, ◌≤◌, List, ℕ, Contains, IfOk};
 ghost use Rattle.aas_outside.specs.Moments.{Passes};
 ghost use Rattle.aas_store.specs.Documents.{Documents};
 ghost use Rattle.aas_step.specs.Valid.{AreValid};
 ghost use Rattle.aas_server.specs.Answer.{Says, done};
 ghost use Rattle.aas_server.specs.CheckText.{check_text};
 ghost use Rattle.aas_server.specs.CommandLine.{statuses_of};
+ghost use Rattle.aas_server.specs.ExportText.{export_text};
 ghost use Rattle.aas_server.specs.Ends.{console_of, disk_of};
 ghost use Rattle.aas_server.specs.Status.{exit_code};
 ghost use Rattle.aas_server.specs.Telling.{Tells};
@@ -17,6 +18,7 @@ use crate::console::end_with;
 use crate::opening::open;
 use crate::serving::say_why;
 use crate::status::Status;
+use aas_environment::export_text;
 use aas_journal::{NotOpened, have_one_list};
 use aas_model::NoMemory;
 use aas_outside::Link;
@@ -42,6 +44,19 @@ impl Report for DanglingReferences {
 
     fn text<S: Store>(alloc: Global, store: &S) -> Result<Vec<u8>, NoMemory> {
         check_text(alloc, store)
+    }
+}
+
+/// All documents as one environment.
+pub(crate) struct Export;
+
+impl Report for Export {
+    ghost text = { export_text };
+
+    fn text<S: Store>(alloc: Global, store: &S) -> Result<Vec<u8>, NoMemory> {
+        let mut text = export_text(alloc, store)?;
+        text.extend_from_slice(b"\n")?;
+        Ok(text)
     }
 }
 
@@ -79,7 +94,7 @@ fn give<C: Link>(console: &mut C, text: Result<Vec<u8>, NoMemory>) -> Status
     ensures unread { C.left console.new ≡ C.left console.old }
     ensures silent { exit_code result ≡ 10 →
         console_of C.left C.sent C.faults console.new ≡ console_of C.left C.sent C.faults console.old }
-    ensures statuses { (exit_code result ≡ 3) ⊎ (exit_code result ≡ 0) ⊎ (exit_code result ≡ 10) }
+    ensures statuses { Contains (statuses_of (Some CommandLine.Check)) (exit_code result) }
 {
     match text {
         Ok(text) => end_with(console, &text, Status::Done),

@@ -1,5 +1,6 @@
 use Rattle.std.proofs.Common.{sym, ◌∙◌}
 use Rattle.aas_json_table.specs.TooDeep.{limits}
+use Rattle.aas_environment.proofs.Utf8.{written}
 use Rattle.aas_environment.proofs.export.append_document.Goals as goal
 
 pub write_shell-requires : goal.write_shell-requires
@@ -16,3 +17,12 @@ pub write_concept-requires : goal.write_concept-requires
 write_concept-requires g c =
     let x = c.in-Some-concept.concept.now in
     c.whole_trees_are_in_order.ensures.concept limits x (c.requires.concepts c.args.id.now x (sym c.in-Some-concept.ensures)).valid.whole
+
+pub returns-in-Some-clause-utf8 : goal.returns-in-Some-clause-utf8
+returns-in-Some-clause-utf8 g c = written _ c.write_shell.result c.args.text.now.items c.write_shell.new.out.items c.write_shell.ensures
+
+pub returns-in-Some-2-clause-utf8 : goal.returns-in-Some-2-clause-utf8
+returns-in-Some-2-clause-utf8 g c = written _ c.write_submodel.result c.args.text.now.items c.write_submodel.new.out.items c.write_submodel.ensures
+
+pub returns-in-Some-concept-clause-utf8 : goal.returns-in-Some-concept-clause-utf8
+returns-in-Some-concept-clause-utf8 g c = written _ c.write_concept.result c.args.text.now.items c.write_concept.new.out.items c.write_concept.ensures

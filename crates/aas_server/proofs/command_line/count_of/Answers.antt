@@ -3,7 +3,7 @@ use Rattle.std.specs.Str.{chars}
 use Rattle.std.proofs.lemmas.Str.{chars-IsAscii}
 use Rattle.aas_server.proofs.Words.{parsed}
 use Rattle.aas_server.proofs.command_line.count_of.Goals as goal
-use Rattle.aas_server.proofs.command_line.count_of.Goals.{then-count-eq0-via-then-count-eq0, then-count-eq0-via-else-count-eq0+then-count-gt-most}
+use Rattle.aas_server.proofs.command_line.count_of.Goals.{then-count-eq0-via-then-count-eq0, then-count-eq0-via-else-count-eq0+then-count-most}
 
 pub returns-in_default : goal.returns-in_default
 returns-in_default c = λ n within is.
@@ -17,7 +17,7 @@ returns-then-count-eq0 c = λ n within is.
     let same : c.in-Ok.count ≡ n = cc in
     elim c.then-count-eq0.branch [
       | then-count-eq0-via-then-count-eq0 w ↦ omega (arith, within, same, w.if-count-eq0.true)
-      | then-count-eq0-via-else-count-eq0+then-count-gt-most w ↦ omega (arith, within, same, w.if-count-gt-most.true)
+      | then-count-eq0-via-else-count-eq0+then-count-most w ↦ omega (arith, within, same, w.if-count-most.true)
     ]
 
 pub returns-then-eq : goal.returns-then-eq

@@ -4,7 +4,8 @@ use Rattle.aas_outside.proofs.Turns.{passes_on}
 use Rattle.aas_server.specs.Ends.{console_of, disk_of, wire_of}
 use Rattle.aas_server.specs.Status.{exit_code}
 use Rattle.aas_server.proofs.Early.{early}
-use Rattle.aas_server.proofs.Opened.{has_begun, serve_statuses, wire_served}
+use Rattle.aas_server.proofs.Held.{has_begun}
+use Rattle.aas_server.proofs.Opened.{serve_statuses, wire_served}
 use Rattle.aas_server.proofs.serving.serve.Goals as goal
 
 pub returns-in-Ok-listen-clause-does : goal.returns-in-Ok-listen-clause-does

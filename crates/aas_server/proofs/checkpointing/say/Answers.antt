@@ -1,0 +1,21 @@
+use Rattle.std.proofs.Common.{Err, sym, subst, ap, ◌∙◌}
+use Rattle.aas_server.specs.Answer.{done}
+use Rattle.aas_server.specs.Ends.{console_of}
+use Rattle.aas_server.specs.Making.{IsSaidThen}
+use Rattle.aas_server.specs.Status.{exit_code}
+use Rattle.aas_server.proofs.Checkpointed.{IsSaid}
+use Rattle.aas_server.proofs.Given.{says_line, says_weaker}
+use Rattle.aas_server.proofs.checkpointing.say.Goals as goal
+
+pub returns-in-Ok-clause-says : goal.returns-in-Ok-clause-says
+returns-in-Ok-clause-says g c = let C = g.C.Link in
+    says_weaker _ (IsSaid (λ line. line.items) c.args.made) _ _ _
+    (λ answer is. subst (λ made. IsSaid (λ line. line.items) made answer) (sym c.in-Ok.is) (is ∙ ap done c.deref.ensures.value))
+    (says_line (done c.deref.result.now) (exit_code c.end_with.result)
+    (console_of C.left C.sent C.faults c.args.console.now) (console_of C.left C.sent C.faults c.end_with.new.link)
+    (λ e. cc) c.end_with.ensures.given c.end_with.ensures.front c.end_with.ensures.fault c.end_with.ensures.statuses)
+
+pub returns-in-Err-clause-says : goal.returns-in-Err-clause-says
+returns-in-Err-clause-says g c = let C = g.C.Link in
+    says_weaker _ (IsSaid (λ line. line.items) c.args.made) _ _ _
+    (λ answer is. subst (λ made. IsSaid (λ line. line.items) made answer) (sym c.in-Err.is) is) c.say_unmade.ensures.says
