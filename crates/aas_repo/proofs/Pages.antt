@@ -42,7 +42,8 @@ use Rattle.aas_repo.specs.declared.forms.DocumentForm.TheVariants as document
 abbrev pub joined : {X : Type 0} → (X → List ℕ) → List X → List ℕ
 joined text xs = join_by text (codes ",") xs
 
-joined_more : {X : Type 0} (text : X → List ℕ) (xs : List X) (x : X) → joined text (xs ++ x ∷ []) ≡ (joined text xs ++ comma_if (nat_lt 0 (length xs))) ++ text x
+joined_more : {X : Type 0} (text : X → List ℕ) (xs : List X) (x : X)
+    → joined text (xs ++ x ∷ []) ≡ (joined text xs ++ comma_if (nat_lt 0 (length xs))) ++ text x
 joined_more text [] x = append-nil (text x)
 joined_more {X = X} text (y ∷ ys) x =
     let after : X → List ℕ = λ y. codes "," ++ text y in
@@ -59,8 +60,9 @@ taken_more : {X : Type 0} (xs : List X) (k : ℕ) (x : X) → slice_get xs k ≡
 taken_more xs k x at = take_more xs k x (slice_get_within xs k x at) ∙ ap (λ y. take k xs ++ y ∷ []) (get_or_from_slice_get xs k x x at)
 
 -- one more entry, behind a comma where it isn't the first
-pub entry_more : {X : Type 0} (text : X → List ℕ) (xs : List X) (k : ℕ) (x : X) (later : Bool) (begin old comma new : List ℕ) → slice_get xs k ≡ Some x → later ≡ nat_lt 0 k
-    → old ≡ begin ++ joined text (take k xs) → comma ≡ old ++ comma_if later → new ≡ comma ++ text x → new ≡ begin ++ joined text (take (k + 1) xs)
+pub entry_more : {X : Type 0} (text : X → List ℕ) (xs : List X) (k : ℕ) (x : X) (later : Bool) (begin old comma new : List ℕ)
+    → slice_get xs k ≡ Some x → later ≡ nat_lt 0 k → old ≡ begin ++ joined text (take k xs)
+    → comma ≡ old ++ comma_if later → new ≡ comma ++ text x → new ≡ begin ++ joined text (take (k + 1) xs)
 entry_more text xs k x later begin old comma new at is_later so_far behind told =
     let within : k < length xs = slice_get_within xs k x at in
     let long : length (take k xs) ≡ k = length-take-le k xs (omega arith) in
@@ -73,10 +75,13 @@ entry_more text xs k x later begin old comma new at is_later so_far behind told 
     ∙ ap (λ t. begin ++ t) (sym (joined_more text (take k xs) x) ∙ ap (joined text) (sym (taken_more xs k x at)))
 
 -- all entries, in another view of them
-pub page_ended : {X Y : Type 0} (f : X → List ℕ) (g : Y → List ℕ) (xs : List X) (p : PageOf Y) (found next : Option (List ℕ)) (text page : List ℕ) → map f xs ≡ map g p.entries
-    → found ≡ (if p.more then next else None) → text ≡ page_begin found ++ joined f xs → page ≡ text ++ codes "]}" → page ≡ page_text g next p
+pub page_ended : {X Y : Type 0} (f : X → List ℕ) (g : Y → List ℕ) (xs : List X) (p : PageOf Y) (found next : Option (List ℕ)) (text page : List ℕ)
+    → map f xs ≡ map g p.entries → found ≡ (if p.more then next else None) → text ≡ page_begin found ++ joined f xs
+    → page ≡ text ++ codes "]}" → page ≡ page_text g next p
 page_ended f g xs p found next text page same cursor whole is =
-    is ∙ ap (λ t. t ++ codes "]}") (whole ∙ ap₂ (λ c t. page_begin c ++ t) cursor (joined_texts f xs ∙ ap (joined (λ t. t)) same ∙ sym (joined_texts g p.entries)))
+    is
+    ∙ ap (λ t. t ++ codes "]}")
+    (whole ∙ ap₂ (λ c t. page_begin c ++ t) cursor (joined_texts f xs ∙ ap (joined (λ t. t)) same ∙ sym (joined_texts g p.entries)))
 
 -- ---- entries by their places
 
@@ -141,7 +146,8 @@ module _ {X : Type 0} (xs : List X) (from limit : ℕ) where
 pub places_told : {X : Type 0} (text : X → List ℕ) (xs : List X) (span : Span) (end place : ℕ) (cursor : Option (List ℕ)) (written page : List ℕ)
     → end ≡ min (span.from + span.limit) (length xs) → end ≤ place → (span.from ≤ end → place ≤ end)
     → cursor ≡ (if nat_lt end (length xs) then Some (decimal end) else None)
-    → written ≡ page_begin cursor ++ joined text (take (place - span.from) (drop span.from xs)) → page ≡ written ++ codes "]}" → Ok page ≡ places_page text span xs
+    → written ≡ page_begin cursor ++ joined text (take (place - span.from) (drop span.from xs)) → page ≡ written ++ codes "]}"
+    → Ok page ≡ places_page text span xs
 places_told text xs span end place cursor written page is behind within next whole ended =
     let entries = entries_to_end xs span.from span.limit place (omega (arith, is, behind)) (λ le. omega (arith, is, within)) in
     ap (λ t. Ok t)
@@ -154,7 +160,8 @@ same_texts : {X Y : Type 0} (f g : X → Y) (xs : List X) → All (λ x. f x ≡
 same_texts f g [] same = refl
 same_texts f g (x ∷ xs) same = ap₂ (λ y ys. y ∷ ys) (All-head (λ x. f x ≡ g x) x xs same) (same_texts f g xs (All-tail (λ x. f x ≡ g x) x xs same))
 
-module _ {X : Type 0} (m : Map X) (passes : X → Bool) (text : X → List ℕ) (told : Identifier → List ℕ) (tells : (id : Identifier) → told id ≡ option_map_or text (fin.get m id) []) where
+module _ {X : Type 0} (m : Map X) (passes : X → Bool) (text : X → List ℕ) (told : Identifier → List ℕ)
+    (tells : (id : Identifier) → told id ≡ option_map_or text (fin.get m id) []) where
   abbrev Entry : Type 0
   Entry = Identifier × X
 
@@ -164,7 +171,8 @@ module _ {X : Type 0} (m : Map X) (passes : X → Bool) (text : X → List ℕ) 
       tells x.0 ∙ ap (λ o. option_map_or text o [])
       (get-entries m x.0 ∙ found_at (fin.entries m) k x.0 x.1 (entries_sorted m) (slice_get-get_or (fin.entries m) k e within))
 
-  texts_on : (after : Option Identifier) (limit : ℕ) (ids : List (List ℕ)) → map encode_utf8_all ids ≡ map (λ (e : Entry). e.0) (page_after passes after limit m).entries
+  texts_on : (after : Option Identifier) (limit : ℕ) (ids : List (List ℕ))
+      → map encode_utf8_all ids ≡ map (λ (e : Entry). e.0) (page_after passes after limit m).entries
       → map (λ id. told (encode_utf8_all id)) ids ≡ map (λ (e : Entry). text e.1) (page_after passes after limit m).entries
   texts_on after limit ids same =
       let test : Entry → Bool = λ e. is_above after e.0 && passes e.1 in
@@ -183,18 +191,28 @@ module _ {X : Type 0} (m : Map X) (passes : X → Bool) (text : X → List ℕ) 
       let p = page_after passes after limit m in
       let same = ap (λ (q : PageOf Identifier). q.entries) shown in
       ap (λ t. Ok t)
-      (page_ended (λ id. told (encode_utf8_all id)) (λ (e : Entry). text e.1) ids p cursor (option_map (encode_of url_safe_no_pad) (last_or None (map (λ (e : Entry). e.0) p.entries)))
-      written page (texts_on after limit ids same)
-      (next ∙ ap₂ (λ (more : Bool) ids. if more then option_map (encode_of url_safe_no_pad) (last_or None ids) else None) (ap (λ (q : PageOf Identifier). q.more) shown) same) whole ended)
+      (page_ended (λ id. told (encode_utf8_all id)) (λ (e : Entry). text e.1) ids p cursor
+      (option_map (encode_of url_safe_no_pad) (last_or None (map (λ (e : Entry). e.0) p.entries))) written page (texts_on after limit ids same)
+      (next
+      ∙ ap₂ (λ (more : Bool) ids. if more then option_map (encode_of url_safe_no_pad) (last_or None ids) else None)
+      (ap (λ (q : PageOf Identifier). q.more) shown) same)
+      whole ended)
 
-pub documents_told : (form : DocumentForm) (d : Documents) (s : Selection) (ids : List (List ℕ)) (more : Bool) (cursor : Option (List ℕ)) (written page : List ℕ)
+pub documents_told : (form : DocumentForm) (d : Documents) (s : Selection) (ids : List (List ℕ)) (more : Bool) (cursor : Option (List ℕ))
+    (written page : List ℕ)
     → record { entries = map encode_utf8_all ids; more = more } ≡ page_of (collection_of form) s.filter (option_map encode_utf8_all s.after) s.limit d
     → cursor ≡ (if more then option_map (encode_of url_safe_no_pad) (last_or None (map encode_utf8_all ids)) else None)
     → written ≡ page_begin cursor ++ joined (λ id. document_text form (encode_utf8_all id) d) ids → page ≡ written ++ codes "]}"
     → Ok page ≡ documents_in form d s
-documents_told (document.Shell form) d s = told_on d.shells (passes_shell s.filter) (shell_text form) (λ id. document_text (document.Shell form) id d) (λ id. refl) (option_map encode_utf8_all s.after) s.limit
-documents_told (document.Submodel form) d s = told_on d.submodels (passes_submodel s.filter) (submodel_text form) (λ id. document_text (document.Submodel form) id d) (λ id. refl) (option_map encode_utf8_all s.after) s.limit
-documents_told document.Concept d s = told_on d.concepts (passes_concept s.filter) (canonical_text concepts) (λ id. document_text document.Concept id d) (λ id. refl) (option_map encode_utf8_all s.after) s.limit
+documents_told (document.Shell form) d s =
+    told_on d.shells (passes_shell s.filter) (shell_text form) (λ id. document_text (document.Shell form) id d) (λ id. refl)
+    (option_map encode_utf8_all s.after) s.limit
+documents_told (document.Submodel form) d s =
+    told_on d.submodels (passes_submodel s.filter) (submodel_text form) (λ id. document_text (document.Submodel form) id d) (λ id. refl)
+    (option_map encode_utf8_all s.after) s.limit
+documents_told document.Concept d s =
+    told_on d.concepts (passes_concept s.filter) (canonical_text concepts) (λ id. document_text document.Concept id d) (λ id. refl)
+    (option_map encode_utf8_all s.after) s.limit
 
 -- the cursor of the page behind one
 
@@ -206,7 +224,8 @@ last_is : {X : Type 0} (xs : List X) → slice_get xs (length xs - 1) ≡ last_o
 last_is [] = refl
 last_is (x ∷ xs) = let same : suc (length xs) - 1 ≡ length xs = omega arith in ap (slice_get (x ∷ xs)) same ∙ last_behind x xs
 
-last_of_texts : (o : Option (List ℕ)) (ids : List (List ℕ)) → last_or (option_map encode_utf8_all o) (map encode_utf8_all ids) ≡ option_map encode_utf8_all (last_or o ids)
+last_of_texts : (o : Option (List ℕ)) (ids : List (List ℕ))
+    → last_or (option_map encode_utf8_all o) (map encode_utf8_all ids) ≡ option_map encode_utf8_all (last_or o ids)
 last_of_texts o [] = refl
 last_of_texts o (id ∷ ids) = last_of_texts (Some id) ids
 
@@ -218,7 +237,8 @@ last_cursor more ids found is at =
     ∙ ap (option_map (encode_of url_safe_no_pad)) (sym (last_of_texts None ids))
     ∙ ap (λ (more : Bool). if more then option_map (encode_of url_safe_no_pad) (last_or None (map encode_utf8_all ids)) else None) (sym is)
   where
-    coded : (o : Option (List ℕ)) → option_map (λ id. encode_of url_safe_no_pad (encode_utf8_all id)) o ≡ option_map (encode_of url_safe_no_pad) (option_map encode_utf8_all o)
+    coded : (o : Option (List ℕ))
+        → option_map (λ id. encode_of url_safe_no_pad (encode_utf8_all id)) o ≡ option_map (encode_of url_safe_no_pad) (option_map encode_utf8_all o)
     coded None = refl
     coded (Some id) = refl
 
@@ -239,8 +259,8 @@ valid_head d id h valid is =
     (there.0, (valid.submodels id there.0 there.1).valid, there.2)
 
 -- what doesn't look at the children is told of the head
-pub told_of_head : {A : Type 0} (tell : Submodel → A) (none : A) (o : Option Submodel) (h : Submodel) → Some (without_children h) ≡ option_map without_children o
-    → tell (without_children h) ≡ option_map_or (λ s. tell (without_children s)) o none
+pub told_of_head : {A : Type 0} (tell : Submodel → A) (none : A) (o : Option Submodel) (h : Submodel)
+    → Some (without_children h) ≡ option_map without_children o → tell (without_children h) ≡ option_map_or (λ s. tell (without_children s)) o none
 told_of_head tell none o h is =
     let there = head_there o h is in
     ap tell there.2 ∙ ap (λ o. option_map_or (λ s. tell (without_children s)) o none) (sym there.1)

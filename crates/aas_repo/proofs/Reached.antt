@@ -42,10 +42,12 @@ lost_as s p = NotFound (absent.Element (record { steps = take (depth_found s p) 
 lost_there : (s : Submodel) (p : List PathStep) → 0 < length p → element_at s p ≡ None → is_lost s p ≡ Some (lost_as s p)
 unfolding lost_as
 lost_there s [] some none = absurd (omega (arith, some))
-lost_there s (t ∷ p) some none = ap (λ (o : Option Element). unless (is_some o) (NotFound (absent.Element (record { steps = take (depth_found s (t ∷ p)) (t ∷ p) })))) none
+lost_there s (t ∷ p) some none =
+    ap (λ (o : Option Element). unless (is_some o) (NotFound (absent.Element (record { steps = take (depth_found s (t ∷ p)) (t ∷ p) })))) none
 
 pub found_there : (s : Submodel) (t : PathStep) (p : List PathStep) (o : Element) → element_at s (t ∷ p) ≡ Some o → is_lost s (t ∷ p) ≡ None
-found_there s t p o is = ap (λ (o : Option Element). unless (is_some o) (NotFound (absent.Element (record { steps = take (depth_found s (t ∷ p)) (t ∷ p) })))) is
+found_there s t p o is =
+    ap (λ (o : Option Element). unless (is_some o) (NotFound (absent.Element (record { steps = take (depth_found s (t ∷ p)) (t ∷ p) })))) is
 
 pub is_missing_at : (s : Submodel) (p : List PathStep) (m : ℕ) (r : Refusal) (rest : List Cause) → 0 < length p → element_at s p ≡ None → m ≡ depth_found s p
     → (r ≡ NoMemory) ⊎ (r ≡ NotFound (absent.Element (record { steps = take m p }))) → r ≢ NoMemory
@@ -77,7 +79,8 @@ inserts s (t ∷ p) e b found takes is clear = by_element (element_at s (t ∷ p
     by_role : (o : Element) (r : Option Role) → element_at s (t ∷ p) ≡ Some o → role_under o e ≡ r → first_of (insert_causes (t ∷ p) e s) ≡ None
     by_role o None at none = absurd (takes (o, at, none))
     by_role o (Some r) at some =
-        ap (λ (c : Cause). first_of (c ∷ when (is_container s (t ∷ p) && is_named_among (id_short_of e) (children_at s (t ∷ p))) Conflict ∷ unless (is_some (role_at s (t ∷ p) e)) NotAContainer ∷ []))
+        ap (λ (c : Cause). first_of (c ∷ when (is_container s (t ∷ p) && is_named_among (id_short_of e) (children_at s (t ∷ p))) Conflict
+        ∷ unless (is_some (role_at s (t ∷ p) e)) NotAContainer ∷ []))
         (found_there s t p o at)
         ∙ ap (λ (c : Bool). Second c (unless (is_some (role_at s (t ∷ p) e)) NotAContainer ∷ [])) (sym is ∙ clear)
         ∙ ap (λ (r : Option Role). first_of (unless (is_some r) NotAContainer ∷ [])) (ap (λ (o : Option Element). role_under_found o e) at ∙ some)
@@ -94,7 +97,8 @@ replaces s (t ∷ p) e some found fits = by_element (element_at s (t ∷ p)) ref
     by_fit : (o : Element) (b : Bool) → element_at s (t ∷ p) ≡ Some o → fits_role e (role_of o) ≡ b → first_of (replace_causes (t ∷ p) e s) ≡ None
     by_fit o false at unfit = absurd (fits (o, at, unfit))
     by_fit o true at fit =
-        ap (λ (c : Cause). first_of (c ∷ unless (option_map_or (λ o. fits_role e (role_of o)) (element_at s (t ∷ p)) false) NotAContainer ∷ [])) (found_there s t p o at)
+        ap (λ (c : Cause). first_of (c ∷ unless (option_map_or (λ o. fits_role e (role_of o)) (element_at s (t ∷ p)) false) NotAContainer ∷ []))
+        (found_there s t p o at)
         ∙ ap (λ (b : Bool). first_of (unless b NotAContainer ∷ [])) (ap (λ (f : Option Element). option_map_or (λ o. fits_role e (role_of o)) f false) at ∙ fit)
 
     by_element : (o : Option Element) → element_at s (t ∷ p) ≡ o → first_of (replace_causes (t ∷ p) e s) ≡ None
@@ -108,10 +112,14 @@ kids_at ks i k whole is = all_at (λ e. element_in_order e) ks i k (map_true ks 
   where
     map_true : (ks : List Element) → each_true (each element_in_order ks) ≡ true → list_all (λ e. element_in_order e) ks ≡ true
     map_true [] h = refl
-    map_true (k ∷ ks) h = let parts = and_parts (element_in_order k) (each_true (each element_in_order ks)) h in and_from (element_in_order k) (list_all (λ e. element_in_order e) ks) parts.0 (map_true ks parts.1)
+    map_true (k ∷ ks) h =
+        let parts = and_parts (element_in_order k) (each_true (each element_in_order ks)) h in
+        and_from (element_in_order k) (list_all (λ e. element_in_order e) ks) parts.0 (map_true ks parts.1)
 
 order_out : (e : Element) → element_in_order e ≡ true → elements_in_order (kids_of e) ≡ true
-order_out e h = (and_parts (kept_in_order (out-Element e).common.embedded_data_specifications) (elements_in_order (kids_of e)) (sym (fold_out-Element Bool (λ x. kept_in_order x.common.embedded_data_specifications && each_true x.kids) e) ∙ h)).1
+order_out e h =
+    (and_parts (kept_in_order (out-Element e).common.embedded_data_specifications) (elements_in_order (kids_of e))
+    (sym (fold_out-Element Bool (λ x. kept_in_order x.common.embedded_data_specifications && each_true x.kids) e) ∙ h)).1
 
 child_at : (l : Bool) (s : PathStep) (ks : List Element) (c : ℕ × Element) → child_by l s ks ≡ Some c → slice_get ks c.0 ≡ Some c.1
 unfolding child_by

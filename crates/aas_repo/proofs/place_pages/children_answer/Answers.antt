@@ -13,5 +13,6 @@ returns g c =
     let m = (g.S.Store.documents c.args.store.now).submodels in
     let none = Err (NotFound absent.Submodel) in
     inr
-    (children_told c.args.form c.in-Some-Some.head.now c.args.span _ none (map.get m c.as_str-id.result.now) c.in-Some-Some.ensures c.in_ok-children_page.ensures
+    (children_told c.args.form c.in-Some-Some.head.now c.args.span _ none (map.get m c.as_str-id.result.now) c.in-Some-Some.ensures
+    c.in_ok-children_page.ensures
     ∙ ap (λ (id : List ℕ). option_map_or (λ s. places_page (child_text c.args.form s) c.args.span s.kids) (map.get m id) none) c.as_str-id.ensures.bytes)

@@ -23,6 +23,8 @@ returns g c =
     let m = (g.S.Store.documents c.args.store.now).submodels in
     let none = Err (NotFound absent.Submodel) in
     inr
-    (ap (λ t. Ok t) (c.from.ensures ∙ c.in_ok-append_metadata.ensures ∙ ap (λ t. t ++ canonical_text submodels (submodel_metadata c.in-Some.head.now)) c.new-text.ensures.items)
+    (ap (λ t. Ok t)
+    (c.from.ensures ∙ c.in_ok-append_metadata.ensures
+    ∙ ap (λ t. t ++ canonical_text submodels (submodel_metadata c.in-Some.head.now)) c.new-text.ensures.items)
     ∙ told_of_head tell none (map.get m c.as_str.result.now) c.in-Some.head.now c.in-Some.ensures
     ∙ ap (λ (id : List ℕ). option_map_or tell (map.get m id) none) c.as_str.ensures.bytes)

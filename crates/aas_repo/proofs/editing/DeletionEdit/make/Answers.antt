@@ -17,5 +17,6 @@ returns-in-Ok-clause-whole c = λ whole.
 pub returns-clause-err : goal.returns-clause-err
 unfolding IsWellFormed
 returns-clause-err c = λ other.
-    is_missing_at c.args.submodel.now c.args.self.path.steps _ _ [] (some_steps c.args.self.path.steps c.requires.1) c.in-Err.ensures.missing c.in-Err.ensures.depth
+    is_missing_at c.args.submodel.now c.args.self.path.steps _ _ [] (some_steps c.args.self.path.steps c.requires.1)
+    c.in-Err.ensures.missing c.in-Err.ensures.depth
     c.not_found.ensures other
