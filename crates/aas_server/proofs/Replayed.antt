@@ -11,10 +11,10 @@ use Rattle.aas_session.specs.Session.{End, Closed, NoMemory, Place, going, over,
 use Rattle.aas_session.specs.Session.{Turn, refusal, closes, TurnAt, Takes, TakesAll}
 use Rattle.aas_session.specs.Refusals.{bad_request, too_large, not_implemented, out_of_memory}
 use Rattle.aas_store.specs.Documents.{Documents, empty}
-use Rattle.aas_step.specs.Step.{accepted, refused}
-use Rattle.aas_api.specs.declared.ask.Ask.TheVariants.{Act, Answer}
+use Rattle.aas_step.specs.Step.{accepted}
 use Rattle.aas_api_service.specs.Laws.{AsksWellFormed}
-use Rattle.aas_api_service.specs.Turns.{AskComesTo, Turns, unchanged}
+use Rattle.aas_api_service.specs.Turns.{Turns, unchanged}
+use Rattle.aas_api_service.proofs.Sessions.{Turned, turned}
 use Rattle.aas_repo_replay.specs.Laws.{AcceptedReplay}
 use Rattle.aas_repo_replay.specs.Replay.{Replays, ReplaysFrom}
 use Rattle.aas_server.specs.Laws.{SessionsReplay}
@@ -65,15 +65,15 @@ module _ (asks_well_formed : AsksWellFormed) (accepted_replay : AcceptedReplay) 
   unchanged_read r reply outcome is replays = subst (λ (o : Outcome Documents Reply). AreRead (after r o)) (sym is)
       (subst (λ (l : List (List ℕ)). Replays l r.documents) (sym (append-nil r.records)) replays)
 
+  turned_read : (r : Repository Documents) (outcome : Outcome Documents Reply) → Turned room r outcome → AreRead r
+      → AreRead (after r outcome)
+  turned_read r outcome (inl (reply, is)) replays = unchanged_read r reply outcome is replays
+  turned_read r outcome (inr (c, new, well, steps, fields, is)) replays =
+      subst (λ (o : Outcome Documents Reply). AreRead (after r o)) (sym is) (accepted_replay room r c new replays well fields steps)
+
   outcome_read : (r : Repository Documents) (m : Message) (outcome : Outcome Documents Reply) → Turns room r m outcome → AreRead r
       → AreRead (after r outcome)
-  unfolding Turns AskComesTo
-  outcome_read r m outcome (Ok (Act c), asked, (accepted new, steps, fields, is)) replays =
-      subst (λ (o : Outcome Documents Reply). AreRead (after r o)) (sym is)
-      (accepted_replay room r c new replays (asks_well_formed m c asked) fields steps)
-  outcome_read r m outcome (Ok (Act c), asked, (refused why, steps, read, is)) replays = unchanged_read r _ outcome is replays
-  outcome_read r m outcome (Ok (Answer q), asked, is) replays = unchanged_read r _ outcome is replays
-  outcome_read r m outcome (Err why, asked, is) replays = unchanged_read r _ outcome is replays
+  outcome_read r m outcome comes replays = turned_read r outcome (turned room r m outcome comes) replays
 
   pub outcome_goes : (r : Repository Documents) (m : Message) (outcome : Outcome Documents Reply) → Turns room r m outcome → AreRead r
       → IsBehind r outcome.kept (after r outcome)
