@@ -1,23 +1,22 @@
 -- What a checkpoint of the repository that was opened on a disk comes to.
-use Rattle.std.proofs.Common.{◌≡◌, ◌≢◌, ◌⊎◌, ⊎_elim, ◌≤◌, ◌<◌, ℕ, List, [], ◌∷◌, ◌++◌, Option, Some, None, Result, Ok, Err, refl, ap, subst, sym, ◌∙◌, inl, inr, arith, rules}
+use Rattle.std.proofs.Common.{◌≡◌, ◌⊎◌, ⊎_elim, ◌≤◌, ℕ, List, [], ◌∷◌, Option, Some, Result, Ok, Err, refl, ap, subst, sym, ◌∙◌, inl, inr, arith}
 use Rattle.std.specs.Prelude.{IfSome, MatchResult}
 use Rattle.std.proofs.lemmas.Bool.{cases_lt}
 use Rattle.aas_journal.specs.Bank.{IsBankImage}
-use Rattle.aas_journal.specs.Checkpoint.{EitherDuring, checkpointed}
+use Rattle.aas_journal.specs.Checkpoint.{checkpointed}
 use Rattle.aas_journal.specs.Laws.{HaveOneList}
-use Rattle.aas_outside.specs.Faults.{Rose}
 use Rattle.aas_outside.specs.Moments.{Passes}
 use Rattle.aas_outside_disk.specs.Files.{Files}
 use Rattle.aas_repo_replay.specs.Laws.{OneReplay}
 use Rattle.aas_repo_replay.specs.Replay.{Replays}
 use Rattle.aas_rule.specs.Rule.{Repository}
-use Rattle.aas_rule.specs.State.{State, IsSettledState, repository_of}
+use Rattle.aas_rule.specs.State.{State, IsSettledState}
 use Rattle.aas_store.specs.Documents.{Documents}
 use Rattle.aas_server.specs.Answer.{Answer, Says, disk_failed, done, journal_full}
-use Rattle.aas_server.specs.Checkpointing.{Checkpoints, IsCheckpointAnswer, IsCheckpointed, IsForgone, IsOneRecord, OpensMeanwhile, StaysOpen, checkpoint_size, whole_payload}
-use Rattle.aas_server.specs.Ends.{ConsoleState, DiskState, IsUnwritten, MayLeave}
+use Rattle.aas_server.specs.Checkpointing.{Checkpoints, IsCheckpointAnswer, IsCheckpointed, IsOneRecord, OpensMeanwhile, StaysOpen, checkpoint_size, whole_payload}
+use Rattle.aas_server.specs.Ends.{ConsoleState, DiskState, IsUnwritten}
 use Rattle.aas_server.specs.Making.{IsSaidThen, IsUnmadeBy, size_line}
-use Rattle.aas_server.specs.Opening.{OpensAnyway, OpensAs, OpensTo}
+use Rattle.aas_server.specs.Opening.{OpensTo}
 use Rattle.aas_server.specs.declared.checkpointing.Unmade.{Unmade}
 use Rattle.aas_server.specs.declared.checkpointing.Unmade.TheVariants as unmade
 use Rattle.aas_server.proofs.Given.{says_weaker}

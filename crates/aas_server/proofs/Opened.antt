@@ -1,7 +1,6 @@
 -- What serving the repository that was opened on a disk comes to.
-use Rattle.std.proofs.Common.{◌≡◌, ◌≤◌, ℕ, List, [], ◌∷◌, Option, Some, refl, sym, subst, ◌∙◌, inl, inr, arith, lit<}
+use Rattle.std.proofs.Common.{◌≡◌, ◌≤◌, ℕ, List, [], ◌∷◌, Some, refl, sym, subst, ◌∙◌, inl, inr, arith, lit<}
 use Rattle.std.specs.Prelude.{Contains, IfSome}
-use Rattle.std.proofs.lemmas.Option.{IfSome_then}
 use Rattle.aas_journal.specs.Bank.{IsBankImage}
 use Rattle.aas_journal.specs.Kept.{has_room_behind}
 use Rattle.aas_journal.specs.Laws.{HaveOneList}
@@ -22,11 +21,10 @@ use Rattle.aas_session.specs.declared.wire.WireEnded.{WireEnded}
 use Rattle.aas_session.specs.declared.wire.WireEnded.TheVariants as wire
 use Rattle.aas_step.specs.Valid.{AreValid}
 use Rattle.aas_store.specs.Documents.{Documents}
-use Rattle.aas_api_service.specs.Laws.{AsksWellFormed}
 use Rattle.aas_api_service.specs.Turns.{Turns}
 use Rattle.aas_server.specs.Ends.{ConsoleState, DiskState, MayLeave, WireState}
 use Rattle.aas_server.specs.OnDisk.{StandsFor, state_on}
-use Rattle.aas_server.specs.Opening.{HasBegun, Opens, OpensAs, begun}
+use Rattle.aas_server.specs.Opening.{OpensAs}
 use Rattle.aas_server.specs.Pipe.{IsConsoleServed, IsPiped, pipe_status}
 use Rattle.aas_server.specs.Serve.{IsServed, IsWireServed, serve_status}
 use Rattle.aas_server.proofs.Held.{IsOpened, has_begun, here, same}
@@ -34,7 +32,7 @@ use Rattle.aas_server.proofs.Replayed.{AreRead, Replay}
 use Rattle.aas_server.proofs.Since.{all_since, served_since}
 
 -- the disk at the start and at the end, what the journal held when it was opened, and the documents at the end
-module _ (one_list : HaveOneList) (one_replay : OneReplay) (asks_well_formed : AsksWellFormed) (accepted_replay : AcceptedReplay)
+module _ (one_list : HaveOneList) (one_replay : OneReplay) (accepted_replay : AcceptedReplay)
     (start last : DiskState) (opened : State Documents Files) (d : Documents)
     (kept : List (List ℕ) → Type 0)
     (told : (payloads : List (List ℕ)) → kept payloads → (files : Files) × (last.seen ≡ Some files) × IsBankImage files payloads)
@@ -95,7 +93,7 @@ module _ (one_list : HaveOneList) (one_replay : OneReplay) (asks_well_formed : A
         → IsPiped end input r old new start last
     piped end old new serves input left = record {
       documents = d;
-      served = served_since asks_well_formed accepted_replay has_room_behind IsBankImage (StandsFor start r) weaker
+      served = served_since accepted_replay has_room_behind IsBankImage (StandsFor start r) weaker
           d last.moment last.left_at kept (state_on last d).kept kept_opens
           start.moment opened.moment r read reads.later before input old.sent new.sent (Rose old.faults new.faults) end
           (subst (λ (x : Repository Documents). Session x input end old new) as_told (serves input held.0 left held.2));
@@ -106,7 +104,7 @@ module _ (one_list : HaveOneList) (one_replay : OneReplay) (asks_well_formed : A
         → old.connections ≡ Some c → old.sent ≡ Some sent → IsServed count end c sent r old new start last
     served count end old new serves c sent known known_sent = record {
       documents = d;
-      served = all_since asks_well_formed accepted_replay has_room_behind IsBankImage (StandsFor start r) weaker
+      served = all_since accepted_replay has_room_behind IsBankImage (StandsFor start r) weaker
           d last.moment last.left_at kept (state_on last d).kept kept_opens
           start.moment opened.moment r read reads.later before c.coming (sent_on_all c sent) count new.connections new.sent
           (Rose old.faults new.faults) end

@@ -1,5 +1,5 @@
 -- The records behind requests, sessions and connections replay to the documents then.
-use Rattle.std.proofs.Common.{◌≡◌, inl, inr, ℕ, ◌-◌, Bool, true, false, List, [], ◌∷◌, ◌++◌, Ok, Err}
+use Rattle.std.proofs.Common.{◌≡◌, inl, inr, ℕ, ◌-◌, Bool, true, false, List, [], ◌∷◌, ◌++◌}
 use Rattle.std.proofs.Common.{refl, sym, ap, ◌∙◌, subst, append_assoc}
 use Rattle.std.specs.Prelude.{if◌then◌else◌, ⊤}
 use Rattle.std.proofs.lemmas.List.{append-nil}
@@ -11,8 +11,6 @@ use Rattle.aas_session.specs.Session.{End, Closed, NoMemory, Place, going, over,
 use Rattle.aas_session.specs.Session.{Turn, refusal, closes, TurnAt, Takes, TakesAll}
 use Rattle.aas_session.specs.Refusals.{bad_request, too_large, not_implemented, out_of_memory}
 use Rattle.aas_store.specs.Documents.{Documents, empty}
-use Rattle.aas_step.specs.Step.{accepted}
-use Rattle.aas_api_service.specs.Laws.{AsksWellFormed}
 use Rattle.aas_api_service.specs.Turns.{Turns, unchanged}
 use Rattle.aas_api_service.proofs.Sessions.{Turned, turned}
 use Rattle.aas_repo_replay.specs.Laws.{AcceptedReplay}
@@ -59,7 +57,7 @@ all_replay r kept next is = (next.documents, subst (λ (l : List (List ℕ)). Re
 
 -- ---- requests, turns and connections
 
-module _ (asks_well_formed : AsksWellFormed) (accepted_replay : AcceptedReplay) (room : Room) where
+module _ (accepted_replay : AcceptedReplay) (room : Room) where
   unchanged_read : (r : Repository Documents) (reply : Reply) (outcome : Outcome Documents Reply) → outcome ≡ unchanged r reply
       → AreRead r → AreRead (after r outcome)
   unchanged_read r reply outcome is replays = subst (λ (o : Outcome Documents Reply). AreRead (after r o)) (sym is)
@@ -71,13 +69,9 @@ module _ (asks_well_formed : AsksWellFormed) (accepted_replay : AcceptedReplay) 
   turned_read r outcome (inr (c, new, well, steps, fields, is)) replays =
       subst (λ (o : Outcome Documents Reply). AreRead (after r o)) (sym is) (accepted_replay room r c new replays well fields steps)
 
-  outcome_read : (r : Repository Documents) (m : Message) (outcome : Outcome Documents Reply) → Turns room r m outcome → AreRead r
-      → AreRead (after r outcome)
-  outcome_read r m outcome comes replays = turned_read r outcome (turned room r m outcome comes) replays
-
   pub outcome_goes : (r : Repository Documents) (m : Message) (outcome : Outcome Documents Reply) → Turns room r m outcome → AreRead r
       → IsBehind r outcome.kept (after r outcome)
-  outcome_goes r m outcome comes read = record { records = refl; read = outcome_read r m outcome comes read }
+  outcome_goes r m outcome comes read = record { records = refl; read = turned_read r outcome (turned room r m outcome comes) read }
 
   abbrev Goes : Repository Documents → Turn → Place Documents → Type 0
   Goes r turn next = IsBehind r turn.kept (repository next)
@@ -128,7 +122,7 @@ module _ (asks_well_formed : AsksWellFormed) (accepted_replay : AcceptedReplay) 
       then_more old (repository c.last) last (commands c.turns) (all_commands cs) goes
       (sessions_go link_failed (repository c.last) cs last rest goes.read)
 
-pub sessions_replay : AsksWellFormed → AcceptedReplay → SessionsReplay
-sessions_replay asks_well_formed accepted_replay room old mid served bytes turns last sessions taken read =
-    let goes = sessions_go asks_well_formed accepted_replay room ⊤ old served mid sessions read in
-    (turns_go asks_well_formed accepted_replay room (start mid bytes) turns last taken goes.read).read
+pub sessions_replay : AcceptedReplay → SessionsReplay
+sessions_replay accepted_replay room old mid served bytes turns last sessions taken read =
+    let goes = sessions_go accepted_replay room ⊤ old served mid sessions read in
+    (turns_go accepted_replay room (start mid bytes) turns last taken goes.read).read

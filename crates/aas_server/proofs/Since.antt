@@ -13,7 +13,6 @@ use Rattle.aas_session.specs.declared.connection.Ended.TheVariants as ended
 use Rattle.aas_session.specs.declared.wire.WireEnded.{WireEnded}
 use Rattle.aas_session.specs.declared.wire.WireEnded.TheVariants as wire
 use Rattle.aas_store.specs.Documents.{Documents}
-use Rattle.aas_api_service.specs.Laws.{AsksWellFormed}
 use Rattle.aas_api_service.specs.Turns.{Turns}
 use Rattle.aas_repo_replay.specs.Laws.{AcceptedReplay}
 use Rattle.aas_repo_replay.specs.Replay.{Replays}
@@ -73,7 +72,7 @@ module _ {I : Type 0} (stands stands_then : I → List (List ℕ) → Type 0) (H
 
 -- ---- what a machine holds and what was served
 
-module _ (asks_well_formed : AsksWellFormed) (accepted_replay : AcceptedReplay) (room : Room)
+module _ (accepted_replay : AcceptedReplay) (room : Room)
     {I : Type 0} (stands stands_then : I → List (List ℕ) → Type 0)
     (weaker : (image : I) (payloads : List (List ℕ)) → Replay payloads → stands image payloads → stands_then image payloads)
     (d : Documents) (moment : ℕ) (left_at : ℕ → I → Type 0) (kept kept_then : List (List ℕ) → Type 0)
@@ -103,7 +102,7 @@ module _ (asks_well_formed : AsksWellFormed) (accepted_replay : AcceptedReplay) 
       → IsBehind r payloads old → TakesAll (Turns room) (start old input) taken last
       → IsBehind r (payloads ++ commands taken) (repository last)
   turns_behind payloads old input taken last behind all = then_more r old (repository last) payloads (commands taken) behind
-      (turns_go asks_well_formed accepted_replay room (start old input) taken last all behind.read)
+      (turns_go accepted_replay room (start old input) taken last all behind.read)
 
   broken_since : (payloads : List (List ℕ)) (old : Repository Documents) (input : List ℕ) (sent_old sent_new : Option (List ℕ))
       (link_failed : Type 0) → IsBehind r payloads old → IsBroken (Turns room) stands r.records payloads old input mid now sent_old sent_new link_failed
@@ -112,7 +111,7 @@ module _ (asks_well_formed : AsksWellFormed) (accepted_replay : AcceptedReplay) 
       let so_far : IsBehind r (payloads ++ commands b.turns) b.so_far =
       turns_behind payloads old input b.turns (going b.requests b.so_far b.bytes) behind b.taken in
       let all = then_more r b.so_far (after b.so_far b.outcome) (payloads ++ commands b.turns) b.outcome.kept so_far
-      (outcome_goes asks_well_formed accepted_replay room b.so_far b.message b.outcome b.comes so_far.read) in
+      (outcome_goes accepted_replay room b.so_far b.message b.outcome b.comes so_far.read) in
       record {
         turns = b.turns;
         requests = b.requests;
@@ -170,7 +169,7 @@ module _ (asks_well_formed : AsksWellFormed) (accepted_replay : AcceptedReplay) 
 
   all_behind : (coming : List (List ℕ)) (link_failed : Type 0) (s : Serving (Turns room) link_failed r coming)
       → IsBehind r (all_commands s.served) s.last
-  all_behind coming link_failed s = sessions_go asks_well_formed accepted_replay room link_failed r s.served s.last s.sessions read
+  all_behind coming link_failed s = sessions_go accepted_replay room link_failed r s.served s.last s.sessions read
 
   ends_since : (coming sent_before : List (List ℕ)) (count : ℕ) (connections : Option Connections) (sent : Option (List ℕ))
       (link_failed : Type 0) (s : Serving (Turns room) link_failed r coming) (end : WireEnded)

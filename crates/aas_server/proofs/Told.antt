@@ -1,15 +1,14 @@
 -- What the repository that was opened on a disk comes to where the disk was only read.
-use Rattle.std.proofs.Common.{◌≡◌, ◌⊎◌, ◌≤◌, ℕ, List, [], ◌∷◌, Option, Some, ap, subst, sym, ◌∙◌, inl, inr, lit<}
-use Rattle.std.specs.Prelude.{Contains, IfSome}
+use Rattle.std.proofs.Common.{◌≡◌, ℕ, List, subst}
+use Rattle.std.specs.Prelude.{IfSome}
 use Rattle.aas_journal.specs.Laws.{HaveOneList}
 use Rattle.aas_outside_disk.specs.Files.{Files}
 use Rattle.aas_repo_replay.specs.Laws.{OneReplay}
 use Rattle.aas_rule.specs.Rule.{Repository}
-use Rattle.aas_rule.specs.State.{State, repository_of}
+use Rattle.aas_rule.specs.State.{State}
 use Rattle.aas_store.specs.Documents.{Documents}
 use Rattle.aas_server.specs.Answer.{Says, done}
 use Rattle.aas_server.specs.Ends.{ConsoleState, DiskState, IsUnwritten}
-use Rattle.aas_server.specs.Opening.{OpensAs}
 use Rattle.aas_server.specs.Telling.{IsTold}
 use Rattle.aas_server.proofs.Held.{IsOpened, has_begun, same}
 

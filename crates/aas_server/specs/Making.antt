@@ -1,5 +1,5 @@
 -- What a checkpoint prepares, what comes of it, and what is said then.
-use Rattle.std.specs.Prelude.{◌≡◌, ℕ, ◌+◌, ◌<◌, List, [], ◌∷◌, ◌++◌, codes, decimal, length, Result, Ok, Err}
+use Rattle.std.specs.Prelude.{◌≡◌, ℕ, ◌<◌, List, [], ◌∷◌, ◌++◌, codes, decimal, Result, Ok, Err}
 use Rattle.aas_command.specs.Encoding.{IsFaultOf}
 use Rattle.aas_command.specs.declared.encoding.EncodeFault.{EncodeFault}
 use Rattle.aas_command.specs.declared.encoding.EncodeFault.TheVariants as encode_fault

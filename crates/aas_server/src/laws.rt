@@ -1,7 +1,6 @@
 // Laws of what files open as, and of what the records of sessions replay to. A law stands on a function that does nothing.
 ghost use Rattle.aas_server.specs.Laws.{OpenOneWay, SessionsReplay};
 
-use aas_api_service::asks_are_well_formed;
 use aas_journal::{have_one_condition, have_one_list};
 use aas_repo_replay::{
     accepted_commands_replay, payloads_replay_to_one_state, payloads_stop_at_one_place,
@@ -22,6 +21,5 @@ pub fn files_open_one_way()
 pub fn sessions_replay()
     ensures { SessionsReplay }
 {
-    asks_are_well_formed();
     accepted_commands_replay();
 }

@@ -14,7 +14,6 @@ use crate::commands::Ran;
 use crate::console::{end_damaged, end_with};
 use crate::server::Server;
 use crate::status::Status;
-use aas_api_service::asks_are_well_formed;
 use aas_journal::{NotOpened, OpenFault, have_one_list};
 use aas_outside::{Failed, Link, Wire};
 use aas_outside_disk::Disk;
@@ -33,7 +32,6 @@ pub fn pipe<C: Link, D: Disk>(alloc: Global, console: &mut C, disk: D) -> Ran<D>
 {
     have_one_list();
     payloads_replay_to_one_state();
-    asks_are_well_formed();
     accepted_commands_replay();
     match Server::open(alloc, disk) {
         Ok(mut server) => {
@@ -69,7 +67,6 @@ pub fn serve<C: Link, W: Wire, D: Disk>(
 {
     have_one_list();
     payloads_replay_to_one_state();
-    asks_are_well_formed();
     accepted_commands_replay();
     match Server::open(alloc, disk) {
         Ok(mut server) => match wire.listen(address) {

@@ -1,7 +1,7 @@
-use Rattle.std.proofs.Common.{◌≡◌, ℕ, List, [], ◌∷◌, sym, subst}
+use Rattle.std.proofs.Common.{ℕ, List, [], ◌∷◌, sym, subst}
 use Rattle.aas_journal.specs.Shown.{disk_of as disk_in}
 use Rattle.aas_repo_replay.specs.Replay.{Replays}
-use Rattle.aas_server.specs.Checkpointing.{IsOneRecord, whole_payload}
+use Rattle.aas_server.specs.Checkpointing.{IsOneRecord}
 use Rattle.aas_server.specs.Ends.{disk_of}
 use Rattle.aas_server.proofs.Checkpointed.{either_opens}
 use Rattle.aas_server.proofs.checkpointing.make.Goals as goal

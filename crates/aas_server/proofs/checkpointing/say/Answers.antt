@@ -1,7 +1,6 @@
-use Rattle.std.proofs.Common.{Err, sym, subst, ap, ◌∙◌}
+use Rattle.std.proofs.Common.{sym, subst, ap, ◌∙◌}
 use Rattle.aas_server.specs.Answer.{done}
 use Rattle.aas_server.specs.Ends.{console_of}
-use Rattle.aas_server.specs.Making.{IsSaidThen}
 use Rattle.aas_server.specs.Status.{exit_code}
 use Rattle.aas_server.proofs.Checkpointed.{IsSaid}
 use Rattle.aas_server.proofs.Given.{says_line, says_weaker}

@@ -2,4 +2,4 @@ use Rattle.aas_server.proofs.Replayed.{sessions_replay}
 use Rattle.aas_server.proofs.laws.sessions_replay.Goals as goal
 
 pub returns : goal.returns
-returns c = sessions_replay c.asks_are_well_formed.ensures c.accepted_commands_replay.ensures
+returns c = sessions_replay c.accepted_commands_replay.ensures

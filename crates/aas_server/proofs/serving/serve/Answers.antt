@@ -18,7 +18,7 @@ returns-in-Ok-listen-clause-does g c =
     rw c.into_disk.ensures.value
     (inr (inr (
       wire_served c.have_one_list.ensures c.payloads_replay_to_one_state.ensures
-          c.asks_are_well_formed.ensures c.accepted_commands_replay.ensures
+          c.accepted_commands_replay.ensures
           (disk_of D.seen D.moment D.left_at D.faults c.args.disk) (disk_of D.seen D.moment D.left_at D.faults (disk_in after.keeper))
           (record {
             documents = opened.documents;
