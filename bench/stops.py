@@ -3,11 +3,12 @@
 
 The commands create, replace and delete small submodels, at random. They are sent to a run of `aasd pipe`, many at once, or of `aasd serve`, one after
 another, and the run is killed (signal 9) some time later, in its start, in a command or behind the last one. Every command that was answered must be
-there then, and at most one more. The next run goes on with the same files.
+there then, and at most one more. The next run goes on with the same files. In between `aasd checkpoint` is run and killed: it must
+leave the documents as they are, and one record of them in the file that is in use where its line was printed.
 
 Besides that, while a run has the folder, a second one must end with status 4 and change nothing. A journal that is cut off anywhere, or in which a byte
 is another, must be opened, or be found not initialised or damaged, with the right line, and stay as it is; where a record passes the end of the file,
-the place of its gate must be named.
+the place of its gate must be named. So must the spare file, where it is in use.
 
 Nothing is built. Printed is how many of each were tried; the script ends with status 1 where one failed. What a power failure leaves of a disk isn't
 tried: that the system writes what it says it has written is trusted.
@@ -31,6 +32,8 @@ HEADERS = (b'AASJ0001', b'AASJ0002')
 IDENTIFIERS = 12
 BATCH = 40
 LARGEST = 268_435_456
+# What a record of an import and the file around it have beside the text: the tag, its length, and header, gates and length.
+AROUND = 19
 # How long a reply, the start and the end of the program may take, in seconds.
 PATIENCE = 60
 
@@ -85,6 +88,16 @@ def commands(documents, version):
         yield (*call, documents)
 
 
+def environment(texts):
+    return f'{{"submodels":[{",".join(texts)}]}}' if texts else '{}'
+
+
+def a_checkpoint(documents, _):
+    """A checkpoint: no input, its line and the documents after it."""
+    text = environment([documents[number] for number in sorted(documents, key=identifier)])
+    return b'', f'checkpoint {len(text) + AROUND}\n'.encode(), documents
+
+
 def questions(documents):
     """A request for each submodel, and what they are answered together."""
     replies = [reply('200 OK', documents[number]) if number in documents else reply('404 Not Found', refusal(13, 'not found: submodel'))
@@ -128,8 +141,12 @@ class Folder:
         except FileNotFoundError:
             return None
 
-    def write(self, journal):
-        with open(os.path.join(self.folder, FILES[0]), 'wb') as file:
+    def in_use(self):
+        """Which of the files the selector chooses: 0 or 1."""
+        return (self.content(FILES[2]) or b'\0')[0] % 2
+
+    def write(self, place, journal):
+        with open(os.path.join(self.folder, FILES[place]), 'wb') as file:
             file.write(journal)
 
 
@@ -157,6 +174,27 @@ def kill_pipe(folder, calls, seconds):
         run.kill()
     # What it wrote is still in the pipe.
     return answered(run.communicate(timeout=PATIENCE)[0], calls)
+
+
+def kill_command(folder, word, call, seconds):
+    """Runs a command with the call as its input and kills it so many seconds later. Answers whether it printed its line."""
+    run = folder.start(word)
+    try:
+        run.stdin.write(call[0])
+        run.stdin.close()
+        run.stdin = None
+        time.sleep(seconds)
+    finally:
+        run.kill()
+    return answered(run.communicate(timeout=PATIENCE)[0], [call])
+
+
+def kill_checkpoint(folder, calls, seconds):
+    before = folder.in_use()
+    count = kill_command(folder, 'checkpoint', calls[0], seconds)
+    if count and (folder.in_use() == before or gates(folder.content(FILES[1 - before])) != ([8], None)):
+        raise Wrong('a checkpoint was printed, and the file in use is not one of one record')
+    return count
 
 
 def free_port():
@@ -228,25 +266,34 @@ def opens_as(folder, before, calls, count):
     raise Wrong(f'{count} commands were answered; then the files open with status {got[0]}, {got[1][:400]!r}')
 
 
+def calls_for(kill, documents, version):
+    """What is asked of a run that is killed so."""
+    if kill is kill_checkpoint:
+        return [a_checkpoint(documents, version)]
+    return [call for call, _ in zip(commands(documents, version), range(BATCH))]
+
+
 def stops(program, where, kills):
     """Kills the program so many times, and says what came of it."""
-    documents, version, told, more, seconds = {}, 0, 0, 0, {kill_pipe: 0.05, kill_serve: 0.05}
+    ways = kill_pipe, kill_checkpoint, kill_serve, kill_checkpoint
+    documents, version, more, seconds, told = {}, 0, 0, dict.fromkeys(ways, 0.05), dict.fromkeys(ways, 0)
     with tempfile.TemporaryDirectory(dir=where) as name:
         folder = Folder(program, name)
         folder.init()
         for turn in range(kills):
-            kill = (kill_pipe, kill_serve)[turn % 2]
-            calls = [call for call, _ in zip(commands(documents, version), range(BATCH))]
+            kill = ways[turn % len(ways)]
+            calls = calls_for(kill, documents, version)
             version += BATCH
             count = kill(folder, calls, random.random() * seconds[kill])
             after = opens_as(folder, documents, calls, count)
-            told += count
+            told[kill] += count
             more += after is not ([documents] + [call[2] for call in calls])[count]
-            # The time is such that about half of a batch is done on average.
-            seconds[kill] *= 1.1 if count < BATCH // 2 else 0.9
+            # The time is such that about half of the calls are done on average.
+            seconds[kill] *= 1.1 if count < (len(calls) + 1) // 2 else 0.9
             documents = after
-        size = len(folder.content(FILES[0]))
-    print(f'{kills} kills: {told} commands were answered and found; {more} times one more was found; the journal has {size} bytes')
+        sizes = [len(folder.content(name)) for name in FILES[:2]]
+    print(f'{kills} kills: {told[kill_pipe] + told[kill_serve]} commands and {told[kill_checkpoint]} checkpoints were answered '
+          f'and found; {more} times one more was found; the files have {sizes[0]} and {sizes[1]} bytes')
 
 
 def second_program(program, where):
@@ -259,7 +306,8 @@ def second_program(program, where):
         try:
             exchange(run, calls[0])
             before = folder.contents()
-            for words in (['pipe'], ['init'], ['serve', f'127.0.0.1:{free_port()}', '1']):
+            others = ['pipe'], ['init'], ['serve', f'127.0.0.1:{free_port()}', '1'], ['export'], ['check'], ['checkpoint']
+            for words in others:
                 folder.expect(words, calls[1][0], 4, b'aasd: disk fault\n')
             if folder.contents() != before:
                 raise Wrong('a second program changed the files')
@@ -272,7 +320,7 @@ def second_program(program, where):
             run.wait(PATIENCE)
         given, wanted = questions(calls[1][2])
         folder.expect(['pipe'], given, 0, wanted)
-    print('second programs in the folder: 3, each with status 4')
+    print(f'second programs in the folder: {len(others)}, each with status 4')
 
 
 def exchange(run, call):
@@ -301,12 +349,12 @@ def gates(journal):
     return found, None
 
 
-def opened(folder, journal):
-    """The status with which a journal is opened, which must be one that it can have."""
-    folder.write(journal)
+def opened(folder, place, journal):
+    """The status with which a journal in one of the files is opened, which must be one that it can have."""
+    folder.write(place, journal)
     before = folder.contents()
     status, text = folder.run('pipe')
-    if folder.contents()[0] != before[0]:
+    if folder.contents()[:2] != before[:2]:
         raise Wrong('opening changed the journal')
     if len(journal) < 9 or journal[:8] not in HEADERS:
         right = (status, text) == (5, b'aasd: not initialised\n')
@@ -320,8 +368,15 @@ def opened(folder, journal):
     return status
 
 
+def spoiled(journal):
+    """The journal cut off anywhere, and with another byte in each place."""
+    yield from (journal[:length] for length in range(len(journal) + 1))
+    for place, byte in enumerate(journal):
+        yield from (journal[:place] + bytes([other]) + journal[place + 1:] for other in sorted({0, 1, byte ^ 1, 255} - {byte}))
+
+
 def hostile(program, where):
-    """Journals that are cut off, of which a byte is another, or which are full of ones."""
+    """Journals that are cut off, of which a byte is another, or which are full of ones, and spare files that are cut off or of which a byte is another."""
     counts = {0: 0, 5: 0, 6: 0}
     with tempfile.TemporaryDirectory(dir=where) as name:
         folder = Folder(program, name)
@@ -329,14 +384,14 @@ def hostile(program, where):
         calls = [call for call, _ in zip(commands({}, 0), range(5))]
         folder.expect(['pipe'], b''.join(call[0] for call in calls), 0, b''.join(call[1] for call in calls))
         journal = folder.content(FILES[0])
-        tried = [journal[:length] for length in range(len(journal) + 1)]
-        for place, byte in enumerate(journal):
-            tried += [journal[:place] + bytes([other]) + journal[place + 1:] for other in sorted({0, 1, byte ^ 1, 255} - {byte})]
-        tried.append(bytes([1]) * LARGEST)
-        tried.append(HEADERS[1] + bytes([1]) * (LARGEST - len(HEADERS[1])))
-        for other in tried:
-            counts[opened(folder, other)] += 1
-    print(f'{sum(counts.values())} journals: ' + ', '.join(f'{count} with status {status}' for status, count in counts.items()))
+        for other in (*spoiled(journal), bytes([1]) * LARGEST, HEADERS[1] + bytes([1]) * (LARGEST - len(HEADERS[1]))):
+            counts[opened(folder, 0, other)] += 1
+        folder.write(0, journal)
+        given, line, _ = a_checkpoint(calls[-1][2], 0)
+        folder.expect(['checkpoint'], given, 0, line)
+        for other in spoiled(folder.content(FILES[1])):
+            counts[opened(folder, 1, other)] += 1
+    print(f'{sum(counts.values())} files: ' + ', '.join(f'{count} with status {status}' for status, count in counts.items()))
 
 
 def main():
