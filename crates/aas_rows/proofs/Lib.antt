@@ -1,0 +1,9 @@
+pub mod Back
+pub mod Counting
+pub mod Edited
+pub mod InOrder
+pub mod Patching
+pub mod Ranked
+pub mod Sizing
+pub mod Stepping
+pub mod Trees

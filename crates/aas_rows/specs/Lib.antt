@@ -1,0 +1,5 @@
+pub mod Children
+pub mod Edits
+pub mod Laws
+pub mod Rows
+pub mod Views
