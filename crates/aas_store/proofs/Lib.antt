@@ -1,5 +1,6 @@
-mod Listed
-mod Merges
+pub mod Listed
+pub mod Merges
 pub mod Ordered
-mod PutOver
-mod Shelves
+pub mod PutOver
+mod Rowed
+pub mod Shelves

@@ -2,6 +2,7 @@ pub mod Documents
 pub mod Edited
 pub mod Lent
 pub mod Merged
+pub mod Overlay
 pub mod Places
 pub mod Ranked
 pub mod Shelf

@@ -10,13 +10,17 @@ mod elements;
 mod lack;
 mod merging;
 mod overlay;
+mod rows;
 mod shelf;
 mod spot;
 mod spots;
 mod store;
 mod tree_store;
 
+pub use aas_rows::RowView;
 pub use lack::Lack;
+pub use overlay::{Identified, Overlay};
+pub use shelf::Shelf;
 pub use spot::{Spot, StepRef};
 pub use store::Store;
 pub use tree_store::TreeStore;

@@ -4,6 +4,7 @@ ghost use Rattle.std.specs.FinMap as map;
 ghost use Rattle.std.specs.Str.{encode_utf8_all};
 ghost use Rattle.aas_store.specs.Documents.{Identifier};
 ghost use Rattle.aas_store.specs.Merged.{IsGathered, IsOverlaid, IsRoomFor, with_each};
+ghost use Rattle.aas_store.specs.Overlay.{HasRoomOver, newer_of};
 
 use crate::merging::{merged, take_last};
 use crate::shelf::{Entry, Shelf};
@@ -12,7 +13,7 @@ use std::alloc::Global;
 use std::mem;
 
 /// A document, which has an identifier.
-pub(crate) trait Identified: Drop {
+pub trait Identified: Drop {
     ghost id_of: { Self → Identifier };
 
     /// A copy of its identifier.
@@ -46,7 +47,7 @@ impl Identified for Concept {
 
 /// Documents that a shelf is to take, and the memory that it needs for that.
 #[derive(Drop)]
-pub(crate) struct Overlay<D> {
+pub struct Overlay<D> {
     newer: Shelf<D>,
     room: Vec<Entry<D>>,
 }
@@ -102,9 +103,9 @@ impl<D: Drop> Shelf<D> {
 
 impl<D: Identified> Shelf<D> {
     /// What it takes to put the documents in by `lay_over`.
-    pub(crate) fn overlay(&self, documents: Many<D>) -> Result<Overlay<D>, NoMemory>
-        ensures newer { IfOk result (λ overlay. overlay.newer ≡ with_each D.id_of map.empty documents) }
-        ensures room { IfOk result (λ overlay. IsRoomFor self.now overlay.newer overlay.room) }
+    pub fn overlay(&self, documents: Many<D>) -> Result<Overlay<D>, NoMemory>
+        ensures newer { IfOk result (λ overlay. newer_of overlay ≡ with_each D.id_of map.empty documents) }
+        ensures room { IfOk result (HasRoomOver self.now) }
     {
         let mut documents = documents;
         let count = documents.len();
@@ -114,9 +115,9 @@ impl<D: Identified> Shelf<D> {
     }
 
     /// Puts each of the documents under its identifier, in the place of one that is there.
-    pub(crate) fn lay_over(&mut self, overlay: Overlay<D>)
-        requires room { IsRoomFor self.old overlay.newer overlay.room }
-        ensures { (documents : List D) → overlay.newer ≡ with_each D.id_of map.empty documents
+    pub fn lay_over(&mut self, overlay: Overlay<D>)
+        requires room { HasRoomOver self.old overlay }
+        ensures { (documents : List D) → newer_of overlay ≡ with_each D.id_of map.empty documents
             → self.new ≡ with_each D.id_of self.old documents }
     {
         self.take_in(overlay.newer, overlay.room);

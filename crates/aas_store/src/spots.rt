@@ -10,7 +10,7 @@ use crate::spot::{Spot, StepRef};
 use aas_model::{Element, Payload, Submodel, same_text};
 
 /// The most elements that a store takes in a submodel.
-const MOST: u64 = 65_536;
+pub(crate) const MOST: u64 = 65_536;
 
 /// The rank behind an element of a rank and all below it, or `None` if these are more than a store takes.
 #[cycle(behind)]

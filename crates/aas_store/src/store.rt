@@ -5,6 +5,8 @@ ghost use Rattle.std.specs.Option.{option_copied};
 ghost use Rattle.aas_model.specs.declared.path.Missing.{Missing};
 ghost use Rattle.aas_path_trees.specs.Edits.{inserted, removed, replaced, role_at};
 ghost use Rattle.aas_path_trees.specs.ElementAt.{element_at};
+ghost use Rattle.aas_rows.specs.Rows.{rows_of_all};
+ghost use Rattle.aas_rows.specs.Views.{line_of};
 ghost use Rattle.aas_store.specs.Documents.{Documents, count, first_above, has, ids, without_children};
 ghost use Rattle.aas_store.specs.Documents.{with_all, with_concept, with_shell, with_submodel, without};
 ghost use Rattle.aas_store.specs.Edited.{CanReplace, FitsAt, Holds, LeadsNowhere, patched_at, with_changed};
@@ -16,6 +18,7 @@ use crate::spot::{Spot, StepRef};
 use aas_model::{
     Collection, Concept, Element, Environment, NoMemory, Patch, Path, Shell, Submodel,
 };
+use aas_rows::RowView;
 
 /// Documents in three collections, each under its own identifier.
 ///
@@ -75,6 +78,12 @@ pub trait Store {
     fn child(&self, id: &str, parent: Option<u64>, step: StepRef<'_>) -> Option<Spot>
         requires { IfSome (map.get (documents self.now).submodels id.now) (λ s. element_count s ≤ 65536) }
         ensures { result ≡ option_and_then (λ s. spot_below s parent (step_of step.entry)) (map.get (documents self.now).submodels id.now) };
+
+    /// The row of the rank in the submodel of the identifier, the element of the rank without its children. `None` exactly
+    /// where the submodel or the rank isn't there. That a submodel has at most 65,536 elements bounds the levels.
+    fn row(&self, id: &str, rank: u64) -> Option<RowView<'_>>
+        requires { IfSome (map.get (documents self.now).submodels id.now) (λ s. element_count s ≤ 65536) }
+        ensures { option_map line_of result ≡ option_and_then (λ s. slice_get (rows_of_all s.kids 1) rank) (map.get (documents self.now).submodels id.now) };
 
     /// Puts the shell under its identifier, in the place of one that is there.
     fn put_shell(&mut self, shell: Shell) -> Result<(), NoMemory>

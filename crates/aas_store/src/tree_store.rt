@@ -4,6 +4,7 @@ ghost use Rattle.aas_store.specs.TreeStore.{documents};
 
 use crate::elements::{copy_at, copy_child, insert_at, patch_at, remove_at, replace_at};
 use crate::lack::Lack;
+use crate::rows::row_at;
 use crate::shelf::Shelf;
 use crate::spot::{Spot, StepRef};
 use crate::spots::spot_below;
@@ -11,13 +12,14 @@ use crate::store::Store;
 use aas_model::{
     Collection, Concept, Duplicate, Element, Environment, NoMemory, Patch, Path, Shell, Submodel,
 };
+use aas_rows::RowView;
 use std::alloc::Global;
 
 /// A store that keeps each document as its tree.
 ///
 /// A look-up costs the logarithm of the collection's size. A put and a delete also move 32 bytes for each document
 /// behind the one that they meet; `put_all` moves each document once for all that it puts in. A step of a path by name
-/// costs the siblings that it passes, `child` the elements before the one that it looks for. Only puts, `insert_element`
+/// costs the siblings that it passes, `child` and `row` the elements before the one that they look for. Only puts, `insert_element`
 /// and copies take memory.
 #[derive(Drop)]
 pub struct TreeStore {
@@ -110,6 +112,13 @@ impl Store for TreeStore {
     fn child(&self, id: &str, parent: Option<u64>, step: StepRef<'_>) -> Option<Spot> {
         match self.submodels.get(id) {
             Some(submodel) => spot_below(submodel, parent, step),
+            None => None,
+        }
+    }
+
+    fn row(&self, id: &str, rank: u64) -> Option<RowView<'_>> {
+        match self.submodels.get(id) {
+            Some(submodel) => row_at(submodel, rank),
             None => None,
         }
     }
