@@ -1,0 +1,35 @@
+-- Submodels that are laid out as tables, from the last to the first.
+use Rattle.std.proofs.Common.{◌≡◌, ℕ, zero, suc, ◌+◌, ◌-◌, ◌<◌, List, [], ◌∷◌, ◌++◌, length, get_or, slice_get, reverse, Some, refl, sym, ap, ◌∙◌, subst, arith, append_assoc}
+use Rattle.std.specs.List.{All, remove}
+use Rattle.std.proofs.lemmas.List.{length_push, reverse-append}
+use Rattle.std.proofs.lemmas.Option.{get_or_from_slice_get, slice_get_within}
+use Rattle.aas_model.specs.declared.documents.Submodel.{Submodel}
+use Rattle.aas_store.specs.Storable.{IsStorable}
+use Rattle.aas_store.proofs.Merges.{without_last}
+
+in_front : (left made : List Submodel) (n : ℕ) (s : Submodel) → slice_get left n ≡ Some s → slice_get (left ++ made) n ≡ Some s
+in_front [] made n s at = absurd (cc)
+in_front (x ∷ left) made zero s at = at
+in_front (x ∷ left) made (suc n) s at = in_front left made n s at
+
+-- one that is left can be stored as all can
+pub storable_left : (all left made : List Submodel) (n : ℕ) (s : Submodel) → All IsStorable all → left ++ made ≡ all → slice_get left n ≡ Some s → IsStorable s
+storable_left all left made n s storable is at =
+    let there : slice_get all n ≡ Some s = ap (λ (xs : List Submodel). slice_get xs n) (sym is) ∙ in_front left made n s at in
+    subst IsStorable (get_or_from_slice_get all n s s there) (storable n s (slice_get_within all n s there))
+
+-- the last that is left goes to those that are made
+pub laid_one : (all left rest made more : List Submodel) (n : ℕ) (s t : Submodel) → left ++ reverse made ≡ all → n + 1 ≡ length left → slice_get left n ≡ Some s → rest ≡ remove left n → t ≡ s → more ≡ made ++ t ∷ []
+    → rest ++ reverse more ≡ all
+laid_one all left rest made more n s t is last at removed same pushed =
+    ap (λ xs. rest ++ reverse xs) pushed
+    ∙ ap (λ xs. rest ++ xs) (reverse-append made (t ∷ []))
+    ∙ ap (λ (t : Submodel). rest ++ t ∷ reverse made) same
+    ∙ sym (append_assoc rest (s ∷ []) (reverse made))
+    ∙ ap (λ xs. (xs ++ s ∷ []) ++ reverse made) removed
+    ∙ ap (λ xs. xs ++ reverse made) (sym (without_last left n s last at))
+    ∙ is
+
+-- there is one less left
+pub one_less : (left rest : List Submodel) (n : ℕ) (s : Submodel) → n + 1 ≡ length left → slice_get left n ≡ Some s → rest ≡ remove left n → length left ≡ length rest + 1
+one_less left rest n s last at removed = ap length (without_last left n s last at ∙ ap (λ xs. xs ++ s ∷ []) (sym removed)) ∙ length_push rest s

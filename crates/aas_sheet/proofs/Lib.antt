@@ -1,0 +1,4 @@
+mod Edited
+mod LaidOut
+mod Lent
+mod Walked

@@ -1,0 +1,11 @@
+//! A store that keeps each submodel as a table of rows.
+//!
+//! [`SheetStore`] keeps the promises of [`aas_store::Store`], and also lends a single row for writing.
+
+#![tactic(auto)]
+
+mod laying;
+mod reading;
+mod sheet_store;
+
+pub use sheet_store::SheetStore;

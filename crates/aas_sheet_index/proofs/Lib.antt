@@ -1,0 +1,9 @@
+pub mod Measures
+pub mod Merged
+pub mod Moved
+pub mod Ordered
+pub mod Ranks
+pub mod Rising
+pub mod Searched
+pub mod Settled
+pub mod Spliced

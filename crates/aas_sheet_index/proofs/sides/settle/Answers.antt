@@ -1,0 +1,69 @@
+use Rattle.std.proofs.Common.{◌≡◌, ◌≤◌, ◌-◌, ℕ, List, ◌++◌, drop, length, take, refl, sym, ap, ◌∙◌, subst, arith}
+use Rattle.std.specs.List.{replace_range}
+use Rattle.std.specs.List.Sorted.{IsPermutation, IsSorted}
+use Rattle.std.proofs.lemmas.List.Sorted.{length_permutation}
+use Rattle.aas_sheet_index.specs.Index.{order, IsIndex}
+use Rattle.aas_sheet_index.specs.Moving.{renumbered}
+use Rattle.aas_sheet_index.specs.Sides.{measured}
+use Rattle.aas_sheet_index.specs.declared.side.Side.{Side}
+use Rattle.aas_sheet_index.proofs.Settled.{fits, measured_in, meeting, merged, renewed}
+use Rattle.aas_sheet_index.proofs.Spliced.{parts, take_seam}
+use Rattle.aas_sheet_index.proofs.sides.settle.Goals as goal
+
+pub overflow_sub-kept : goal.overflow_sub-kept
+overflow_sub-kept c =
+    let a = c.args in
+    let ss : List Side = a.sides.now in
+    let new : List ℕ = c.renumber.new.ranks.items in
+    let p = parts ss a.first a.end a.count c.requires.ordered c.requires.before c.requires.within in
+    let r =
+    renewed ss a.first a.end a.count p a.ranks.now.items new a.added c.requires.waiting (c.renumber.ensures ∙ ap (λ (n : ℕ). renumbered a.first a.end a.count n a.ranks.now.items) c.len-total.ensures) in
+    let inside : a.added ≤ length new = fits (replace_range (take a.count ss) a.first a.end (drop a.count ss)) new a.added r in
+    let long : c.len.result ≡ length new = c.len.ensures ∙ c.renumber.new.ranks.ok.0 in
+    omega arith
+
+pub merge-requires-clause-front : goal.merge-requires-clause-front
+merge-requires-clause-front c =
+    let a = c.args in
+    let ss : List Side = a.sides.now in
+    let next : List Side = replace_range (take a.count ss) a.first a.end (drop a.count ss) in
+    let new : List ℕ = c.renumber.new.ranks.items in
+    let kept : ℕ = c.len.result - a.added in
+    let p = parts ss a.first a.end a.count c.requires.ordered c.requires.before c.requires.within in
+    let r =
+    renewed ss a.first a.end a.count p a.ranks.now.items new a.added c.requires.waiting (c.renumber.ensures ∙ ap (λ (n : ℕ). renumbered a.first a.end a.count n a.ranks.now.items) c.len-total.ensures) in
+    let m = meeting next new a.added kept r (ap (λ (n : ℕ). n - a.added) (c.len.ensures ∙ c.renumber.new.ranks.ok.0)) in
+    subst (λ (ss : List Side). IsSorted (order ss) (take kept c.as_mut_slice.result.now)) (sym (c.as_slice.ensures ∙ c.splice.ensures))
+    (subst (λ (xs : List ℕ). IsSorted (order next) (take kept xs)) (sym c.as_mut_slice.ensures.value) m.front)
+
+pub merge-requires-clause-back : goal.merge-requires-clause-back
+merge-requires-clause-back c =
+    let a = c.args in
+    let ss : List Side = a.sides.now in
+    let next : List Side = replace_range (take a.count ss) a.first a.end (drop a.count ss) in
+    let new : List ℕ = c.renumber.new.ranks.items in
+    let kept : ℕ = c.len.result - a.added in
+    let p = parts ss a.first a.end a.count c.requires.ordered c.requires.before c.requires.within in
+    let r =
+    renewed ss a.first a.end a.count p a.ranks.now.items new a.added c.requires.waiting (c.renumber.ensures ∙ ap (λ (n : ℕ). renumbered a.first a.end a.count n a.ranks.now.items) c.len-total.ensures) in
+    let m = meeting next new a.added kept r (ap (λ (n : ℕ). n - a.added) (c.len.ensures ∙ c.renumber.new.ranks.ok.0)) in
+    subst (λ (ss : List Side). IsSorted (order ss) (drop kept c.as_mut_slice.result.now)) (sym (c.as_slice.ensures ∙ c.splice.ensures))
+    (subst (λ (xs : List ℕ). IsSorted (order next) (drop kept xs)) (sym c.as_mut_slice.ensures.value) m.back)
+
+pub returns-clause-index : goal.returns-clause-index
+returns-clause-index c =
+    let a = c.args in
+    let ss : List Side = a.sides.now in
+    let next : List Side = replace_range (take a.count ss) a.first a.end (drop a.count ss) in
+    let new : List ℕ = c.renumber.new.ranks.items in
+    let last : List ℕ = c.merge.new.ranks in
+    let p = parts ss a.first a.end a.count c.requires.ordered c.requires.before c.requires.within in
+    let r =
+    renewed ss a.first a.end a.count p a.ranks.now.items new a.added c.requires.waiting (c.renumber.ensures ∙ ap (λ (n : ℕ). renumbered a.first a.end a.count n a.ranks.now.items) c.len-total.ensures) in
+    let sorted : IsSorted (order next) last = subst (λ (ss : List Side). IsSorted (order ss) last) (c.as_slice.ensures ∙ c.splice.ensures) c.merge.ensures.sorted in
+    let same : IsPermutation new last = subst (λ (xs : List ℕ). IsPermutation xs last) c.as_mut_slice.ensures.value c.merge.ensures.same in
+    let index : IsIndex (measured next) last = merged next new last a.added r c.requires.short sorted same in
+    let long : length last ≡ c.renumber.new.ranks.len = length_permutation new last same ∙ sym c.renumber.new.ranks.ok.0 in
+    let ranks_are = take_seam (last ++ drop (length last) new) last (drop (length last) new) c.renumber.new.ranks.len refl long in
+    let sides_are = measured_in c.splice.new.items c.as_mut_slice-2.result.now c.measure.new.sides c.as_mut_slice-2.ensures.value c.measure.ensures ∙ ap measured c.splice.ensures in
+    subst (λ (ss : List Side). IsIndex ss (take c.renumber.new.ranks.len (last ++ drop (length last) new))) (sym sides_are) (subst (IsIndex (measured next)) (sym ranks_are) index)

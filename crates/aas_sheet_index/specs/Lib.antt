@@ -1,0 +1,4 @@
+pub mod Index
+pub mod Merging
+pub mod Moving
+pub mod Sides

@@ -1,0 +1,54 @@
+ghost use Rattle.std.specs.Prelude.{◌≡◌, ◌+◌, ◌-◌, ◌∷◌, length, take, drop, option_map, true, IsSome, IsTrue};
+ghost use Rattle.std.specs.List.{position};
+ghost use Rattle.std.specs.Str.{chars};
+ghost use Rattle.aas_path_trees.specs.ElementAt.{is_text};
+ghost use Rattle.aas_sheet_index.specs.Index.{name_bytes, IsPart};
+ghost use Rattle.aas_sheet_index.specs.Sides.{is_named_below};
+
+use crate::order::place_of_name;
+use crate::side::Side;
+use aas_model::same_text;
+
+fn has_name(side: &Side, name: &str) -> bool
+    ensures value { result ≡ is_text (chars name.now) side.now.id_short }
+    ensures bytes { IsSome side.now.id_short → name_bytes side.now.id_short ≡ name.now → result ≡ true }
+{
+    match &side.id_short {
+        Some(id_short) => same_text(id_short.as_str(), name),
+        None => false,
+    }
+}
+
+fn is_named_below(side: &Side, level: u32, name: &str) -> bool
+    ensures value { result ≡ is_named_below level (chars name.now) side.now }
+    ensures bytes { IsSome side.now.id_short → side.now.level ≡ level + 1 → name_bytes side.now.id_short ≡ name.now → result ≡ true }
+{
+    u64::from(side.level) == u64::from(level) + 1 && has_name(side, name)
+}
+
+/// The first rank from `first` to `end` one level below a level whose side has the idShort.
+pub(crate) fn first_named(
+    sides: &[Side],
+    ranks: &[u32],
+    first: usize,
+    end: usize,
+    level: u32,
+    name: &str,
+) -> Option<usize>
+    requires { IsPart sides.now 0 ranks.now }
+    ensures { result ≡ option_map (λ i. first + i) (position (is_named_below level (chars name.now)) (take (end - first) (drop first sides.now))) }
+{
+    let place = place_of_name(sides, ranks, u64::from(level) + 1, name, first);
+    if place >= ranks.len() {
+        return None;
+    }
+    let rank = ranks[place] as usize;
+    if rank >= end {
+        return None;
+    }
+    if is_named_below(&sides[rank], level, name) {
+        Some(rank)
+    } else {
+        None
+    }
+}

@@ -1,0 +1,150 @@
+ghost use Rattle.std.specs.Prelude.{◌≡◌, ◌+◌, ◌-◌, ◌≤◌, ◌++◌, ◌^◌, length, take, drop, option_map, IfOk, OnErr, OnOk};
+ghost use Rattle.std.specs.List.{position, remove_range, replace_range};
+ghost use Rattle.std.specs.Str.{chars};
+ghost use Rattle.aas_sheet_index.specs.Index.{Enlarged, IsIndex, Waiting};
+ghost use Rattle.aas_sheet_index.specs.Sides.{is_named_below, measured};
+
+use crate::listing::{add_ranks, sorted_ranks};
+use crate::measuring::measure;
+use crate::merging::merge;
+use crate::moving::renumber;
+use crate::searching::first_named;
+use crate::side::Side;
+use crate::splicing::{append, splice, truncate};
+use aas_model::{Many, NoMemory};
+use std::marker::Model;
+
+/// Puts these sides behind the others, and their ranks. Gives the number of these. Nothing changes where memory is refused.
+fn enlarge(
+    sides: &mut Many<Side>,
+    ranks: &mut Vec<u32>,
+    more: Many<Side>,
+) -> Result<usize, NoMemory>
+    requires { length sides.old + length more ≤ 2 ^ 32 }
+    ensures sides { OnOk result (sides.new ≡ sides.old ++ more) }
+    ensures ranks { IfOk result (λ added. Enlarged sides.new (length sides.old) ranks.old.items ranks.new.items added) }
+    ensures same_sides { OnErr result (sides.new ≡ sides.old) }
+    ensures same_ranks { OnErr result (ranks.new.items ≡ ranks.old.items) }
+{
+    let count = sides.len();
+    append(sides, more)?;
+    match add_ranks(ranks, sides.as_slice(), count) {
+        Ok(added) => Ok(added),
+        Err(NoMemory) => {
+            truncate(sides, count);
+            Err(NoMemory)
+        },
+    }
+}
+
+/// Puts the sides from `count` on into the place of those from `first` to `end`, and the last `added` ranks, which are
+/// theirs, into the index.
+fn settle(
+    sides: &mut Many<Side>,
+    ranks: &mut Vec<u32>,
+    first: usize,
+    end: usize,
+    count: usize,
+    added: usize,
+)
+    requires ordered { first ≤ end }
+    requires before { end ≤ count }
+    requires within { count ≤ length sides.old }
+    requires few { length sides.old ≤ 2 ^ 32 }
+    requires short { length (replace_range (take count sides.old) first end (drop count sides.old)) ≤ 2 ^ 31 }
+    requires waiting { Waiting sides.old count ranks.old.items added }
+    ensures value { sides.new ≡ measured (replace_range (take count sides.old) first end (drop count sides.old)) }
+    ensures index { IsIndex sides.new ranks.new.items }
+{
+    let total = sides.len();
+    splice(sides, first, end, count);
+    renumber(ranks, first, end, count, total);
+    let kept = ranks.len() - added;
+    merge(sides.as_slice(), ranks.as_mut_slice(), kept);
+    measure(sides.as_mut_slice());
+}
+
+/// What stands beside the rows of a table, with an index by level and idShort.
+///
+/// Contracts see it as the list of the sides. A look-up by name compares some 17 idShorts among 65,536, an edit moves 4
+/// bytes for each rank and merges the new ones in.
+#[derive(Drop)]
+pub struct Sides {
+    sides: Many<Side>,
+    ranks: Vec<u32>,
+}
+
+impl Model for Sides {
+    ghost use Rattle.std.specs.Coded.{coded_list};
+    ghost use Rattle.std.specs.Prelude.{List};
+    ghost use Rattle.aas_sheet_index.specs.contracts.side.Side as side;
+    ghost use Rattle.aas_sheet_index.specs.declared.side.Side.{Side};
+    ghost use Rattle.aas_sheet_index.specs.Index.{IsIndex};
+
+    ghost Value = { List Side };
+
+    ghost coded = { coded_list side.the_row.coded };
+
+    ghost view = { λ sides. sides.sides };
+
+    ghost invariant = { λ sides. IsIndex sides.sides sides.ranks.items };
+}
+
+impl Sides {
+    /// These sides, measured.
+    pub fn new(sides: Many<Side>) -> Result<Sides, NoMemory>
+        requires { length sides ≤ 2 ^ 31 }
+        ensures { IfOk result (λ made. made ≡ measured sides) }
+    {
+        let mut sides = sides;
+        let ranks = sorted_ranks(sides.alloc(), sides.as_slice(), 0)?;
+        measure(sides.as_mut_slice());
+        Ok(Sides { sides, ranks })
+    }
+
+    /// All sides.
+    pub fn as_slice(&self) -> &[Side]
+        ensures { result.now ≡ self.now }
+    {
+        self.sides.as_slice()
+    }
+
+    /// The number of sides.
+    pub fn len(&self) -> usize
+        ensures { result ≡ length self.now }
+    {
+        self.sides.len()
+    }
+
+    /// The first rank from `first` to `end` one level below a level whose side has the idShort.
+    pub fn first_named(&self, first: usize, end: usize, level: u32, name: &str) -> Option<usize>
+        ensures { result ≡ option_map (λ i. first + i) (position (is_named_below level (chars name.now)) (take (end - first) (drop first self.now))) }
+    {
+        let sides = self.sides.as_slice();
+        first_named(sides, self.ranks.as_slice(), first, end, level, name)
+    }
+
+    /// Puts these sides into the place of those from `first` to `end`, and measures all.
+    pub fn replace(&mut self, first: usize, end: usize, more: Many<Side>) -> Result<(), NoMemory>
+        requires ordered { first ≤ end }
+        requires within { end ≤ length self.old }
+        requires few { length (replace_range self.old first end more) ≤ 2 ^ 31 }
+        ensures ok { OnOk result (self.new ≡ measured (replace_range self.old first end more)) }
+        ensures err { OnErr result (self.new ≡ self.old) }
+    {
+        let count = self.sides.len();
+        let added = enlarge(&mut self.sides, &mut self.ranks, more)?;
+        settle(&mut self.sides, &mut self.ranks, first, end, count, added);
+        Ok(())
+    }
+
+    /// Takes the sides from `first` to `end` out, and measures the others.
+    pub fn remove(&mut self, first: usize, end: usize)
+        requires ordered { first ≤ end }
+        requires within { end ≤ length self.old }
+        ensures { self.new ≡ measured (remove_range self.old first end) }
+    {
+        let count = self.sides.len();
+        settle(&mut self.sides, &mut self.ranks, first, end, count, 0);
+    }
+}

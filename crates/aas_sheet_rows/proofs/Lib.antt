@@ -1,0 +1,12 @@
+mod Columns
+pub mod Edits
+mod Found
+mod Grove
+mod Laid
+mod Loans
+mod Made
+mod Putting
+pub mod Standing
+mod Staying
+mod Updated
+mod Whole

@@ -1,0 +1,45 @@
+use Rattle.std.proofs.Common.{◌≡◌, ◌≤◌, List, [], ◌++◌, length, sym, ap, ap₂, ◌∙◌, subst, arith}
+use Rattle.aas_model.specs.declared.documents.Submodel.{Submodel}
+use Rattle.aas_rows.specs.Edits.{count}
+use Rattle.aas_rows.specs.Rows.{rows_of_all}
+use Rattle.aas_rows.proofs.Edited.{count_at}
+use Rattle.aas_sheet_index.specs.Sides.{measured}
+use Rattle.aas_sheet_index.specs.declared.side.Side.{Side}
+use Rattle.aas_sheet_index.proofs.Measures.{measured_long}
+use Rattle.aas_sheet_rows.specs.Table.{lines_of, submodel_of, IsTable}
+use Rattle.aas_sheet_rows.specs.declared.row.Row.{Row}
+use Rattle.aas_sheet_rows.proofs.Edits.{few_enough}
+use Rattle.aas_sheet_rows.proofs.Loans.{lines_long}
+use Rattle.aas_sheet_rows.proofs.Made.{lines_measured, made_submodel, made_table, sized_measured}
+use Rattle.aas_sheet_rows.proofs.sheet.Sheet.from_submodel.Goals as goal
+
+pub new-requires-2 : goal.new-requires-2
+new-requires-2 c =
+    let d : Submodel = c.args.submodel in
+    let rs : List Row = c.lay_all.new.rows in
+    let ss : List Side = c.lay_all.new.sides in
+    let start : lines_of c.new-rows.result c.new-sides.result ≡ [] = ap (λ (rs : List Row). lines_of rs c.new-sides.result) c.new-rows.ensures in
+    let are : lines_of rs ss ≡ rows_of_all d.kids 1 = c.in_ok-lay_all.ensures.lines ∙ ap₂ (λ xs ks. xs ++ rows_of_all ks 1) start c.replace-kids.ensures.value in
+    let long : length rs ≡ length ss = c.in_ok-lay_all.ensures.long in
+    let many : length (lines_of rs ss) ≡ count d.kids = ap length are ∙ count_at d.kids 1 in
+    let all : length (lines_of rs ss) ≡ length rs = lines_long rs ss long in
+    let few : count d.kids ≤ 65536 = c.requires in
+    few_enough (length ss) (omega (arith, many, all, long, few))
+
+pub invariant_of-result : goal.invariant_of-result
+invariant_of-result c =
+    let rs : List Row = c.lay_all.new.rows in
+    let ss : List Side = c.lay_all.new.sides in
+    let start : lines_of c.new-rows.result c.new-sides.result ≡ [] = ap (λ (rs : List Row). lines_of rs c.new-sides.result) c.new-rows.ensures in
+    let are : lines_of rs ss ≡ rows_of_all c.args.submodel.kids 1 = c.in_ok-lay_all.ensures.lines ∙ ap₂ (λ xs ks. xs ++ rows_of_all ks 1) start c.replace-kids.ensures.value in
+    subst (IsTable rs) (sym c.in_ok-sides.ensures) (made_table c.args.submodel.kids rs (measured ss) (c.in_ok-lay_all.ensures.long ∙ sym (measured_long ss)) (lines_measured rs ss ∙ are) (sized_measured ss))
+
+pub returns : goal.returns
+returns c =
+    let d : Submodel = c.args.submodel in
+    let head : Submodel = record d { kids = c.replace-kids.new.dest } in
+    let rs : List Row = c.lay_all.new.rows in
+    let ss : List Side = c.lay_all.new.sides in
+    let start : lines_of c.new-rows.result c.new-sides.result ≡ [] = ap (λ (rs : List Row). lines_of rs c.new-sides.result) c.new-rows.ensures in
+    let are : lines_of rs ss ≡ rows_of_all d.kids 1 = c.in_ok-lay_all.ensures.lines ∙ ap₂ (λ xs ks. xs ++ rows_of_all ks 1) start c.replace-kids.ensures.value in
+    ap (submodel_of head rs) c.in_ok-sides.ensures ∙ made_submodel head d.kids rs (measured ss) (lines_measured rs ss ∙ are)

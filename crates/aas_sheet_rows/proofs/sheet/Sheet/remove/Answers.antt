@@ -1,0 +1,45 @@
+use Rattle.std.proofs.Common.{◌≡◌, ◌<◌, ◌-◌, ℕ, List, length, slice_get, Some, sym, ap, ◌∙◌, subst}
+use Rattle.std.specs.List.{remove_range}
+use Rattle.aas_path_trees.specs.Edits.{removed}
+use Rattle.aas_sheet_rows.specs.Table.{lines_of}
+use Rattle.aas_sheet_index.specs.Sides.{sizes_of}
+use Rattle.aas_sheet_index.specs.declared.side.Side.{Side}
+use Rattle.aas_sheet_rows.proofs.Edits.{nothing_removed, reached, reached_within, reached_end, made_removed, edited_table}
+use Rattle.aas_sheet_rows.proofs.sheet.Sheet.remove.Goals as goal
+
+pub returns-in_default : goal.returns-in_default
+returns-in_default c = nothing_removed c.args.self.now c.args.path.now.steps c.in_default.ensures
+
+pub rank_behind-end-requires-clause-within : goal.rank_behind-end-requires-clause-within
+rank_behind-end-requires-clause-within c =
+    let t = c.self.inside in
+    let d = c.args.self.now in
+    let p = c.args.path.now.steps in
+    let rank : ℕ = c.in-Some.rank in
+    subst (λ (ss : List Side). rank < length ss) (sym c.as_slice-2.ensures) (reached_within t.head t.rows t.sides d c.self.invariant c.self.view_is p rank (reached d p rank c.in-Some.ensures))
+
+pub invariant_of-self : goal.invariant_of-self
+invariant_of-self c =
+    let t = c.self.inside in
+    let d = c.args.self.now in
+    let p = c.args.path.now.steps in
+    let rank : ℕ = c.in-Some.rank in
+    let end : ℕ = c.rank_behind-end.result in
+    let r = reached d p rank c.in-Some.ensures in
+    let size : slice_get (sizes_of t.sides) rank ≡ Some (end - rank) = sym (ap (λ (ss : List Side). slice_get (sizes_of ss) rank) c.as_slice-2.ensures) ∙ c.rank_behind-end.ensures.value in
+    let back = reached_end t.head t.rows t.sides d c.self.invariant c.self.view_is p rank end r size c.rank_behind-end.ensures.above in
+    (edited_table t.head t.rows t.sides d c.self.invariant c.self.view_is (removed d p) (remove_range (lines_of t.rows t.sides) rank end) c.remove_rows.new.rows c.remove_rows.new.sides
+    (made_removed t.head t.rows t.sides d c.self.invariant c.self.view_is p rank end r back) c.remove_rows.ensures.long c.remove_rows.ensures.lines c.remove_rows.ensures.sized).0
+
+pub returns : goal.returns
+returns c =
+    let t = c.self.inside in
+    let d = c.args.self.now in
+    let p = c.args.path.now.steps in
+    let rank : ℕ = c.in-Some.rank in
+    let end : ℕ = c.rank_behind-end.result in
+    let r = reached d p rank c.in-Some.ensures in
+    let size : slice_get (sizes_of t.sides) rank ≡ Some (end - rank) = sym (ap (λ (ss : List Side). slice_get (sizes_of ss) rank) c.as_slice-2.ensures) ∙ c.rank_behind-end.ensures.value in
+    let back = reached_end t.head t.rows t.sides d c.self.invariant c.self.view_is p rank end r size c.rank_behind-end.ensures.above in
+    (edited_table t.head t.rows t.sides d c.self.invariant c.self.view_is (removed d p) (remove_range (lines_of t.rows t.sides) rank end) c.remove_rows.new.rows c.remove_rows.new.sides
+    (made_removed t.head t.rows t.sides d c.self.invariant c.self.view_is p rank end r back) c.remove_rows.ensures.long c.remove_rows.ensures.lines c.remove_rows.ensures.sized).1

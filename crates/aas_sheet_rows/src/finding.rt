@@ -1,0 +1,206 @@
+ghost use Rattle.std.specs.Prelude.{◌≡◌, ◌<◌, ◌≤◌, ◌+◌, ◌-◌, ◌^◌, List, length, take, drop, map, slice_get, option_map, Some};
+ghost use Rattle.std.specs.List.{count_by};
+ghost use Rattle.std.specs.Option.{IfSome};
+ghost use Rattle.aas_model.specs.declared.element.Element.{Element};
+ghost use Rattle.aas_path_trees.specs.Children.{is_list_payload};
+ghost use Rattle.aas_path_trees.specs.ElementAt.{depth_among};
+ghost use Rattle.aas_rows.specs.Children.{nth_where};
+ghost use Rattle.aas_rows.specs.Edits.{rank_among};
+ghost use Rattle.aas_sheet_rows.specs.Found.{side_of_step, Among};
+ghost use Rattle.aas_sheet_rows.specs.Table.{IsTable};
+ghost use Rattle.aas_sheet_index.specs.Sides.{is_below, sizes_of};
+ghost use Rattle.aas_store.specs.Spots.{spot_among, step_of};
+
+use crate::row::Kept;
+use aas_model::{PathStep, Payload};
+use aas_sheet_index::{Side, Sides};
+use aas_store::{Spot, StepRef};
+
+/// The step as one by a text that is not owned.
+pub(crate) fn step_ref(step: &PathStep) -> StepRef<'_>
+    ensures { step_of result ≡ step.now }
+{
+    match step {
+        PathStep::Name(name) => StepRef::Name(name.as_str()),
+        PathStep::Place(place) => StepRef::Place(*place),
+    }
+}
+
+pub(crate) fn is_list(payload: &Payload) -> bool
+    ensures { result ≡ is_list_payload payload.now }
+{
+    matches!(payload, Payload::SubmodelElementList { .. })
+}
+
+fn is_below(side: &Side, level: u32) -> bool
+    ensures { result ≡ is_below level side.now }
+{
+    u64::from(side.level) == u64::from(level) + 1
+}
+
+fn nth_below(sides: &[Side], level: u32, place: u64) -> Option<usize>
+    ensures { result ≡ nth_where (is_below level) place sides.now }
+{
+    let mut left = place;
+    for i in 0..sides.len() {
+        if is_below(&sides[i], level) {
+            if left == 0 {
+                return Some(i);
+            }
+            left -= 1;
+        }
+    }
+    None
+}
+
+/// How many rows stand one level below another.
+pub(crate) fn count_below(sides: &[Side], level: u32) -> usize
+    ensures { result ≡ count_by (is_below level) sides.now }
+{
+    sides.iter().filter(|side| is_below(side, level)).count()
+}
+
+/// The rank from `first` to `end` that is the nth one level below a level.
+fn nth_rank(sides: &[Side], first: usize, end: usize, level: u32, place: u64) -> Option<usize>
+    requires ordered { first ≤ end }
+    requires within { end ≤ length sides.now }
+    ensures value { result ≡ option_map (λ i. first + i) (nth_where (is_below level) place (take (end - first) (drop first sides.now))) }
+    ensures inside { IfSome result (λ r. r < end) }
+{
+    match nth_below(&sides[first..end], level, place) {
+        Some(place) => Some(first + place),
+        None => None,
+    }
+}
+
+/// The rank to which a step leads among the rows from `first` to `end`, which stand below one of a level.
+pub(crate) fn rank_of_step(
+    sides: &Sides,
+    first: usize,
+    end: usize,
+    level: u32,
+    in_list: bool,
+    step: StepRef<'_>,
+) -> Option<usize>
+    requires ordered { first ≤ end }
+    requires within { end ≤ length sides.now }
+    ensures value { result ≡ option_map (λ i. first + i) (side_of_step in_list (step_of step.entry) level (take (end - first) (drop first sides.now))) }
+    ensures inside { IfSome result (λ r. r < end) }
+{
+    match step {
+        StepRef::Name(name) => {
+            if in_list {
+                None
+            } else {
+                sides.first_named(first, end, level, name)
+            }
+        },
+        StepRef::Place(place) => {
+            if in_list {
+                nth_rank(sides.as_slice(), first, end, level, place)
+            } else {
+                None
+            }
+        },
+    }
+}
+
+/// The rank behind an element and all below it.
+pub(crate) fn rank_behind(rows: &[Kept], sides: &[Side], rank: usize) -> usize
+    requires table { IsTable rows.now sides.now }
+    requires within { rank < length sides.now }
+    ensures value { slice_get (sizes_of sides.now) rank ≡ Some (result - rank) }
+    ensures above { rank < result }
+    ensures inside { result ≤ length sides.now }
+{
+    rank + sides[rank].size
+}
+
+/// The rank of the element to which a step and then a path lead from the rows from `first` to `end`, which stand below
+/// one of a level.
+pub(crate) fn find_among(
+    rows: &[Kept],
+    sides: &Sides,
+    first: usize,
+    end: usize,
+    level: u32,
+    in_list: bool,
+    step: &PathStep,
+    path: &[PathStep],
+) -> Option<usize>
+    requires table { IsTable rows.now sides.now }
+    requires ordered { first ≤ end }
+    requires within { end ≤ length sides.now }
+    ensures { (ks : List Element) → Among rows.now sides.now first end level ks → result ≡ option_map (λ r. first + r) (rank_among in_list step.now path.now ks) }
+{
+    let Some(rank) = rank_of_step(sides, first, end, level, in_list, step_ref(step)) else {
+        return None;
+    };
+    match path.split_first() {
+        None => Some(rank),
+        Some((next, rest)) => {
+            let all = sides.as_slice();
+            let level = all[rank].level;
+            let in_list = is_list(&rows[rank].get().payload);
+            let end = rank_behind(rows, all, rank);
+            find_among(rows, sides, rank + 1, end, level, in_list, next, rest)
+        },
+    }
+}
+
+/// How many of these steps lead to an element from the rows from `first` to `end`, which stand below one of a level.
+pub(crate) fn depth_among(
+    rows: &[Kept],
+    sides: &Sides,
+    first: usize,
+    end: usize,
+    level: u32,
+    in_list: bool,
+    step: &PathStep,
+    path: &[PathStep],
+) -> usize
+    requires table { IsTable rows.now sides.now }
+    requires ordered { first ≤ end }
+    requires within { end ≤ length sides.now }
+    requires short { length path.now < 2 ^ 63 }
+    ensures value { (ks : List Element) → Among rows.now sides.now first end level ks → result ≡ depth_among in_list step.now path.now ks }
+    ensures bound { result ≤ length path.now + 1 }
+{
+    let Some(rank) = rank_of_step(sides, first, end, level, in_list, step_ref(step)) else {
+        return 0;
+    };
+    match path.split_first() {
+        None => 1,
+        Some((next, rest)) => {
+            let all = sides.as_slice();
+            let level = all[rank].level;
+            let in_list = is_list(&rows[rank].get().payload);
+            let end = rank_behind(rows, all, rank);
+            depth_among(rows, sides, rank + 1, end, level, in_list, next, rest) + 1
+        },
+    }
+}
+
+/// The child to which a step leads from the rows from `first` to `end`, which stand below one of a level.
+pub(crate) fn child_among(
+    rows: &[Kept],
+    sides: &Sides,
+    first: usize,
+    end: usize,
+    level: u32,
+    in_list: bool,
+    step: StepRef<'_>,
+) -> Option<Spot>
+    requires table { IsTable rows.now sides.now }
+    requires ordered { first ≤ end }
+    requires within { end ≤ length sides.now }
+    ensures { (ks : List Element) → Among rows.now sides.now first end level ks → result ≡ spot_among in_list ks first (step_of step.entry) }
+{
+    match rank_of_step(sides, first, end, level, in_list, step) {
+        Some(rank) => Some(Spot {
+            rank: rank as u64,
+            kind: rows[rank].get().payload.kind(),
+        }),
+        None => None,
+    }
+}

@@ -1,0 +1,283 @@
+ghost use Rattle.std.specs.Prelude.{◌≡◌, ◌<◌, ◌≤◌, length, slice_get, option_map, unwrap_or, IfOk, IsSome, MatchOption, OnErr, OnOk, Some};
+
+use crate::editing::{put_rows, remove_rows};
+use crate::finding::{
+    child_among, count_below, depth_among, find_among, is_list, rank_behind, rank_of_step,
+};
+use crate::growing::grow;
+use crate::laying::lay_all;
+use crate::payloads::put_payloads;
+use crate::row::{Kept, Row, row_mut, view};
+use aas_model::{Duplicate, Element, Many, NoMemory, Patch, Path, Role, Submodel};
+use aas_path::role_within;
+use aas_rows::RowView;
+use aas_sheet_index::Sides;
+use aas_store::{Spot, StepRef};
+use std::marker::Model;
+use std::mem;
+
+/// A submodel, which contracts see as the tree that its rows stand for.
+///
+/// A step of a path by name costs a binary search in an index of all rows; one by place costs the siblings that it passes
+/// and what stands below them, in a walk along a narrow column. An edit moves 8 bytes for each row behind its place and
+/// what stands beside it, measures all, and moves 4 bytes for each row in the index. Only `from_submodel`, `insert`,
+/// `replace` and copies take memory.
+#[derive(Drop)]
+pub struct Sheet {
+    /// It has no children: they stand in the rows.
+    head: Submodel,
+    rows: Many<Kept>,
+    sides: Sides,
+}
+
+impl Model for Sheet {
+    ghost use Rattle.aas_model.specs.contracts.documents.Submodel as submodel;
+    ghost use Rattle.aas_model.specs.declared.documents.Submodel.{Submodel};
+    ghost use Rattle.aas_sheet_rows.specs.Table.{submodel_of, IsTable};
+
+    ghost Value = { Submodel };
+
+    ghost coded = { submodel.the_row.coded };
+
+    ghost view = { λ sheet. submodel_of sheet.head sheet.rows sheet.sides };
+
+    ghost invariant = { λ sheet. IsTable sheet.rows sheet.sides };
+}
+
+impl Sheet {
+    ghost use Rattle.std.specs.Borrow.{LendsIf, sem};
+    ghost use Rattle.aas_path_trees.specs.Edits.{inserted, removed, replaced, role_at};
+    ghost use Rattle.aas_path_trees.specs.ElementAt.{depth_found, element_at};
+    ghost use Rattle.aas_rows.specs.Rows.{rows_of_all};
+    ghost use Rattle.aas_rows.specs.Views.{line_of};
+    ghost use Rattle.aas_sheet_rows.specs.Changed.{with_row, IsRow};
+    ghost use Rattle.aas_sheet_rows.specs.Found.{rank_at};
+    ghost use Rattle.aas_sheet_rows.specs.Lent.{sheet_type, row_type};
+    ghost use Rattle.aas_store.specs.Documents.{without_children};
+    ghost use Rattle.aas_store.specs.Edited.{FitsAt, patched_at};
+    ghost use Rattle.aas_store.specs.Spots.{elements_of_all, spot_below, step_of};
+    ghost use Rattle.aas_store.specs.Storable.{element_count};
+
+    /// The submodel as a table. Its elements are moved, not copied. That there are at most 65,536 bounds the levels.
+    pub fn from_submodel(submodel: Submodel) -> Result<Sheet, NoMemory>
+        requires { element_count submodel ≤ 65536 }
+        ensures { IfOk result (λ sheet. sheet ≡ submodel) }
+    {
+        let mut head = submodel;
+        let alloc = head.kids.alloc();
+        let kids = mem::replace(&mut head.kids, Many::new(alloc));
+        let mut rows = Many::new(alloc);
+        let mut sides = Many::new(alloc);
+        lay_all(&mut rows, &mut sides, 1, kids)?;
+        let sides = Sides::new(sides)?;
+        Ok(Sheet { head, rows, sides })
+    }
+
+    /// A submodel that is this one but for its children, of which it tells nothing.
+    pub fn head(&self) -> &Submodel
+        ensures { without_children result.now ≡ without_children self.now }
+    {
+        &self.head
+    }
+
+    /// A copy of the submodel as a tree.
+    pub fn submodel(&self) -> Result<Submodel, NoMemory>
+        ensures { IfOk result (λ submodel. submodel ≡ self.now) }
+    {
+        let rows = self.rows.as_slice();
+        let sides = self.sides.as_slice();
+        let mut copied = self.head.copy()?;
+        copied.kids = grow(self.rows.alloc(), rows, sides, 0, sides.len())?;
+        Ok(copied)
+    }
+
+    /// A copy of the element of a rank, with all below it, or `None` past the end.
+    pub fn element_of_rank(&self, rank: usize) -> Result<Option<Element>, NoMemory>
+        ensures { IfOk result (λ element. element ≡ slice_get (elements_of_all self.now.kids) rank) }
+    {
+        let rows = self.rows.as_slice();
+        let sides = self.sides.as_slice();
+        if rank >= sides.len() {
+            return Ok(None);
+        }
+        let end = rank_behind(rows, sides, rank);
+        let mut grown = grow(self.rows.alloc(), rows, sides, rank, end)?;
+        if grown.is_empty() {
+            return Ok(None);
+        }
+        Ok(Some(grown.remove(0)))
+    }
+
+    /// The row of a rank, or `None` past the end.
+    pub fn row(&self, rank: usize) -> Option<RowView<'_>>
+        ensures { option_map line_of result ≡ slice_get (rows_of_all self.now.kids 1) rank }
+    {
+        let rows = self.rows.as_slice();
+        let sides = self.sides.as_slice();
+        if rank >= sides.len() {
+            return None;
+        }
+        Some(view(rows[rank].get(), &sides[rank]))
+    }
+
+    /// The rank of the element to which the path leads: its place in preorder, counted from the first child on. The empty
+    /// path leads to none.
+    pub fn find(&self, path: &Path) -> Option<usize>
+        ensures { result ≡ rank_at self.now path.now.steps }
+    {
+        let Some((step, rest)) = path.steps.as_slice().split_first() else {
+            return None;
+        };
+        let rows = self.rows.as_slice();
+        find_among(rows, &self.sides, 0, self.sides.len(), 0, false, step, rest)
+    }
+
+    /// How many steps of the path lead to an element.
+    pub fn depth(&self, path: &Path) -> usize
+        ensures { result ≡ depth_found self.now path.now.steps }
+    {
+        let Some((step, rest)) = path.steps.as_slice().split_first() else {
+            return 0;
+        };
+        let rows = self.rows.as_slice();
+        depth_among(rows, &self.sides, 0, self.sides.len(), 0, false, step, rest)
+    }
+
+    /// A copy of the element to which the path leads, with all below it.
+    pub fn element(&self, path: &Path) -> Result<Option<Element>, NoMemory>
+        ensures { IfOk result (λ element. element ≡ element_at self.now path.now.steps) }
+    {
+        match self.find(path) {
+            Some(rank) => self.element_of_rank(rank),
+            None => Ok(None),
+        }
+    }
+
+    /// How many children the submodel has.
+    pub fn child_count(&self) -> usize
+        ensures { result ≡ length self.now.kids }
+    {
+        count_below(self.sides.as_slice(), 0)
+    }
+
+    /// A copy of the child in a place, counted from 0, with all below it, or `None` past the end.
+    pub fn child_at(&self, place: u64) -> Result<Option<Element>, NoMemory>
+        ensures { IfOk result (λ child. child ≡ slice_get self.now.kids place) }
+    {
+        let step = StepRef::Place(place);
+        match rank_of_step(&self.sides, 0, self.sides.len(), 0, true, step) {
+            Some(rank) => self.element_of_rank(rank),
+            None => Ok(None),
+        }
+    }
+
+    /// The child to which the step leads from the element of the rank, or from the submodel.
+    pub fn child(&self, parent: Option<u64>, step: StepRef<'_>) -> Option<Spot>
+        ensures { result ≡ spot_below self.now parent (step_of step.entry) }
+    {
+        let rows = self.rows.as_slice();
+        match parent {
+            None => child_among(rows, &self.sides, 0, self.sides.len(), 0, false, step),
+            Some(rank) => self.child_of_rank(rank as usize, step),
+        }
+    }
+
+    fn child_of_rank(&self, rank: usize, step: StepRef<'_>) -> Option<Spot>
+        ensures { result ≡ spot_below self.now (Some rank) (step_of step.entry) }
+    {
+        let rows = self.rows.as_slice();
+        let sides = self.sides.as_slice();
+        if rank >= sides.len() {
+            return None;
+        }
+        let level = sides[rank].level;
+        let in_list = is_list(&rows[rank].get().payload);
+        let end = rank_behind(rows, sides, rank);
+        child_among(rows, &self.sides, rank + 1, end, level, in_list, step)
+    }
+
+    /// The row of a rank, to be written in place, or `None` past the end.
+    ///
+    /// When the loan ends, the submodel is what it was, but for what the row left says of the element of that rank. It may
+    /// say another kind.
+    pub fn row_mut(&mut self, rank: usize) -> Option<&mut Row>
+        ensures* writes_back { sem 𝓛 (LendsIf sheet_type row_type self.entry result (with_row self.old rank) self.old) }
+        ensures row { MatchOption result (length (rows_of_all self.old.kids 1) ≤ rank) (λ r. IsRow self.old rank r.now) }
+    {
+        row_mut(&mut self.rows, rank)
+    }
+
+    /// The rank of the element to which the path leads, or 0.
+    fn base_of(&self, path: &Path) -> usize
+        ensures { result ≡ unwrap_or (rank_at self.now path.now.steps) 0 }
+    {
+        match self.find(path) {
+            Some(rank) => rank,
+            None => 0,
+        }
+    }
+
+    /// Patches the element to which the path leads, the submodel itself at the empty path.
+    pub fn update(&mut self, path: &Path, patch: Patch)
+        requires { FitsAt self.old path.now.steps patch.rows }
+        ensures { self.new ≡ patched_at self.old path.now.steps patch.rows }
+    {
+        let base = self.base_of(path);
+        let mut patch = patch;
+        put_payloads(self.rows.as_mut_slice(), patch.rows.as_mut_slice(), base);
+    }
+
+    /// Adds the element as the last child of what the path leads to, of the submodel itself at the empty path, in the role
+    /// that it has there. That there are at most 65,536 elements then bounds the levels.
+    pub fn insert(&mut self, path: &Path, element: Element) -> Result<(), NoMemory>
+        requires takes { IsSome (role_at self.old path.now.steps element) }
+        requires few { element_count (inserted self.old path.now.steps element) ≤ 65536 }
+        ensures ok { OnOk result (self.new ≡ inserted self.old path.now.steps element) }
+        ensures err { OnErr result (self.new ≡ self.old) }
+    {
+        let mut element = element;
+        let (end, level) = match self.find(path) {
+            Some(rank) => {
+                let rows = self.rows.as_slice();
+                let sides = self.sides.as_slice();
+                element.role = role_within(&rows[rank].get().payload).unwrap_or(Role::Member);
+                (rank_behind(rows, sides, rank), sides[rank].level + 1)
+            },
+            None => {
+                element.role = Role::Member;
+                (self.sides.len(), 1)
+            },
+        };
+        put_rows(&mut self.rows, &mut self.sides, end, end, level, element)
+    }
+
+    /// Puts the element in the place and the role of the one to which the path leads. That there are at most 65,536
+    /// elements then bounds the levels.
+    pub fn replace(&mut self, path: &Path, element: Element) -> Result<(), NoMemory>
+        requires { element_count (replaced self.old path.now.steps element) ≤ 65536 }
+        ensures ok { OnOk result (self.new ≡ replaced self.old path.now.steps element) }
+        ensures err { OnErr result (self.new ≡ self.old) }
+    {
+        let Some(rank) = self.find(path) else {
+            return Ok(());
+        };
+        let rows = self.rows.as_slice();
+        let sides = self.sides.as_slice();
+        let mut element = element;
+        element.role = rows[rank].get().role;
+        let level = sides[rank].level;
+        let end = rank_behind(rows, sides, rank);
+        put_rows(&mut self.rows, &mut self.sides, rank, end, level, element)
+    }
+
+    /// Takes the element to which the path leads out.
+    pub fn remove(&mut self, path: &Path)
+        ensures { self.new ≡ removed self.old path.now.steps }
+    {
+        let Some(rank) = self.find(path) else {
+            return;
+        };
+        let end = rank_behind(self.rows.as_slice(), self.sides.as_slice(), rank);
+        remove_rows(&mut self.rows, &mut self.sides, rank, end);
+    }
+}
