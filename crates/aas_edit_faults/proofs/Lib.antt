@@ -1,0 +1,9 @@
+mod Alone
+mod Count
+mod Earlier
+mod Edits
+mod Examples
+mod Level
+mod NewName
+mod Siblings
+mod Walks
