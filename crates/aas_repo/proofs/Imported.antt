@@ -1,14 +1,13 @@
 -- What an import comes to, by the causes that were tried.
-use Rattle.std.proofs.Common.{◌≡◌, ◌+◌, ◌<◌, ℕ, zero, suc, add-one, drop, get_or, Bool, true, false, List, [], ◌∷◌, ◌++◌, length, arith, Option, Some, None, refl, sym, ap, ◌∙◌, subst}
-use Rattle.std.specs.Prelude.{◌&&◌, ◌==◌, ◌≢◌, All, not, flat_map, if◌then◌else◌, is_some, map, option_map, slice_index_or}
+use Rattle.std.proofs.Common.{◌≡◌, ◌+◌, ℕ, zero, suc, Bool, true, false, List, [], ◌∷◌, ◌++◌, arith, Option, Some, None, refl, sym, ap, ap₂, ◌∙◌, subst}
+use Rattle.std.specs.Prelude.{◌&&◌, ◌==◌, ◌≢◌, All, not, flat_map, if◌then◌else◌, map, option_map}
 use Rattle.std.specs.BTreeMap.{is_at}
 use Rattle.std.specs.BTreeSet.{BTreeSet, insert_key}
 use Rattle.std.specs.Cmp.Lexicographic.{slice_cmp}
 use Rattle.std.specs.List.{list_all, list_any}
 use Rattle.std.specs.Ordering.{nat_cmp}
 use Rattle.std.specs.Str.{IsUtf8, chars, encode_utf8_all}
-use Rattle.std.specs.Option.{option_or}
-use Rattle.std.proofs.Math.Seq.{drop-cons}
+use Rattle.std.specs.Option.{option_map_or, option_or}
 use Rattle.std.proofs.lemmas.Bool.{and_parts}
 use Rattle.std.proofs.lemmas.Grind.{flat_map-append}
 use Rattle.std.proofs.lemmas.Str.{encodes-chars, encodes_same}
@@ -29,13 +28,14 @@ use Rattle.aas_model.specs.declared.path.Fault.{Fault}
 use Rattle.aas_model_names.specs.declared.collection.Collection.TheVariants.{Shells, Submodels, Concepts}
 use Rattle.aas_reference.specs.Rules.{first}
 use Rattle.aas_step.proofs.Imported.{with_all_documents}
-use Rattle.aas_step.specs.Causes.{Cause, causes, document_causes, first_of, first_repeated, first_repeated_in, has_repeated, has_too_many, unless, when}
+use Rattle.aas_step.specs.Causes.{Cause, document_causes, first_of, first_repeated, first_repeated_in, has_repeated, has_too_many, unless, when}
 use Rattle.aas_step.specs.Laws.{ValidIsStorable}
 use Rattle.aas_step.specs.Made.{documents_in, with_documents}
 use Rattle.aas_step.specs.Step.{ComesBy, ComesTo, accepted, later_causes, refused, result_of}
 use Rattle.aas_store.specs.Documents.{Documents, with_all}
 use Rattle.aas_store.specs.Storable.{IsStorable}
 use Rattle.aas_repo.specs.Decisions.{IsDecision}
+use Rattle.aas_repo.specs.Faulty.{first_faulty_from, first_faulty_in, in_list}
 use Rattle.aas_repo.specs.declared.decision.Decision.TheVariants as decision
 
 -- ---- identifiers that were seen
@@ -65,14 +65,6 @@ alone (Some why) = refl
 -- the first of all causes of some documents
 abbrev pub cause_of : {D : Type 0} → (D → Document) → List D → Cause
 cause_of wrap xs = first_of (flat_map document_causes (map wrap xs))
-
--- of those from a place on
-pub from_here : {D : Type 0} (wrap : D → Document) (xs : List D) (i : ℕ) (x : D) → i < length xs → x ≡ get_or xs i x
-    → cause_of wrap (drop i xs) ≡ option_or (first_of (document_causes (wrap x))) (cause_of wrap (drop (i + 1) xs))
-from_here {D = D} wrap xs i x lt at =
-    let front : drop i xs ≡ x ∷ drop (i + 1) xs =
-    drop-cons xs i x lt ∙ ap (λ (y : D). y ∷ drop (suc i) xs) (sym at) ∙ ap (λ (n : ℕ). x ∷ drop n xs) (sym (add-one i)) in
-    ap (cause_of wrap) front ∙ first_in (document_causes (wrap x)) (flat_map document_causes (map wrap (drop (i + 1) xs)))
 
 -- the first cause of each list of an environment, in turn
 by_lists : (has_room : Bool) (e : Environment) → first_of (later_causes has_room (documents_in e)) ≡
@@ -124,14 +116,39 @@ later_than : (b : Bool) (later : List Cause) → b ≡ false → first_of (when 
 later_than true later is = absurd (cc)
 later_than false later is = refl
 
--- where no identifier is repeated: the first causes of the three lists, and then the room
-pub in_turn : (has_room : Bool) (e : Environment) (a b c : Cause) → has_repeated e ≡ false → a ≡ cause_of shell e.shells → b ≡ cause_of submodel e.submodels → c ≡ cause_of concept e.concepts
-    → option_or (option_or a (option_or b c)) (unless has_room StorageFull) ≡ first_of (import_causes has_room e)
-in_turn has_room e a b c once is_a is_b is_c =
-    ap (λ o. option_or (option_or o (option_or b c)) (unless has_room StorageFull)) is_a
-    ∙ ap (λ o. option_or (option_or (cause_of shell e.shells) (option_or o c)) (unless has_room StorageFull)) is_b
-    ∙ ap (λ o. option_or (option_or (cause_of shell e.shells) (option_or (cause_of submodel e.submodels) o)) (unless has_room StorageFull)) is_c
-    ∙ sym (later_than (has_repeated e) (later_causes has_room (documents_in e)) once ∙ by_lists has_room e)
+-- why the first faulty document isn't taken
+why_from : (n : ℕ) (xs : List Document) → option_map (λ f. f.1) (first_faulty_from n xs) ≡ first_of (flat_map document_causes xs)
+why_from n [] = refl
+why_from n (x ∷ xs) = by (first_of (document_causes x)) (why_from (n + 1) xs) ∙ sym (first_in (document_causes x) (flat_map document_causes xs))
+  where
+    by : (o : Cause) → option_map (λ f. f.1) (first_faulty_from (n + 1) xs) ≡ first_of (flat_map document_causes xs)
+        → option_map (λ f. f.1) (option_map_or (λ why. Some (n, why)) o (first_faulty_from (n + 1) xs)) ≡ option_or o (first_of (flat_map document_causes xs))
+    by None rest = rest
+    by (Some why) rest = refl
+
+abbrev why : Option (ℕ × Refusal) → Cause
+why found = option_map (λ f. f.1) found
+
+in_lists : (a b c : Option (ℕ × Refusal)) → option_map (λ f. f.1) (option_or (in_list Shells a) (option_or (in_list Submodels b) (in_list Concepts c))) ≡ option_or (why a) (option_or (why b) (why c))
+in_lists (Some f) b c = refl
+in_lists None (Some f) c = refl
+in_lists None None (Some f) = refl
+in_lists None None None = refl
+
+why_in : (e : Environment) → option_map (λ f. f.1) (first_faulty_in e) ≡ option_or (cause_of shell e.shells) (option_or (cause_of submodel e.submodels) (cause_of concept e.concepts))
+why_in e =
+    in_lists (first_faulty_from 0 (map shell e.shells)) (first_faulty_from 0 (map submodel e.submodels)) (first_faulty_from 0 (map concept e.concepts))
+    ∙ ap₂ option_or (why_from 0 (map shell e.shells)) (ap₂ option_or (why_from 0 (map submodel e.submodels)) (why_from 0 (map concept e.concepts)))
+
+-- of all documents that an environment makes
+pub later_cause : (has_room : Bool) (e : Environment) → first_of (later_causes has_room (documents_in e)) ≡ option_or (option_map (λ f. f.1) (first_faulty_in e)) (unless has_room StorageFull)
+later_cause has_room e = by_lists has_room e ∙ ap (λ o. option_or o (unless has_room StorageFull)) (sym (why_in e))
+
+-- where no identifier is repeated: why the first faulty document isn't taken, and then the room
+pub in_turn : (has_room : Bool) (e : Environment) (own : Cause) → has_repeated e ≡ false → own ≡ option_map (λ f. f.1) (first_faulty_in e)
+    → option_or own (unless has_room StorageFull) ≡ first_of (import_causes has_room e)
+in_turn has_room e own once is =
+    ap (λ o. option_or o (unless has_room StorageFull)) is ∙ sym (later_than (has_repeated e) (later_causes has_room (documents_in e)) once ∙ later_cause has_room e)
 
 -- the first place at which an identifier is repeated, list by list
 pub places : (e : Environment) (a b c : Option ℕ) → a ≡ first_repeated (map (λ s. s.head.id) e.shells) → b ≡ first_repeated (map (λ s. s.head.id) e.submodels)

@@ -3,7 +3,7 @@ mod Bodies
 mod Counted
 mod Decided
 mod Edited
-mod Imported
+pub mod Imported
 mod Pages
 mod Planned
 mod Reached

@@ -89,8 +89,16 @@ pub(crate) fn element_metadata_answer<S: Store>(
         (λ e. Ok (canonical_text elements (metadata_form e)))) }
 {
     let element = stored(alloc, store, id, path)?;
+    metadata_text(alloc, &element)
+}
+
+/// The text of the metadata of the element.
+fn metadata_text(alloc: Global, element: &Element) -> Result<Many<u8>, Refusal>
+    requires { element_in_order element.now ≡ true }
+    ensures { (result ≡ Err refused.NoMemory) ⊎ (result ≡ Ok (canonical_text elements (metadata_form element.now))) }
+{
     let mut text = Vec::new(alloc);
-    append_metadata(alloc, &element, &mut text)?;
+    append_metadata(alloc, element, &mut text)?;
     Ok(Many::from(text))
 }
 
@@ -134,7 +142,13 @@ fn value_shown(
     ensures { (result ≡ Err refused.NoMemory) ⊎ (result ≡ value_answer (value_form extent (core_form level element))) }
 {
     let form = cut_element(element, level);
-    match value_form(alloc, &form, extent)? {
+    value_of_form(alloc, &form, extent)
+}
+
+fn value_of_form(alloc: Global, form: &Element, extent: Extent) -> Result<Many<u8>, Refusal>
+    ensures { (result ≡ Err refused.NoMemory) ⊎ (result ≡ value_answer (value_form extent form.now)) }
+{
+    match value_form(alloc, form, extent)? {
         Some(value) => Ok(value_text(alloc, &value)?),
         None => Err(Refusal::NoValueForm),
     }
@@ -165,5 +179,11 @@ fn paths_shown(
     ensures { IfOk result (λ text. text ≡ paths_text (element_paths path.now.steps (core_form level element))) }
 {
     let form = cut_element(element, level);
-    paths_text(alloc, &paths_of_element(alloc, path, &form)?)
+    paths_of_form(alloc, &form, path)
+}
+
+fn paths_of_form(alloc: Global, form: &Element, path: &Path) -> Result<Many<u8>, NoMemory>
+    ensures { IfOk result (λ text. text ≡ paths_text (element_paths path.now.steps form.now)) }
+{
+    paths_text(alloc, &paths_of_element(alloc, path, form)?)
 }

@@ -2,7 +2,6 @@
 ghost use Rattle.std.specs.Prelude.{◌≡◌, ◌∷◌, [], ◌++◌, ℕ, List, encode_utf8_all, flat_map, map, IfOk};
 ghost use Rattle.aas_command.specs.declared.command.Command.TheVariants.{Import};
 ghost use Rattle.aas_command.specs.declared.refusal.Refusal.TheVariants.{Conflict};
-ghost use Rattle.std.specs.List.{position_from};
 ghost use Rattle.aas_constraint_parts.specs.Repeats.{HasTexts};
 ghost use Rattle.aas_constraint_rules.specs.Texts.{is_among};
 ghost use Rattle.aas_json_mapping.specs.Trees.{environments};
@@ -11,7 +10,7 @@ ghost use Rattle.aas_step.specs.Causes.{document_causes, first_of, first_repeate
 ghost use Rattle.aas_step.specs.Made.{documents_in, id_of};
 ghost use Rattle.aas_step.specs.Step.{later_causes};
 ghost use Rattle.aas_repo.specs.Decisions.{IsDecision};
-ghost use Rattle.aas_repo.specs.Faulty.{first_faulty_in, is_faulty};
+ghost use Rattle.aas_repo.specs.Faulty.{first_faulty_from, first_faulty_in};
 
 use crate::deciding::document_cause;
 use crate::decision::Decision;
@@ -57,13 +56,7 @@ fn import_cause(
     if first_repeated(alloc, environment)?.is_some() {
         return Ok(Some(Refusal::Conflict));
     }
-    if let Some(refusal) = cause_among(alloc, environment.shells.as_slice())? {
-        return Ok(Some(refusal));
-    }
-    if let Some(refusal) = cause_among(alloc, environment.submodels.as_slice())? {
-        return Ok(Some(refusal));
-    }
-    if let Some(refusal) = cause_among(alloc, environment.concepts.as_slice())? {
+    if let Some((_, refusal)) = first_faulty(alloc, environment)? {
         return Ok(Some(refusal));
     }
     if !has_room {
@@ -72,44 +65,35 @@ fn import_cause(
     Ok(None)
 }
 
-/// The first cause of some documents, in their order.
-fn cause_among<D: Stored>(alloc: Global, documents: &[D]) -> Result<Option<Refusal>, NoMemory>
-    ensures { IfOk result (λ cause. cause ≡ first_of (flat_map document_causes (map D.document documents.now))) }
-{
-    for document in documents {
-        if let Some(refusal) = document_cause(alloc, document)? {
-            return Ok(Some(refusal));
-        }
-    }
-    Ok(None)
-}
-
-/// The place of the first document in a list of an environment, counted from 0, that has a fault or too many elements: in its
-/// shells, or else its submodels, or else its concept descriptions.
+/// The first document of an environment that has a fault or too many elements: its list and its place there, counted from 0, and
+/// why it isn't taken. It stands in the shells, or else in the submodels, or else in the concept descriptions.
 pub fn first_faulty(
     alloc: Global,
     environment: &Environment,
-) -> Result<Option<(Collection, usize)>, NoMemory>
-    ensures { IfOk result (λ place. place ≡ first_faulty_in environment.now) }
+) -> Result<Option<((Collection, usize), Refusal)>, NoMemory>
+    ensures { IfOk result (λ found. found ≡ first_faulty_in environment.now) }
 {
-    if let Some(place) = first_faulty_among(alloc, environment.shells.as_slice())? {
-        return Ok(Some((Collection::Shells, place)));
+    if let Some((place, why)) = first_faulty_among(alloc, environment.shells.as_slice())? {
+        return Ok(Some(((Collection::Shells, place), why)));
     }
-    if let Some(place) = first_faulty_among(alloc, environment.submodels.as_slice())? {
-        return Ok(Some((Collection::Submodels, place)));
+    if let Some((place, why)) = first_faulty_among(alloc, environment.submodels.as_slice())? {
+        return Ok(Some(((Collection::Submodels, place), why)));
     }
-    if let Some(place) = first_faulty_among(alloc, environment.concepts.as_slice())? {
-        return Ok(Some((Collection::Concepts, place)));
+    if let Some((place, why)) = first_faulty_among(alloc, environment.concepts.as_slice())? {
+        return Ok(Some(((Collection::Concepts, place), why)));
     }
     Ok(None)
 }
 
-fn first_faulty_among<D: Stored>(alloc: Global, documents: &[D]) -> Result<Option<usize>, NoMemory>
-    ensures { IfOk result (λ place. place ≡ position_from is_faulty 0 (map D.document documents.now)) }
+fn first_faulty_among<D: Stored>(
+    alloc: Global,
+    documents: &[D],
+) -> Result<Option<(usize, Refusal)>, NoMemory>
+    ensures { IfOk result (λ found. found ≡ first_faulty_from 0 (map D.document documents.now)) }
 {
     for (place, document) in documents.iter().enumerate() {
-        if document_cause(alloc, document)?.is_some() {
-            return Ok(Some(place));
+        if let Some(why) = document_cause(alloc, document)? {
+            return Ok(Some((place, why)));
         }
     }
     Ok(None)

@@ -28,6 +28,3 @@ pub use decision::Decision;
 pub use importing::{first_faulty, first_repeated};
 pub use planning::change;
 pub use repo::{Counts, Done, Repo};
-
-#[cfg(test)]
-mod tests;

@@ -12,6 +12,8 @@ ghost use Rattle.aas_form.specs.PathsFrom.{submodel_paths};
 ghost use Rattle.aas_form.specs.ReferenceTo.{reference_to};
 ghost use Rattle.aas_json_mapping.specs.Trees.{submodels};
 ghost use Rattle.aas_json_spelling.specs.Spells.{canonical_text};
+ghost use Rattle.serde_json.specs.Written.{compact_text};
+ghost use Rattle.aas_value.specs.ValueForm.{submodel_value};
 ghost use Rattle.aas_step.specs.Valid.{AreValid};
 ghost use Rattle.aas_repo.specs.Answers.{lost, of_reference, of_submodel, paths_text, submodel_shown, submodel_valued};
 ghost use Rattle.aas_repo.specs.Listed.{HasValidHead};
@@ -143,7 +145,18 @@ pub(crate) fn append_value(
     ensures { OnOk result (text.new.items ≡ text.old.items ++ submodel_valued level extent submodel) }
 {
     let form = cut(submodel, level);
-    let value = value_of_submodel(alloc, &form, extent)?;
+    append_value_of_form(alloc, &form, extent, text)
+}
+
+fn append_value_of_form(
+    alloc: Global,
+    form: &Submodel,
+    extent: Extent,
+    text: &mut Vec<u8>,
+) -> Result<(), NoMemory>
+    ensures { OnOk result (text.new.items ≡ text.old.items ++ compact_text (submodel_value extent form.now)) }
+{
+    let value = value_of_submodel(alloc, form, extent)?;
     Exact::new(value).append_to(alloc, text)
 }
 
@@ -173,14 +186,14 @@ pub(crate) fn reference_answer<S: Store>(
         (λ s. of_reference (reference_to s path.now.steps) (lost path.now.steps s))) }
 {
     let submodel = stored(store, id)?;
-    reference_shown(alloc, submodel, path)
+    reference_shown(alloc, &submodel, path)
 }
 
-fn reference_shown(alloc: Global, submodel: Submodel, path: &Path) -> Result<Many<u8>, Refusal>
+fn reference_shown(alloc: Global, submodel: &Submodel, path: &Path) -> Result<Many<u8>, Refusal>
     ensures { (result ≡ Err refused.NoMemory)
-        ⊎ (result ≡ of_reference (reference_to submodel path.now.steps) (lost path.now.steps submodel)) }
+        ⊎ (result ≡ of_reference (reference_to submodel.now path.now.steps) (lost path.now.steps submodel.now)) }
 {
-    match reference_of(alloc, &submodel, path) {
+    match reference_of(alloc, submodel, path) {
         Ok(reference) => Ok(reference_text(alloc, &reference)?),
         Err(FormFault::Missing(missing)) => Err(not_found(alloc, path, missing)),
         Err(FormFault::NoMemory) => Err(Refusal::NoMemory),
@@ -205,5 +218,11 @@ fn paths_shown(alloc: Global, submodel: Submodel, level: Level) -> Result<Many<u
     ensures { IfOk result (λ text. text ≡ paths_text (submodel_paths (submodel_core level submodel))) }
 {
     let form = cut(submodel, level);
-    paths_text(alloc, &paths_of_submodel(alloc, &form)?)
+    paths_of_form(alloc, &form)
+}
+
+fn paths_of_form(alloc: Global, form: &Submodel) -> Result<Many<u8>, NoMemory>
+    ensures { IfOk result (λ text. text ≡ paths_text (submodel_paths form.now)) }
+{
+    paths_text(alloc, &paths_of_submodel(alloc, form)?)
 }
