@@ -1,4 +1,5 @@
 mod Above
+mod Blamed
 mod Payload
 mod Put
 mod Settled

@@ -1,3 +1,5 @@
 pub mod Environments
+pub mod Imports
 pub mod Laws
 pub mod Members
+pub mod Refusing

@@ -9,8 +9,8 @@ ghost use Rattle.aas_step.specs.Valid.{AreValid};
 ghost use Rattle.aas_environment.specs.Environments.{environment_of};
 ghost use Rattle.aas_environment.specs.Members.{document_text, name_of, spellings, with_member};
 
+use crate::members::name_of;
 use aas_json_members::string_value;
-use aas_json_table::name;
 use aas_json_write::{whole_trees_are_in_order, write_concept, write_shell, write_submodel};
 use aas_model::{Collection, NoMemory};
 use aas_store::Store;
@@ -61,12 +61,7 @@ fn append_name(alloc: Global, collection: Collection, text: &mut Vec<u8>) -> Res
     ensures told { OnOk result (text.new.items ≡ text.old.items ++ compact_text (string (name_of collection)) ++ 58 ∷ []) }
     ensures utf8 { OnOk result (IsUtf8 text.old.items → IsUtf8 text.new.items) }
 {
-    let name = match collection {
-        Collection::Shells => name::ASSET_ADMINISTRATION_SHELLS,
-        Collection::Submodels => name::SUBMODELS,
-        Collection::Concepts => name::CONCEPT_DESCRIPTIONS,
-    };
-    string_value(alloc, name)?.append_to(alloc, text)?;
+    string_value(alloc, name_of(collection))?.append_to(alloc, text)?;
     text.extend_from_slice(b":")?;
     Ok(())
 }

@@ -1,0 +1,57 @@
+use Rattle.std.proofs.Common.{◌≡◌, Err, sym, ap, ◌∙◌, subst}
+use Rattle.std.specs.Prelude.{IfErr, Result}
+use Rattle.aas_command.specs.Commands.{IsWellFormed}
+use Rattle.aas_json_spelling.specs.Reading.{reading}
+use Rattle.aas_repo.specs.Held.{state_of}
+use Rattle.aas_repo.specs.declared.repo.Counts.{Counts}
+use Rattle.aas_rule.specs.State.{repository_of}
+use Rattle.aas_environment.specs.Imports.{Blames, Imports, IsFileFault}
+use Rattle.aas_environment.specs.declared.import_fault.ImportFault.{ImportFault}
+use Rattle.aas_environment.specs.declared.import_fault.ImportFault.TheVariants.{Storage}
+use Rattle.aas_environment.proofs.Blamed.{answered, file_fault, spelled_whole}
+use Rattle.aas_environment.proofs.importing.import.Goals as goal
+use Rattle.aas_environment.proofs.importing.import.Goals.{in-StorageFault, in-NoMemory, in_default}
+
+pub act-requires-clause-well_formed : goal.act-requires-clause-well_formed
+unfolding IsWellFormed
+act-requires-clause-well_formed g c = spelled_whole (reading c.args.bytes.now) c.in-Ok.environment c.in-Ok.ensures.reads
+
+pub fault_of-requires : goal.fault_of-requires
+fault_of-requires g c = (c.in-Ok.environment, c.in-Ok.ensures.reads)
+
+pub returns-after-refusal-clause-imports : goal.returns-after-refusal-clause-imports
+returns-after-refusal-clause-imports g c = λ records settled.
+    let K = g.K.Keeper in
+    let old = c.args.repo.now in
+    let before = state_of K.kept K.moment K.left_at old in
+    let now = state_of K.kept K.moment K.left_at c.act.new.self in
+    let acts = c.in-Err-act.ensures.acts records settled in
+    let Answers : Result Counts ImportFault → Type 0 = Imports (K.room_behind old.keeper) K.stands_for (repository_of before records) c.args.bytes.now (K.moment old.keeper) now in
+    elim c.match-refusal.branch [
+      | in-StorageFault w ↦ subst Answers (sym w.result-is) (record { environment = c.in-Ok.environment; spelled = c.in-Ok.ensures.reads; torn = acts.0 w.in-StorageFault.is })
+      | in-NoMemory w ↦ subst Answers (sym w.result-is) (acts.1 (λ is. let wrong = sym w.in-NoMemory.is ∙ is in absurd (cc)))
+      | in_default w ↦ subst Answers (sym w.result-is) (answered (K.room_behind old.keeper) K.stands_for (repository_of before records) c.args.bytes.now (K.moment old.keeper) now
+          c.in-Ok.environment c.in-Ok.ensures.reads c.in-Err-act.refusal (acts.2 w.in_default.not-StorageFault w.in_default.not-NoMemory) (acts.1 w.in_default.not-StorageFault)
+          w.fault_of.result (λ left. w.fault_of.ensures left c.in-Ok.environment c.in-Ok.ensures.reads))
+    ]
+
+pub returns-after-refusal-clause-file : goal.returns-after-refusal-clause-file
+returns-after-refusal-clause-file g c =
+    let Tells : Result Counts ImportFault → Type 0 = λ result. IfErr result (IsFileFault c.args.bytes.now) in
+    elim c.match-refusal.branch [
+      | in-StorageFault w ↦ subst Tells (sym w.result-is) tt
+      | in-NoMemory w ↦ subst Tells (sym w.result-is) tt
+      | in_default w ↦ subst Tells (sym w.result-is)
+          (file_fault c.args.bytes.now (c.in-Ok.environment, c.in-Ok.ensures.reads) w.fault_of.result w.fault_of.ensures)
+    ]
+
+pub returns-after-refusal-clause-fault : goal.returns-after-refusal-clause-fault
+returns-after-refusal-clause-fault g c = λ storage.
+    elim c.match-refusal.branch [
+      | in-StorageFault w ↦ c.in-Err-act.ensures.fault (ap (λ why. Err why) w.in-StorageFault.is)
+      | in-NoMemory w ↦ let wrong = sym w.result-is ∙ storage in absurd (cc)
+      | in_default w ↦
+          let is : w.fault_of.result ≡ Storage = let both = sym w.result-is ∙ storage in cc in
+          let blames = w.fault_of.ensures (λ left. let wrong = sym is ∙ left in absurd (cc)) c.in-Ok.environment c.in-Ok.ensures.reads in
+          absurd (subst (λ fault. Blames c.in-Ok.environment fault) is blames)
+    ]
