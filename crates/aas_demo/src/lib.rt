@@ -1,0 +1,9 @@
+//! The environment that the command `demo` imports (IDTA-01001-3-0, class Environment): one submodel with so many properties.
+
+#![tactic(auto)]
+
+mod demo;
+mod laws;
+
+pub use demo::{environment_of, sum_of};
+pub use laws::{demos_are_valid, demos_have_so_many};
