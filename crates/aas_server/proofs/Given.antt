@@ -2,9 +2,11 @@
 use Rattle.std.proofs.Common.{◌≡◌, ◌≢◌, ◌⊎◌, ⊎_elim, ℕ, zero, suc, List, [], ◌∷◌, Option, refl, subst, sym, ◌∙◌, inl, inr, arith, lit<}
 use Rattle.std.specs.Prelude.{Contains}
 use Rattle.std.specs.Io.KnownBytes.{append_known}
+use Rattle.aas_command.specs.declared.refusal.Refusal.{Refusal}
+use Rattle.aas_command.specs.declared.refusal.Refusal.TheVariants as refusal
 use Rattle.aas_outside.specs.Faults.{Rose}
 use Rattle.aas_outside.specs.Link.{GivesFront}
-use Rattle.aas_server.specs.Answer.{Answer, GivesFrontOf, Says, damage}
+use Rattle.aas_server.specs.Answer.{Answer, GivesFrontOf, Says, damage, refused}
 use Rattle.aas_server.specs.Ends.{ConsoleState}
 
 -- after a call that gave nothing, of a text that is another's
@@ -62,6 +64,19 @@ says_damage at status old new given front fault silent statuses = record {
   memory = silent;
 }
 
+pub says_refused : (r : Refusal) (status : ℕ) (old new : ConsoleState)
+    → (status ≡ 7 → (r ≢ refusal.NoMemory) × (new.sent ≡ append_known old.sent (refused r).text))
+    → (status ≡ 3 → (r ≢ refusal.NoMemory) × GivesFront old.sent new.sent (refused r).text) → (status ≡ 3 → Rose old.faults new.faults)
+    → (status ≡ 10 → new.sent ≡ old.sent) → (status ≡ 3) ⊎ (status ≡ 7) ⊎ (status ≡ 10) → Says (λ said. said ≡ refused r) status old new
+says_refused r status old new given front fault silent statuses = record {
+  given = λ not3 not10.
+      let seven : status ≡ 7 = ⊎_elim (λ three. absurd (not3 three)) (λ rest. ⊎_elim (λ seven. seven) (λ ten. absurd (not10 ten)) rest) statuses in
+      (refused r, refl, seven, (given seven).1);
+  front = λ is. inr (refused r, refl, (front is).1);
+  fault = fault;
+  memory = silent;
+}
+
 -- ---- statuses
 
 pub refused_status : (n : ℕ) → (n ≡ 3) ⊎ (n ≡ 7) ⊎ (n ≡ 10) → Contains (0 ∷ 3 ∷ 7 ∷ 10 ∷ []) n
@@ -95,3 +110,41 @@ early_status n (suc (suc (suc zero)), low, is) = (3, lit< tt, is)
 early_status n (suc (suc (suc (suc zero))), low, is) = (4, lit< tt, is)
 early_status n (suc (suc (suc (suc (suc zero)))), low, is) = (6, lit< tt, is)
 early_status n (suc (suc (suc (suc (suc (suc k))))), low, is) = absurd (omega (arith, low))
+
+pub early_import_status : (n : ℕ) → Contains (0 ∷ 3 ∷ 4 ∷ 5 ∷ 6 ∷ 10 ∷ []) n → Contains (0 ∷ 3 ∷ 4 ∷ 5 ∷ 6 ∷ 7 ∷ 9 ∷ 10 ∷ []) n
+early_import_status n (zero, low, is) = (0, lit< tt, is)
+early_import_status n (suc zero, low, is) = (1, lit< tt, is)
+early_import_status n (suc (suc zero), low, is) = (2, lit< tt, is)
+early_import_status n (suc (suc (suc zero)), low, is) = (3, lit< tt, is)
+early_import_status n (suc (suc (suc (suc zero))), low, is) = (4, lit< tt, is)
+early_import_status n (suc (suc (suc (suc (suc zero)))), low, is) = (7, lit< tt, is)
+early_import_status n (suc (suc (suc (suc (suc (suc k))))), low, is) = absurd (omega (arith, low))
+
+pub refused_import_status : (n : ℕ) → (n ≡ 3) ⊎ (n ≡ 7) ⊎ (n ≡ 10) → Contains (0 ∷ 3 ∷ 4 ∷ 5 ∷ 6 ∷ 7 ∷ 9 ∷ 10 ∷ []) n
+refused_import_status n (inl is) = (1, lit< tt, sym is)
+refused_import_status n (inr (inl is)) = (5, lit< tt, sym is)
+refused_import_status n (inr (inr is)) = (7, lit< tt, sym is)
+
+pub done_import_status : (n : ℕ) → (n ≡ 3) ⊎ (n ≡ 0) → Contains (0 ∷ 3 ∷ 4 ∷ 5 ∷ 6 ∷ 7 ∷ 9 ∷ 10 ∷ []) n
+done_import_status n (inl is) = (1, lit< tt, sym is)
+done_import_status n (inr is) = (0, lit< tt, sym is)
+
+pub full_import_status : (n : ℕ) → (n ≡ 3) ⊎ (n ≡ 9) → Contains (0 ∷ 3 ∷ 4 ∷ 5 ∷ 6 ∷ 7 ∷ 9 ∷ 10 ∷ []) n
+full_import_status n (inl is) = (1, lit< tt, sym is)
+full_import_status n (inr is) = (6, lit< tt, sym is)
+
+pub done_demo_status : (n : ℕ) → (n ≡ 3) ⊎ (n ≡ 0) → Contains (0 ∷ 3 ∷ 4 ∷ 5 ∷ 6 ∷ 9 ∷ 10 ∷ []) n
+done_demo_status n (inl is) = (1, lit< tt, sym is)
+done_demo_status n (inr is) = (0, lit< tt, sym is)
+
+-- of an import that isn't refused
+pub demo_status : (n : ℕ) → (n ≡ 7 → ⊥) → Contains (0 ∷ 3 ∷ 4 ∷ 5 ∷ 6 ∷ 7 ∷ 9 ∷ 10 ∷ []) n → Contains (0 ∷ 3 ∷ 4 ∷ 5 ∷ 6 ∷ 9 ∷ 10 ∷ []) n
+demo_status n never (zero, low, is) = (0, lit< tt, is)
+demo_status n never (suc zero, low, is) = (1, lit< tt, is)
+demo_status n never (suc (suc zero), low, is) = (2, lit< tt, is)
+demo_status n never (suc (suc (suc zero)), low, is) = (3, lit< tt, is)
+demo_status n never (suc (suc (suc (suc zero))), low, is) = (4, lit< tt, is)
+demo_status n never (suc (suc (suc (suc (suc zero)))), low, is) = absurd (never (sym is))
+demo_status n never (suc (suc (suc (suc (suc (suc zero))))), low, is) = (5, lit< tt, is)
+demo_status n never (suc (suc (suc (suc (suc (suc (suc zero)))))), low, is) = (6, lit< tt, is)
+demo_status n never (suc (suc (suc (suc (suc (suc (suc (suc k))))))), low, is) = absurd (omega (arith, low))

@@ -1,12 +1,15 @@
 mod Checkpointed
+mod DemoTaken
 mod Early
 mod Few
 mod Given
 mod Held
 mod OneWay
 mod Opened
+mod PutIn
 mod Replayed
 mod Since
+mod Standing
 mod Told
 mod ValueAnswers
 mod Whole

@@ -1,5 +1,5 @@
 -- What serving the repository that was opened on a disk comes to.
-use Rattle.std.proofs.Common.{◌≡◌, ◌≤◌, ℕ, List, [], ◌∷◌, Some, refl, sym, subst, ◌∙◌, inl, inr, arith, lit<}
+use Rattle.std.proofs.Common.{◌≡◌, ◌≤◌, ℕ, List, [], ◌∷◌, Option, Some, sym, subst, ◌∙◌, arith, lit<}
 use Rattle.std.specs.Prelude.{Contains, IfSome}
 use Rattle.aas_journal.specs.Bank.{IsBankImage}
 use Rattle.aas_journal.specs.Kept.{has_room_behind}
@@ -10,7 +10,6 @@ use Rattle.aas_outside.specs.Surroundings.{Connections, sent_on_all}
 use Rattle.aas_outside_disk.specs.Disk.{AddsNone, Meanwhile}
 use Rattle.aas_outside_disk.specs.Files.{Files}
 use Rattle.aas_repo_replay.specs.Laws.{AcceptedReplay, OneReplay}
-use Rattle.aas_repo_replay.specs.Replay.{Replays}
 use Rattle.aas_rule.specs.Rule.{Repository}
 use Rattle.aas_rule.specs.State.{State, IsSettledState, repository_of}
 use Rattle.aas_session.specs.Connections.{ServesAll}
@@ -22,14 +21,15 @@ use Rattle.aas_session.specs.declared.wire.WireEnded.TheVariants as wire
 use Rattle.aas_step.specs.Valid.{AreValid}
 use Rattle.aas_store.specs.Documents.{Documents}
 use Rattle.aas_api_service.specs.Turns.{Turns}
-use Rattle.aas_server.specs.Ends.{ConsoleState, DiskState, MayLeave, WireState}
+use Rattle.aas_server.specs.Ends.{ConsoleState, DiskState, WireState}
 use Rattle.aas_server.specs.OnDisk.{StandsFor, state_on}
 use Rattle.aas_server.specs.Opening.{OpensAs}
 use Rattle.aas_server.specs.Pipe.{IsConsoleServed, IsPiped, pipe_status}
 use Rattle.aas_server.specs.Serve.{IsServed, IsWireServed, serve_status}
 use Rattle.aas_server.proofs.Held.{IsOpened, has_begun, here, same}
-use Rattle.aas_server.proofs.Replayed.{AreRead, Replay}
+use Rattle.aas_server.proofs.Replayed.{AreRead}
 use Rattle.aas_server.proofs.Since.{all_since, served_since}
+use Rattle.aas_server.proofs.Standing.{image_stands, kept_opens, stood_before}
 
 -- the disk at the start and at the end, what the journal held when it was opened, and the documents at the end
 module _ (one_list : HaveOneList) (one_replay : OneReplay) (accepted_replay : AcceptedReplay)
@@ -64,10 +64,6 @@ module _ (one_list : HaveOneList) (one_replay : OneReplay) (accepted_replay : Ac
 
   -- ---- from the start on
 
-  -- what is kept and replays to the documents opens as them
-  kept_opens : (payloads : List (List ℕ)) → Replays payloads d → kept payloads → (state_on last d).kept payloads
-  kept_opens payloads replays holds = let files = told payloads holds in (files.0, files.1, (files.2, replays))
-
   module _ (r : Repository Documents) (opens : OpensAs start r) where
     abbrev held : IsOpened opened opens.0
     held = here one_list one_replay start opened is_opened r opens
@@ -78,24 +74,14 @@ module _ (one_list : HaveOneList) (one_replay : OneReplay) (accepted_replay : Ac
     read : AreRead r
     read = opens.2.1
 
-    weaker : (image : Files) (payloads : List (List ℕ)) → Replay payloads → IsBankImage image payloads
-        → StandsFor start r image payloads
-    weaker image payloads (documents, replays) is =
-        record { documents = documents; replays = replays; left = inl is; opens = λ anyway. (payloads, (is, replays)) }
-
-    before : (t : ℕ) → start.moment ≤ t → t ≤ opened.moment → (image : Files) → last.left_at t image
-        → StandsFor start r image r.records
-    before t since until image here =
-        let from_start : MayLeave start image = images t since until image ((passed.past t until image).0 here) in
-        record { documents = r.documents; replays = read; left = inr (refl, from_start); opens = λ anyway. anyway image from_start }
-
     piped : (end : Ended) (old new : ConsoleState) → ServesConsole end old new → (input : List ℕ) → old.left ≡ Some input
         → IsPiped end input r old new start last
     piped end old new serves input left = record {
       documents = d;
-      served = served_since accepted_replay has_room_behind IsBankImage (StandsFor start r) weaker
-          d last.moment last.left_at kept (state_on last d).kept kept_opens
-          start.moment opened.moment r read reads.later before input old.sent new.sent (Rose old.faults new.faults) end
+      served = served_since accepted_replay has_room_behind IsBankImage (StandsFor start r) (image_stands start r)
+          d last.moment last.left_at kept (state_on last d).kept (kept_opens last d kept told)
+          start.moment opened.moment r read reads.later (stood_before start last opened r read images passed)
+          input old.sent new.sent (Rose old.faults new.faults) end
           (subst (λ (x : Repository Documents). Session x input end old new) as_told (serves input held.0 left held.2));
       valid = valid;
     }
@@ -104,9 +90,10 @@ module _ (one_list : HaveOneList) (one_replay : OneReplay) (accepted_replay : Ac
         → old.connections ≡ Some c → old.sent ≡ Some sent → IsServed count end c sent r old new start last
     served count end old new serves c sent known known_sent = record {
       documents = d;
-      served = all_since accepted_replay has_room_behind IsBankImage (StandsFor start r) weaker
-          d last.moment last.left_at kept (state_on last d).kept kept_opens
-          start.moment opened.moment r read reads.later before c.coming (sent_on_all c sent) count new.connections new.sent
+      served = all_since accepted_replay has_room_behind IsBankImage (StandsFor start r) (image_stands start r)
+          d last.moment last.left_at kept (state_on last d).kept (kept_opens last d kept told)
+          start.moment opened.moment r read reads.later (stood_before start last opened r read images passed)
+          c.coming (sent_on_all c sent) count new.connections new.sent
           (Rose old.faults new.faults) end
           (subst (λ (x : Repository Documents). Sessions x c sent count end old new) as_told
           (serves c sent held.0 known known_sent held.2));

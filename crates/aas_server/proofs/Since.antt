@@ -4,7 +4,7 @@ use Rattle.std.proofs.lemmas.Bool.{cases_lt}
 use Rattle.aas_outside.specs.Moments.{During, InTurn}
 use Rattle.aas_outside.specs.Surroundings.{Connections}
 use Rattle.aas_rule.specs.Rule.{Repository, Room, after}
-use Rattle.aas_rule.specs.State.{State, Holds}
+use Rattle.aas_rule.specs.State.{State, Holds, IsFaulted}
 use Rattle.aas_session.specs.Connections.{EndsServing, ServesAll, Serving, all_commands}
 use Rattle.aas_session.specs.Served.{IsBroken, IsFinished, Served}
 use Rattle.aas_session.specs.Session.{End, Closed, NoMemory, Place, Turn, TakesAll, commands, going, repository, start}
@@ -70,7 +70,35 @@ module _ {I : Type 0} (stands stands_then : I → List (List ℕ) → Type 0) (H
           turn_weaker next to (kept ++ payload ∷ []) added failed more rest,
         )
 
--- ---- what a machine holds and what was served
+-- ---- what a machine holds
+
+module _ {I : Type 0} (stands stands_then : I → List (List ℕ) → Type 0)
+    (weaker : (image : I) (payloads : List (List ℕ)) → Replay payloads → stands image payloads → stands_then image payloads)
+    (d : Documents) (moment : ℕ) (left_at : ℕ → I → Type 0) (kept kept_then : List (List ℕ) → Type 0)
+    (told : (payloads : List (List ℕ)) → Replays payloads d → kept payloads → kept_then payloads)
+    (from mid : ℕ) (r : Repository Documents) (earlier : from ≤ mid)
+    (before : (t : ℕ) → from ≤ t → t ≤ mid → (image : I) → left_at t image → stands_then image r.records) where
+  pub turns_since : (added failed : List (List ℕ)) (new : Repository Documents) → IsBehind r (added ++ failed) new
+      → InTurn stands left_at mid moment r.records added failed → InTurn stands_then left_at from moment r.records added failed
+  turns_since added failed new behind turn = turn_since stands stands_then Replay fronts_replay weaker left_at from mid r.records earlier before
+      moment added failed (all_replay r (added ++ failed) new behind) turn
+
+  pub held_since : (payloads : List (List ℕ)) (new : Repository Documents) → IsBehind r payloads new
+      → Holds stands r.records payloads new mid (record { documents = d; kept = kept; moment = moment; left_at = left_at })
+      → Holds stands_then r.records payloads new from (record { documents = d; kept = kept_then; moment = moment; left_at = left_at })
+  held_since payloads new behind h = record {
+    documents = h.documents;
+    kept = told new.records (subst (Replays new.records) (sym h.documents) behind.read) h.kept;
+    in_turn = turns_since payloads [] new (then_more r new new payloads [] behind (none_more new behind.read)) h.in_turn;
+  }
+
+  pub faulted_since : (payloads failed : List (List ℕ)) (new : Repository Documents) → IsBehind r (payloads ++ failed) new
+      → IsFaulted stands r.records payloads failed new.documents mid (record { documents = d; kept = kept; moment = moment; left_at = left_at })
+      → IsFaulted stands_then r.records payloads failed new.documents from (record { documents = d; kept = kept_then; moment = moment; left_at = left_at })
+  faulted_since payloads failed new behind f =
+      record { documents = f.documents; in_turn = turns_since payloads failed new behind f.in_turn }
+
+-- ---- what was served
 
 module _ (accepted_replay : AcceptedReplay) (room : Room)
     {I : Type 0} (stands stands_then : I → List (List ℕ) → Type 0)
@@ -85,18 +113,13 @@ module _ (accepted_replay : AcceptedReplay) (room : Room)
   abbrev then : State Documents I
   then = record { documents = d; kept = kept_then; moment = moment; left_at = left_at }
 
-  turns : (added failed : List (List ℕ)) (new : Repository Documents) → IsBehind r (added ++ failed) new
+  abbrev turns : (added failed : List (List ℕ)) (new : Repository Documents) → IsBehind r (added ++ failed) new
       → InTurn stands left_at mid moment r.records added failed → InTurn stands_then left_at from moment r.records added failed
-  turns added failed new behind turn = turn_since stands stands_then Replay fronts_replay weaker left_at from mid r.records earlier before
-      moment added failed (all_replay r (added ++ failed) new behind) turn
+  turns = turns_since stands stands_then weaker d moment left_at kept kept_then told from mid r earlier before
 
-  holds_since : (payloads : List (List ℕ)) (new : Repository Documents) → IsBehind r payloads new
+  abbrev holds_since : (payloads : List (List ℕ)) (new : Repository Documents) → IsBehind r payloads new
       → Holds stands r.records payloads new mid now → Holds stands_then r.records payloads new from then
-  holds_since payloads new behind h = record {
-    documents = h.documents;
-    kept = told new.records (subst (Replays new.records) (sym h.documents) behind.read) h.kept;
-    in_turn = turns payloads [] new (then_more r new new payloads [] behind (none_more new behind.read)) h.in_turn;
-  }
+  holds_since = held_since stands stands_then weaker d moment left_at kept kept_then told from mid r earlier before
 
   turns_behind : (payloads : List (List ℕ)) (old : Repository Documents) (input : List ℕ) (taken : List Turn) (last : Place Documents)
       → IsBehind r payloads old → TakesAll (Turns room) (start old input) taken last

@@ -58,3 +58,10 @@ pub parsed : {E : Type 0} (word bs : List ℕ) (n most : ℕ) (r : Result ℕ E)
 parsed word bs n most r small bytes parses within is =
     let e = count_bytes word bs n most small bytes within is in
     (parse-decimal 32 n bs r (omega (arith, small, within.1)) (omega (arith, small, within.1)) e parses, e)
+
+-- nor with a count behind one word
+pub no_option_in_two : (word count : List ℕ) (n most : ℕ) → most < 2 ^ 32 → begins_with_dash word ≡ false → IsCount most n → count ≡ decimal n
+    → list_any begins_with_dash (word ∷ count ∷ []) ≡ false
+no_option_in_two word count n most small first within is =
+    let second : begins_with_dash count ≡ false =
+    ap begins_with_dash is ∙ above_dash (decimal n) (first_decimal n (omega (arith, within.0)) (omega (arith, small, within.1))) in cc

@@ -2,12 +2,13 @@
 use Rattle.std.specs.Prelude.{◌≡◌, ◌≤◌, ℕ, List, [], ◌∷◌, ◌==◌, Bool, false, codes, decimal, Option, Some, None, IfSome}
 use Rattle.std.specs.List.{list_any}
 use Rattle.aas_server.specs.declared.command_line.CommandLine.{CommandLine}
-use Rattle.aas_server.specs.declared.command_line.CommandLine.TheVariants.{Value, Init, Pipe, Serve, Check, Export, Checkpoint}
+use Rattle.aas_server.specs.declared.command_line.CommandLine.TheVariants.{Value, Init, Pipe, Serve, Check, Export, Import, Demo, Checkpoint}
 use Rattle.aas_server.specs.Answer.{Says, not_a_command}
 use Rattle.aas_server.specs.CheckText.{check_text}
 use Rattle.aas_server.specs.Checkpointing.{Checkpoints}
 use Rattle.aas_server.specs.Ends.{ConsoleState, DiskState, WireState}
 use Rattle.aas_server.specs.ExportText.{export_text}
+use Rattle.aas_server.specs.Importing.{ImportsDemo, ImportsInput}
 use Rattle.aas_server.specs.Init.{Inits}
 use Rattle.aas_server.specs.Pipe.{Pipes}
 use Rattle.aas_server.specs.Serve.{Serves}
@@ -23,6 +24,10 @@ IsCount most count = (1 ≤ count) × (count ≤ most)
 abbrev pub most_connections : ℕ
 most_connections = 1000000
 
+-- of the demo
+abbrev pub most_properties : ℕ
+most_properties = 65536
+
 -- the words of each command
 abbrev pub AreWordsOf : CommandLine → List (List ℕ) → Type 0
 AreWordsOf Value words = words ≡ codes "value" ∷ []
@@ -30,7 +35,9 @@ AreWordsOf Init words = words ≡ codes "init" ∷ []
 AreWordsOf Pipe words = words ≡ codes "pipe" ∷ []
 AreWordsOf Check words = words ≡ codes "check" ∷ []
 AreWordsOf Export words = words ≡ codes "export" ∷ []
+AreWordsOf Import words = words ≡ codes "import" ∷ []
 AreWordsOf Checkpoint words = words ≡ codes "checkpoint" ∷ []
+AreWordsOf (Demo count) words = IsCount most_properties count × (words ≡ codes "demo" ∷ decimal count ∷ [])
 AreWordsOf (Serve count) words =
     IsCount most_connections count × ((address : List ℕ) × (words ≡ codes "serve" ∷ address ∷ decimal count ∷ []))
 
@@ -49,6 +56,10 @@ Does view (Some Check) status old new wire_old wire_new disk_old disk_new =
     Tells check_text status old new (view disk_old) (view disk_new) × (wire_new ≡ wire_old)
 Does view (Some Export) status old new wire_old wire_new disk_old disk_new =
     Tells export_text status old new (view disk_old) (view disk_new) × (wire_new ≡ wire_old)
+Does view (Some Import) status old new wire_old wire_new disk_old disk_new =
+    ImportsInput status old new (view disk_old) (view disk_new) × (wire_new ≡ wire_old)
+Does view (Some (Demo count)) status old new wire_old wire_new disk_old disk_new =
+    ImportsDemo count status old new (view disk_old) (view disk_new) × (wire_new ≡ wire_old)
 Does view (Some Checkpoint) status old new wire_old wire_new disk_old disk_new =
     Checkpoints status old new (view disk_old) (view disk_new) × (wire_new ≡ wire_old)
 Does view (Some (Serve count)) status old new wire_old wire_new disk_old disk_new =
@@ -62,6 +73,8 @@ statuses_of (Some Init) = 0 ∷ 3 ∷ 4 ∷ 8 ∷ []
 statuses_of (Some Pipe) = 0 ∷ 3 ∷ 4 ∷ 5 ∷ 6 ∷ 10 ∷ []
 statuses_of (Some Check) = 0 ∷ 3 ∷ 4 ∷ 5 ∷ 6 ∷ 10 ∷ []
 statuses_of (Some Export) = 0 ∷ 3 ∷ 4 ∷ 5 ∷ 6 ∷ 10 ∷ []
+statuses_of (Some Import) = 0 ∷ 3 ∷ 4 ∷ 5 ∷ 6 ∷ 7 ∷ 9 ∷ 10 ∷ []
+statuses_of (Some (Demo count)) = 0 ∷ 3 ∷ 4 ∷ 5 ∷ 6 ∷ 9 ∷ 10 ∷ []
 statuses_of (Some Checkpoint) = 0 ∷ 3 ∷ 4 ∷ 5 ∷ 6 ∷ 9 ∷ 10 ∷ []
 statuses_of (Some (Serve count)) = 0 ∷ 3 ∷ 4 ∷ 5 ∷ 6 ∷ 10 ∷ []
 

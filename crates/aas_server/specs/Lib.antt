@@ -7,6 +7,7 @@ pub mod Console
 pub mod Early
 pub mod Ends
 pub mod ExportText
+pub mod Importing
 pub mod Init
 pub mod Laws
 pub mod Making
@@ -17,4 +18,5 @@ pub mod Serve
 pub mod Status
 pub mod Stop
 pub mod Telling
+pub mod Unsaid
 pub mod ValueAnswer

@@ -8,6 +8,9 @@ use itoa::Buffer;
 /// The most connections that are served.
 const MOST_CONNECTIONS: u32 = 1_000_000;
 
+/// The most properties that the demo has.
+const MOST_PROPERTIES: u32 = 65_536;
+
 /// What the words of the command line ask for.
 #[derive(Clone, Copy)]
 pub enum CommandLine {
@@ -23,6 +26,10 @@ pub enum CommandLine {
     Check,
     /// The documents on the disk as one environment.
     Export,
+    /// The environment on the console, put into the documents on the disk.
+    Import,
+    /// The same of an environment with so many properties, 1 to 65,536.
+    Demo { count: u32 },
     /// A journal of one record in the place of the one on the disk.
     Checkpoint,
 }
@@ -33,6 +40,7 @@ pub fn command_of(words: &Many<Text>) -> Option<CommandLine>
 {
     match words.as_slice() {
         [word] => lone(word),
+        [word, count] => showing(word, count),
         [word, address, count] => serving(word, address, count),
         _ => None,
     }
@@ -48,8 +56,22 @@ fn lone(word: &Text) -> Option<CommandLine>
         "pipe" => Some(CommandLine::Pipe),
         "check" => Some(CommandLine::Check),
         "export" => Some(CommandLine::Export),
+        "import" => Some(CommandLine::Import),
         "checkpoint" => Some(CommandLine::Checkpoint),
         _ => None,
+    }
+}
+
+/// The command of `demo` and a count.
+fn showing(word: &Text, count: &Text) -> Option<CommandLine>
+    ensures { IsAsked (word.now ∷ count.now ∷ []) result }
+{
+    if word.as_str() != "demo" {
+        return None;
+    }
+    match count_of(count, MOST_PROPERTIES) {
+        Some(count) => Some(CommandLine::Demo { count }),
+        None => None,
     }
 }
 

@@ -13,6 +13,7 @@ ghost use Rattle.aas_server.specs.ValueAnswer.{IsValueAnswer};
 use crate::checkpointing::checkpoint;
 use crate::command_line::{CommandLine, command_of};
 use crate::console::{end_refused, end_with, read_input};
+use crate::importing::{demo, import};
 use crate::serving::{pipe, serve};
 use crate::status::Status;
 use crate::stop::Stop;
@@ -24,6 +25,9 @@ use aas_model::{Many, Text};
 use aas_outside::{Link, Wire};
 use aas_outside_disk::Disk;
 use std::alloc::Global;
+
+/// The most bytes that the input of `value` may have.
+const INPUT_LIMIT: usize = 4_194_304;
 
 /// How a run ended, and the disk as it left it.
 #[derive(Drop)]
@@ -62,6 +66,8 @@ pub fn run<C: Link, W: Wire, D: Disk>(
         Some(CommandLine::Pipe) => pipe(alloc, console, disk),
         Some(CommandLine::Check) => tell::<DanglingReferences, C, D>(alloc, console, disk),
         Some(CommandLine::Export) => tell::<Export, C, D>(alloc, console, disk),
+        Some(CommandLine::Import) => import(alloc, console, disk),
+        Some(CommandLine::Demo { count }) => demo(alloc, console, count, disk),
         Some(CommandLine::Checkpoint) => checkpoint(alloc, console, disk),
         Some(CommandLine::Serve { count }) => {
             serve(alloc, address(words), console, wire, count, disk)
@@ -129,6 +135,6 @@ fn value_text<C: Link>(alloc: Global, console: &mut C) -> Result<Vec<u8>, Stop>
     ensures later { C.faults console.old ≤ C.faults console.new }
     ensures sent { C.sent console.new ≡ C.sent console.old }
 {
-    let input = read_input(alloc, console)?;
+    let input = read_input(alloc, console, INPUT_LIMIT)?;
     Ok(answer_value(alloc, &input)?)
 }

@@ -4,7 +4,6 @@ ghost use Rattle.std.specs.Io.KnownBytes.{append_known, IsAtEnd};
 ghost use Rattle.aas_outside.specs.Faults.{Rose};
 ghost use Rattle.aas_outside.specs.Link.{GivesFront};
 ghost use Rattle.aas_server.specs.Answer.{damage, refused};
-ghost use Rattle.aas_server.specs.Console.{input_limit};
 ghost use Rattle.aas_server.specs.Status.{exit_code};
 ghost use Rattle.aas_server.specs.Stop.{IfRefused};
 
@@ -16,16 +15,13 @@ use aas_outside::{Failed, Link, give_all};
 use itoa::Buffer;
 use std::alloc::Global;
 
-/// The most bytes that an input may have.
-const INPUT_LIMIT: usize = 4_194_304;
-
-/// Takes all that is left on the link, to the end of its input and in whatever pieces it comes.
-pub fn read_input<L: Link>(alloc: Global, link: &mut L) -> Result<Vec<u8>, Stop>
+/// Takes all that is left on the link, at most so many bytes, to the end of its input and in whatever pieces it comes.
+pub fn read_input<L: Link>(alloc: Global, link: &mut L, limit: usize) -> Result<Vec<u8>, Stop>
     ensures whole { IfOk result (λ text. IfSome (L.left link.old) (λ input. text.items ≡ input)) }
-    ensures within { IfOk result (λ text. length text.items ≤ input_limit) }
+    ensures within { IfOk result (λ text. length text.items ≤ limit) }
     ensures ended { OnOk result (IsAtEnd (L.left link.new)) }
     ensures refused { IfErr result (λ stop. IfRefused stop (λ refusal. refusal ≢ Refusal.NoMemory →
-        (refusal ≡ Refusal.TooLarge) × IfSome (L.left link.old) (λ input. input_limit < length input))) }
+        (refusal ≡ Refusal.TooLarge) × IfSome (L.left link.old) (λ input. limit < length input))) }
     ensures fault { IsErrOf result Stop.LinkFault → Rose (L.faults link.old) (L.faults link.new) }
     ensures later { L.faults link.old ≤ L.faults link.new }
     ensures sent { L.sent link.new ≡ L.sent link.old }
@@ -37,7 +33,7 @@ pub fn read_input<L: Link>(alloc: Global, link: &mut L) -> Result<Vec<u8>, Stop>
         if count == 0 {
             return Ok(text);
         }
-        if count > INPUT_LIMIT - text.len() {
+        if count > limit - text.len() {
             return Err(Stop::Refused(Refusal::TooLarge));
         }
         text.extend_from_slice(&buf[..count])?;
@@ -86,6 +82,7 @@ pub fn end_refused<L: Link>(alloc: Global, link: &mut L, refusal: &Refusal) -> S
     ensures memory { exit_code result ≡ 10 → L.sent link.new ≡ L.sent link.old }
     ensures fault { exit_code result ≡ 3 → Rose (L.faults link.old) (L.faults link.new) }
     ensures later { L.faults link.old ≤ L.faults link.new }
+    ensures left { L.left link.new ≡ L.left link.old }
     ensures statuses { (exit_code result ≡ 3) ⊎ (exit_code result ≡ 7) ⊎ (exit_code result ≡ 10) }
 {
     match refused_line(alloc, refusal) {

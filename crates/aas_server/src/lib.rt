@@ -8,6 +8,7 @@ mod checkpointing;
 mod command_line;
 mod commands;
 mod console;
+mod importing;
 mod laws;
 mod opening;
 mod server;
@@ -21,5 +22,7 @@ pub use commands::{Ran, run};
 pub use laws::{files_open_one_way, sessions_replay};
 pub use status::Status;
 
+#[cfg(test)]
+mod room_tests;
 #[cfg(test)]
 mod tests;

@@ -17,11 +17,11 @@ use aas_outside::Keeper;
 use aas_outside_disk::Disk;
 use aas_repo::Repo;
 use aas_repo_replay::replay;
-use aas_store::TreeStore;
+use aas_sheet::SheetStore;
 use std::alloc::Global;
 
 /// The repository that the journal on a disk replays to, or why there is none. The disk is only read.
-pub fn open<D: Disk>(alloc: Global, disk: D) -> Result<Repo<TreeStore, Journal<D>>, NotOpened<D>>
+pub fn open<D: Disk>(alloc: Global, disk: D) -> Result<Repo<SheetStore, Journal<D>>, NotOpened<D>>
     ensures begun { IfOk result (λ repo. IfSome (D.seen disk) (λ files. (payloads : List (List ℕ)) ×
         Opens files (begun (repository_of (state_of ⟦<Journal<D> as Keeper>⟧.kept ⟦<Journal<D> as Keeper>⟧.moment
         ⟦<Journal<D> as Keeper>⟧.left_at repo) payloads)) ×
@@ -46,7 +46,7 @@ pub fn open<D: Disk>(alloc: Global, disk: D) -> Result<Repo<TreeStore, Journal<D
 fn replayed<D: Disk>(
     alloc: Global,
     mut journal: Journal<D>,
-) -> Result<Repo<TreeStore, Journal<D>>, NotOpened<D>>
+) -> Result<Repo<SheetStore, Journal<D>>, NotOpened<D>>
     requires { IfSome (D.seen (disk_of journal)) (λ _. (payloads : List (List ℕ)) ×
         ⟦<Journal<D> as Keeper>⟧.kept journal payloads) }
     ensures replays { IfOk result (λ repo. (payloads : List (List ℕ)) →
@@ -64,7 +64,7 @@ fn replayed<D: Disk>(
         (λ repo. OnlyReads D.seen D.moment D.left_at (disk_of journal) (disk_of repo.keeper))
         (λ it. OnlyReads D.seen D.moment D.left_at (disk_of journal) it.disk) }
 {
-    let mut store = TreeStore::new(alloc);
+    let mut store = SheetStore::new(alloc);
     match replay(alloc, &mut store, &mut journal) {
         Ok(()) => Ok(Repo::new(alloc, store, journal)),
         Err(fault) => Err(NotOpened {

@@ -18,13 +18,13 @@ use aas_model::NoMemory;
 use aas_outside::Keeper;
 use aas_outside_disk::Disk;
 use aas_session::Intake;
-use aas_store::TreeStore;
+use aas_sheet::SheetStore;
 use std::alloc::Global;
 
 /// The repository on a disk, and the storage for a request.
 #[derive(Drop)]
 pub struct Server<D: Disk> {
-    pub service: Service<TreeStore, Journal<D>>,
+    pub service: Service<SheetStore, Journal<D>>,
     pub intake: Intake,
 }
 

@@ -23,6 +23,11 @@ const ALREADY_THERE: &[u8] =
     b"HTTP/1.1 409 Conflict\r\nContent-Type: application/json\r\nContent-Length: 73\r\n\r\n\
     {\"messages\":[{\"code\":\"14\",\"messageType\":\"Error\",\"text\":\"already there\"}]}";
 
+const ENVIRONMENT: &[u8] = br#"{"submodels":[{"id":"urn:x1","modelType":"Submodel"}]}"#;
+
+const TWICE: &[u8] =
+    br#"{"submodels":[{"id":"urn:x1","modelType":"Submodel"},{"id":"urn:x1","modelType":"Submodel"}]}"#;
+
 fn words(alloc: Global, texts: &[&str]) -> Result<Many<Text>, Fail> {
     let mut words = Many::new(alloc);
     for text in texts {
@@ -87,6 +92,27 @@ fn sessions_in_pieces(rt: HostRuntime) -> Result<(), Fail> {
         let (second, sent) = run_on_console(alloc, "pipe", CREATE, piece, 0, first.disk)?;
         assert_eq!(rt; second.status, 0);
         assert_eq!(rt; sent.as_slice(), ALREADY_THERE);
+    }
+    Ok(())
+}
+
+#[test]
+fn imports_in_pieces(rt: HostRuntime) -> Result<(), Fail> {
+    let alloc = rt.alloc();
+    for piece in [1, 4096] {
+        let disk = disk_with(alloc, b"AASJ0002\0")?;
+        let (once, sent) = run_on_console(alloc, "import", ENVIRONMENT, piece, 0, disk)?;
+        assert_eq!(rt; once.status, 0);
+        assert_eq!(rt;
+            sent.as_slice(),
+            b"imported 0 shells, 1 submodels, 0 concept descriptions\n".as_slice()
+        );
+        let (again, sent) = run_on_console(alloc, "import", TWICE, piece, 0, once.disk)?;
+        assert_eq!(rt; again.status, 7);
+        assert_eq!(rt;
+            sent.as_slice(),
+            b"aasd: refused 14 /submodels/1 already there\n".as_slice()
+        );
     }
     Ok(())
 }

@@ -23,6 +23,10 @@ pub returns-in-export : goal.returns-in-export
 unfolding chars
 returns-in-export c = lone_word c.args.word.now (codes "export") (sym c.as_str.ensures.characters ∙ ap chars c.in-export.is) refl
 
+pub returns-in-import : goal.returns-in-import
+unfolding chars
+returns-in-import c = lone_word c.args.word.now (codes "import") (sym c.as_str.ensures.characters ∙ ap chars c.in-import.is) refl
+
 pub returns-in-checkpoint : goal.returns-in-checkpoint
 unfolding chars
 returns-in-checkpoint c = lone_word c.args.word.now (codes "checkpoint") (sym c.as_str.ensures.characters ∙ ap chars c.in-checkpoint.is) refl
