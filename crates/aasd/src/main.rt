@@ -5,6 +5,7 @@
 
 mod arrivals;
 mod calls;
+mod closed;
 mod console;
 mod faults;
 mod file_disk;
@@ -15,6 +16,7 @@ mod tcp_wire;
 use aas_model_text::{Many, NoMemory, Text};
 use aas_outside_disk::ReadAhead;
 use aas_server::{Status, run};
+use closed::take_closed;
 use console::ConsoleLink;
 use file_disk::FileDisk;
 use std::env;
@@ -33,6 +35,7 @@ fn main(rt: HostRuntime) -> ExitCode {
 
 /// Runs the words of the command line on the real console, the real wire and the real disk.
 fn run_on(rt: &HostRuntime) -> Result<u8, NoMemory> {
+    let _taken = take_closed(rt);
     let words = words(rt)?;
     let mut console = ConsoleLink::new(rt.stdin(), rt.stdout());
     let mut wire = TcpWire::new(rt.clone()?);
