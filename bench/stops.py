@@ -3,8 +3,9 @@
 
 The commands create, replace and delete small submodels, at random. They are sent to a run of `aasd pipe`, many at once, or of `aasd serve`, one after
 another, and the run is killed (signal 9) some time later, in its start, in a command or behind the last one. Every command that was answered must be
-there then, and at most one more. The next run goes on with the same files. In between `aasd checkpoint` is run and killed: it must
-leave the documents as they are, and one record of them in the file that is in use where its line was printed.
+there then, and at most one more. The next run goes on with the same files. In between `aasd import` and `aasd checkpoint` are run and killed: of an
+import all submodels must be there or none, and all where its line was printed; a checkpoint must leave the documents as they are, and one record of them
+in the file that is in use where its line was.
 
 Besides that, while a run has the folder, a second one must end with status 4 and change nothing. A journal that is cut off anywhere, or in which a byte
 is another, must be opened, or be found not initialised or damaged, with the right line, and stay as it is; where a record passes the end of the file,
@@ -90,6 +91,14 @@ def commands(documents, version):
 
 def environment(texts):
     return f'{{"submodels":[{",".join(texts)}]}}' if texts else '{}'
+
+
+def an_import(documents, version):
+    """The import of some submodels at once: its input, its line and the documents after it."""
+    numbers = random.sample(range(IDENTIFIERS), random.randint(1, IDENTIFIERS))
+    given = {number: submodel(number, version + 1) for number in numbers}
+    line = f'imported 0 shells, {len(given)} submodels, 0 concept descriptions\n'
+    return environment(given.values()).encode(), line.encode(), {**documents, **given}
 
 
 def a_checkpoint(documents, _):
@@ -189,6 +198,10 @@ def kill_command(folder, word, call, seconds):
     return answered(run.communicate(timeout=PATIENCE)[0], [call])
 
 
+def kill_import(folder, calls, seconds):
+    return kill_command(folder, 'import', calls[0], seconds)
+
+
 def kill_checkpoint(folder, calls, seconds):
     before = folder.in_use()
     count = kill_command(folder, 'checkpoint', calls[0], seconds)
@@ -268,14 +281,14 @@ def opens_as(folder, before, calls, count):
 
 def calls_for(kill, documents, version):
     """What is asked of a run that is killed so."""
-    if kill is kill_checkpoint:
-        return [a_checkpoint(documents, version)]
+    if kill in (kill_import, kill_checkpoint):
+        return [(an_import if kill is kill_import else a_checkpoint)(documents, version)]
     return [call for call, _ in zip(commands(documents, version), range(BATCH))]
 
 
 def stops(program, where, kills):
     """Kills the program so many times, and says what came of it."""
-    ways = kill_pipe, kill_checkpoint, kill_serve, kill_checkpoint
+    ways = kill_pipe, kill_import, kill_checkpoint, kill_serve, kill_import, kill_checkpoint
     documents, version, more, seconds, told = {}, 0, 0, dict.fromkeys(ways, 0.05), dict.fromkeys(ways, 0)
     with tempfile.TemporaryDirectory(dir=where) as name:
         folder = Folder(program, name)
@@ -292,7 +305,7 @@ def stops(program, where, kills):
             seconds[kill] *= 1.1 if count < (len(calls) + 1) // 2 else 0.9
             documents = after
         sizes = [len(folder.content(name)) for name in FILES[:2]]
-    print(f'{kills} kills: {told[kill_pipe] + told[kill_serve]} commands and {told[kill_checkpoint]} checkpoints were answered '
+    print(f'{kills} kills: {told[kill_pipe] + told[kill_serve]} commands, {told[kill_import]} imports and {told[kill_checkpoint]} checkpoints were answered '
           f'and found; {more} times one more was found; the files have {sizes[0]} and {sizes[1]} bytes')
 
 
@@ -306,7 +319,7 @@ def second_program(program, where):
         try:
             exchange(run, calls[0])
             before = folder.contents()
-            others = ['pipe'], ['init'], ['serve', f'127.0.0.1:{free_port()}', '1'], ['export'], ['check'], ['checkpoint']
+            others = ['pipe'], ['init'], ['serve', f'127.0.0.1:{free_port()}', '1'], ['import'], ['export'], ['check'], ['demo', '1'], ['checkpoint']
             for words in others:
                 folder.expect(words, calls[1][0], 4, b'aasd: disk fault\n')
             if folder.contents() != before:

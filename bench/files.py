@@ -1,0 +1,184 @@
+#!/usr/bin/env python3
+"""Time and memory of `aasd import`, `export` and `checkpoint` over growing files.
+
+A file is an environment in its canonical text: one submodel with so many properties, or so many small submodels. It is imported into a new folder, and
+exported and made a checkpoint of in a folder that has it. Each run opens the journal first; the record of an import is read back by the next command, so
+that the figures of `export` and `checkpoint` have its replay in them. What is printed is compared with what it must be: the counts of the documents, the
+file itself, and the length of the record.
+
+Printed are the file's size, the time that passed and the part of it that the program itself ran, each the least of some runs and less that of the same
+command without documents, that part for a byte, and the peak memory, looked at every millisecond, with its ratio to the file. The script ends with
+status 1 where, from a tenth of the size to the whole, the time that was run for a byte grows past 2 times, or the peak memory for a byte does, less
+that without documents. It wants an idle machine. The program's files are kept in memory where the system has a folder for that, so no disk is measured.
+"""
+import argparse
+import filecmp
+import os
+import subprocess
+import sys
+import tempfile
+import time
+
+HERE = os.path.dirname(os.path.abspath(__file__))
+PROGRAM = os.path.join(HERE, '..', 'aasd')
+GROWTH = 2
+FOLDER = '/dev/shm' if os.path.isdir('/dev/shm') else None
+# What a record of an import and the file around it have beside the text: the tag, its length, and header, gates and length.
+AROUND = 19
+
+
+def property_text(number):
+    return f'{{"idShort":"P{number}","modelType":"Property","value":"{number * 37 % 1000}","valueType":"xs:int"}}'
+
+
+def submodel_text(number):
+    return (f'{{"id":"https://example.com/submodels/{number:06}","idShort":"Nameplate","modelType":"Submodel","submodelElements":['
+            '{"idShort":"ManufacturerName","modelType":"MultiLanguageProperty","value":[{"language":"en","text":"Sample Ltd"}]},'
+            f'{{"idShort":"SerialNumber","modelType":"Property","value":"{number}","valueType":"xs:string"}},'
+            f'{{"idShort":"Speed","modelType":"Property","value":"{number % 1000}","valueType":"xs:int"}}]}}')
+
+
+def listed(item, count):
+    """The items with commas between them, one after another: a file is never in this script's own memory."""
+    for number in range(count):
+        yield (',' if number else '') + item(number)
+
+
+def one_submodel(count):
+    yield '{"submodels":[{"id":"https://example.com/submodels/0","modelType":"Submodel","submodelElements":['
+    yield from listed(property_text, count)
+    yield ']}]}'
+
+
+def small_submodels(count):
+    yield '{"submodels":['
+    yield from listed(submodel_text, count)
+    yield ']}'
+
+
+# What a file has, its text, the submodels of so many, the counts, and the commands that are measured with it.
+FAMILIES = [
+    ('properties of one submodel', one_submodel, lambda count: 1, (6_554, 65_536), ('import', 'export', 'checkpoint')),
+    ('small submodels', small_submodels, lambda count: count, (200, 2_000), ('import', 'export')),
+    ('small submodels', small_submodels, lambda count: count, (1_000, 10_000), ('checkpoint',)),
+]
+
+
+class Case:
+    """A file, and folders with its documents."""
+
+    def __init__(self, program, folder, pieces, submodels):
+        self.program, self.folder = program, folder
+        self.given = self.at('given')
+        with open(self.given, 'w', encoding='utf-8') as file:
+            file.writelines(pieces)
+        self.size = os.path.getsize(self.given)
+        self.line = f'imported 0 shells, {submodels} submodels, 0 concept descriptions\n'
+        self.full = tempfile.mkdtemp(dir=folder)
+        self.quiet('init', self.full)
+        self.quiet('import', self.full)
+
+    def at(self, name):
+        return os.path.join(self.folder, name)
+
+    def start(self, word, folder):
+        with open(self.given, 'rb') as given, open(self.at('printed'), 'wb') as printed:
+            return subprocess.Popen([self.program, word], cwd=folder, stdin=given, stdout=printed)
+
+    def quiet(self, word, folder):
+        status = self.start(word, folder).wait()
+        if status != 0:
+            sys.exit(f'{word}: status {status}')
+
+    def where(self, word):
+        """The folder in which the command is run: an import has a new one."""
+        if word != 'import':
+            return self.full
+        folder = tempfile.mkdtemp(dir=self.folder)
+        self.quiet('init', folder)
+        return folder
+
+    def check(self, word, status):
+        """Ends the script where the command did something else than it must."""
+        if word == 'export':
+            with open(self.given, 'ab') as given:
+                given.write(b'\n')
+            right = filecmp.cmp(self.given, self.at('printed'), shallow=False)
+            os.truncate(self.given, self.size)
+        else:
+            wanted = self.line if word == 'import' else f'checkpoint {self.size + AROUND}\n'
+            with open(self.at('printed'), encoding='utf-8') as printed:
+                right = printed.read() == wanted
+        if status != 0 or not right:
+            sys.exit(f'{word}: status {status}, or it printed something else than it must')
+
+    def timed(self, word):
+        """The seconds that passed in a run of the command, and those that the program ran."""
+        folder = self.where(word)
+        begun = time.perf_counter()
+        process = self.start(word, folder)
+        _, status, used = os.wait4(process.pid, 0)
+        passed = time.perf_counter() - begun
+        process.returncode = os.WEXITSTATUS(status) if os.WIFEXITED(status) else -os.WTERMSIG(status)
+        self.check(word, process.returncode)
+        return passed, used.ru_utime + used.ru_stime
+
+    def peak(self, word):
+        """The most bytes of memory that a run of the command had."""
+        folder, most = self.where(word), 0
+        process = self.start(word, folder)
+        while process.poll() is None:
+            most = max(most, memory(process.pid))
+            time.sleep(0.001)
+        self.check(word, process.returncode)
+        return most
+
+    def figures(self, word, runs):
+        """The least times of some runs, and the peak memory of one."""
+        times = [self.timed(word) for _ in range(runs)]
+        return min(passed for passed, _ in times), min(ran for _, ran in times), self.peak(word)
+
+
+def memory(process):
+    """The peak memory of a process up to now, or 0 where it is just ending."""
+    try:
+        with open(f'/proc/{process}/status', encoding='ascii') as status:
+            return next((int(line.split()[1]) * 1024 for line in status if line.startswith('VmHWM')), 0)
+    except (FileNotFoundError, ProcessLookupError):
+        return 0
+
+
+def measured(options, pieces, submodels, words):
+    """The size of a file, and the figures of each command with it."""
+    with tempfile.TemporaryDirectory(dir=FOLDER) as folder:
+        case = Case(os.path.abspath(options.program), folder, pieces, submodels)
+        return case.size, {word: case.figures(word, options.runs) for word in words}
+
+
+def main():
+    parser = argparse.ArgumentParser(description=__doc__, formatter_class=argparse.RawDescriptionHelpFormatter)
+    parser.add_argument('--program', default=PROGRAM, help='the program (the script aasd)')
+    parser.add_argument('--runs', type=int, default=5, help='runs of each command with each file (5)')
+    options = parser.parse_args()
+    # With no words the script builds the program where that hasn't been done, and the program ends at once.
+    subprocess.run([options.program], stdin=subprocess.DEVNULL, stdout=subprocess.DEVNULL, check=False)
+    _, idle = measured(options, ['{}'], 0, ('import', 'export', 'checkpoint'))
+    good = True
+    for name, text, submodels, counts, words in FAMILIES:
+        took = [(count, *measured(options, text(count), submodels(count), words)) for count in counts]
+        for word in words:
+            print(f'{word}, {name}')
+            each = []
+            for count, size, figures in took:
+                passed, ran, peak = (figure - own for figure, own in zip(figures[word], idle[word]))
+                each.append((ran / size, peak / size))
+                print(f'  {count:6} of them {size:9} bytes {passed * 1000:8.1f} ms, {ran * 1000:8.1f} of them run, {ran / size * 1e9:7.1f} ns a byte'
+                      f' {figures[word][2] / 1e6:6.1f} MB peak {figures[word][2] / size:6.1f} times the file')
+            time_grew, memory_grew = (last / first if first > 0 else 0 for first, last in zip(*each))
+            good = good and time_grew <= GROWTH and memory_grew <= GROWTH
+            print(f'  grew for a byte {time_grew:.2f} times in time, {memory_grew:.2f} times in memory')
+    sys.exit(0 if good else 1)
+
+
+if __name__ == '__main__':
+    main()
