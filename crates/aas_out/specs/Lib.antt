@@ -1,0 +1,4 @@
+pub mod Adds
+pub mod Held
+pub mod LinkTold
+pub mod Told

@@ -1,0 +1,89 @@
+// The end over a link that gathers what is put.
+ghost use Rattle.std.specs.Prelude.{◌≡◌, ◌++◌, OnOk, if◌then◌else◌};
+ghost use Rattle.std.specs.Io.KnownBytes.{append_known};
+ghost use Rattle.aas_outside.specs.Faults.{HasCause};
+ghost use Rattle.aas_out.specs.Told.{Grows};
+
+use crate::Out;
+use aas_outside::{Failed, Link, give_all};
+use arrayvec::ArrayVec;
+
+/// What is put is given to the link in pieces of some KiB: it is held until there is no room for more.
+///
+/// What is told is what the link was given, and behind it what is held, so that a put means here what it means at every
+/// end. [`BufferOut::flush`] gives the link what is held: then all that was put is sent. Where the link fails nothing is
+/// lost, and what it wasn't given is held.
+#[derive(Drop)]
+pub struct BufferOut<'a, L: Link> {
+    pub link: &'a mut L,
+    held: ArrayVec<u8, 8192>,
+    /// How many of these bytes the link was given.
+    given: usize,
+}
+
+impl<'a, L: Link> BufferOut<'a, L> {
+    ghost use Rattle.aas_out.specs.Held.{held_by, HoldsNothing};
+
+    /// Nothing is held yet.
+    pub fn new(link: &'a mut L) -> BufferOut<'a, L>
+        ensures same_reference { result.link.ghost_name ≡ link.entry.ghost_name }
+        ensures link { result.link.now ≡ link.old }
+        ensures empty { HoldsNothing result }
+    {
+        BufferOut {
+            link,
+            held: ArrayVec::new(),
+            given: 0,
+        }
+    }
+
+    /// Gives the link all that is held.
+    pub fn flush(&mut self) -> Result<(), Failed>
+        ensures same_reference { self.new.link.ghost_name ≡ self.old.link.ghost_name }
+        ensures empty { OnOk result (HoldsNothing self.new) }
+        ensures sent { append_known (L.sent self.new.link.now) (held_by self.new) ≡ append_known (L.sent self.old.link.now) (held_by self.old) }
+        ensures more { Grows (L.sent self.old.link.now) (L.sent self.new.link.now) }
+        ensures surroundings { L.surroundings self.new.link.now ≡ L.surroundings self.old.link.now }
+        ensures left { L.left self.new.link.now ≡ L.left self.old.link.now }
+        ensures cause { HasCause (L.faults self.old.link.now) (L.faults self.new.link.now) result }
+    {
+        while self.given < self.held.len() {
+            self.given += self.link.give(&self.held.as_slice()[self.given..])?;
+        }
+        self.held.clear();
+        self.given = 0;
+        Ok(())
+    }
+
+    /// Holds `bytes` too, where there is room for them.
+    fn hold(&mut self, bytes: &[u8]) -> bool
+        ensures link { self.new.link ≡ self.old.link }
+        ensures held { held_by self.new ≡ (if result then held_by self.old ++ bytes.now else held_by self.old) }
+    {
+        if self.given != 0 {
+            return false;
+        }
+        self.held.try_extend_from_slice(bytes).is_ok()
+    }
+}
+
+impl<'a, L: Link> Out for BufferOut<'a, L> {
+    ghost use Rattle.aas_out.specs.Held.{held_by};
+    ghost use Rattle.aas_out.specs.LinkTold.{LinkKept, link_kept, holding_told};
+
+    ghost Kept = { LinkKept };
+
+    ghost told = { λ out. holding_told (L.sent out.link.now) (held_by out) (L.faults out.link.now)
+        (link_kept out.link.ghost_name (L.left out.link.now) (L.surroundings out.link.now)) };
+
+    fn put(&mut self, bytes: &[u8]) -> Result<(), Failed> {
+        if self.hold(bytes) {
+            return Ok(());
+        }
+        self.flush()?;
+        if self.hold(bytes) {
+            return Ok(());
+        }
+        give_all(self.link, bytes)
+    }
+}

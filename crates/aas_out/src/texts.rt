@@ -1,0 +1,40 @@
+// Texts that are put into an end.
+ghost use Rattle.std.specs.Prelude.{◌≡◌, ◌^◌, ℕ, List, length, nat_lt, Some, None, if◌then◌else◌, OnOk, OnErr};
+ghost use Rattle.std.specs.Io.KnownBytes.{append_known};
+ghost use Rattle.aas_outside.specs.Faults.{HasCause};
+ghost use Rattle.aas_outside.specs.Link.{GivesFront};
+ghost use Rattle.aas_out.specs.Told.{Puts};
+
+use crate::{BufferOut, CountOut, Out};
+use aas_outside::{Failed, Link};
+
+/// A text that can be put into an end piece by piece.
+pub trait Pour {
+    ghost text: { Self → List ℕ };
+
+    /// Puts the text.
+    fn pour<O: Out>(&self, out: &mut O) -> Result<(), Failed>
+        ensures { Puts (O.told out.old) (O.told out.new) result (text self.now) };
+}
+
+/// How many bytes the text has, or `None` where they are 2^64 or more.
+pub fn measure<P: Pour>(text: &P) -> Option<u64>
+    ensures { let bytes = length (P.text text.now) in result ≡ (if nat_lt bytes (2 ^ 64) then Some bytes else None) }
+{
+    let mut out = CountOut::new();
+    let _ = text.pour(&mut out);
+    out.count()
+}
+
+/// Gives a link all of the text, in pieces of some KiB. Where the link fails a front of it was given.
+pub fn give_poured<P: Pour, L: Link>(text: &P, link: &mut L) -> Result<(), Failed>
+    ensures given { OnOk result (L.sent link.new ≡ append_known (L.sent link.old) (P.text text.now)) }
+    ensures front { OnErr result (GivesFront (L.sent link.old) (L.sent link.new) (P.text text.now)) }
+    ensures surroundings { L.surroundings link.new ≡ L.surroundings link.old }
+    ensures left { L.left link.new ≡ L.left link.old }
+    ensures cause { HasCause (L.faults link.old) (L.faults link.new) result }
+{
+    let mut out = BufferOut::new(link);
+    text.pour(&mut out)?;
+    out.flush()
+}
