@@ -1,0 +1,11 @@
+pub mod Covered
+pub mod Fields
+pub mod Heads
+pub mod Lacking
+pub mod Level
+pub mod OneLevel
+pub mod Putting
+pub mod Quoting
+pub mod Shown
+pub mod Stops
+pub mod Trees

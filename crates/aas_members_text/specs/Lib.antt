@@ -1,0 +1,5 @@
+pub mod Heads
+pub mod Members
+pub mod Puts
+pub mod Script
+pub mod Texts

@@ -1,0 +1,29 @@
+//! The members of elements and documents as text (IDTA-01001-3-0, JSON), put into an end piece by piece.
+//!
+//! What is put is the compact text of what `aas_json_mapping` spells. Children aren't looked for here: what stands above
+//! puts them between the members. That a text made so is the canonical one is the contract of the functions of `laws`,
+//! which do nothing.
+
+#![tactic(auto)]
+
+mod documents;
+mod elements;
+mod kept;
+mod laws;
+mod members;
+mod own;
+mod parts;
+mod pen;
+mod poured;
+mod quoted;
+mod references;
+
+pub use documents::{begin_submodel, end_submodel, pour_concept, pour_shell};
+pub use elements::CanonicalMembers;
+pub use kept::Plains;
+pub use laws::{
+    rows_give_the_canonical_text, shown_submodels_have_the_canonical_text,
+    submodels_have_the_canonical_text, trees_have_the_canonical_text,
+};
+pub use members::{Members, Pen, Show};
+pub use poured::Poured;

@@ -1,0 +1,180 @@
+// Members of an object, one after another.
+ghost use Rattle.std.specs.Prelude.{◌≡◌, ◌∷◌, ◌++◌, [], Some, option_map};
+ghost use Rattle.std.specs.Str.{chars};
+ghost use Rattle.json.specs.Print.{quoted};
+ghost use Rattle.serde_json.specs.Data.{boolean, string};
+ghost use Rattle.serde_json.specs.Written.{comma_if, compact_text};
+ghost use Rattle.aas_json_table.specs.Spelled.{list_of, text_of};
+ghost use Rattle.aas_members_text.specs.Puts.{BeginsObject, PutsFields};
+ghost use Rattle.aas_out.specs.Adds.{Adds};
+
+use crate::members::Pen;
+use crate::poured::{Poured, pour_items};
+use crate::quoted::{add_escaped, add_quoted};
+use aas_model::Many;
+use aas_model_names::Named;
+use aas_out::{Out, Pouring, add};
+
+/// Begins an object.
+pub(crate) fn begin_object<O: Out>(so_far: Pouring, out: &mut O) -> Pen
+    ensures { BeginsObject so_far result (O.told out.old) (O.told out.new) [] }
+{
+    Pen {
+        state: add(so_far, b"{", out),
+        later: false,
+    }
+}
+
+/// Ends an object.
+pub(crate) fn end_object<O: Out>(pen: Pen, out: &mut O) -> Pouring
+    ensures { Adds pen.state result (O.told out.old) (O.told out.new) (125 ∷ []) }
+{
+    add(pen.state, b"}", out)
+}
+
+fn before_name(later: bool) -> &'static [u8]
+    ensures { result.now ≡ comma_if later ++ 34 ∷ [] }
+{
+    if later { b",\"" } else { b"\"" }
+}
+
+/// Puts the name of a member, with a comma where a member stands before it.
+pub(crate) fn add_name<O: Out>(pen: Pen, name: &str, out: &mut O) -> Pouring
+    ensures { Adds pen.state result (O.told out.old) (O.told out.new) (comma_if pen.later ++ (quoted name.now ++ 58 ∷ [])) }
+{
+    let opened = add(pen.state, before_name(pen.later), out);
+    let escaped = add_escaped(opened, name.as_bytes(), out);
+    add(escaped, b"\":", out)
+}
+
+/// Puts a member whose value is a string.
+pub(crate) fn put_string<O: Out>(pen: Pen, name: &str, value: &str, out: &mut O) -> Pen
+    ensures { PutsFields pen result (O.told out.old) (O.told out.new) ((name.now, Some (compact_text (string value.now))) ∷ []) }
+{
+    let named = add_name(pen, name, out);
+    Pen {
+        state: add_quoted(named, value, out),
+        later: true,
+    }
+}
+
+/// Puts a member whose value is a text, where there is one.
+pub(crate) fn put_optional_str<O: Out>(
+    pen: Pen,
+    name: &str,
+    value: Option<&str>,
+    out: &mut O,
+) -> Pen
+    ensures { PutsFields pen result (O.told out.old) (O.told out.new) ((name.now, option_map compact_text (option_map text_of (option_map (λ s. chars s.now) value.entry))) ∷ []) }
+{
+    match value {
+        Some(text) => put_characters(pen, name, text, out),
+        None => pen,
+    }
+}
+
+fn put_characters<O: Out>(pen: Pen, name: &str, text: &str, out: &mut O) -> Pen
+    ensures { PutsFields pen result (O.told out.old) (O.told out.new) ((name.now, Some (compact_text (text_of (chars text.now)))) ∷ []) }
+{
+    put_string(pen, name, text, out)
+}
+
+/// Puts a member whose value is the name of a value of an enumeration.
+pub(crate) fn put_word<V: Named, O: Out>(pen: Pen, name: &str, value: V, out: &mut O) -> Pen
+    ensures { PutsFields pen result (O.told out.old) (O.told out.new) ((name.now, Some (compact_text (string (V.name_of value)))) ∷ []) }
+{
+    put_string(pen, name, value.name(), out)
+}
+
+/// The same, where there may be none.
+pub(crate) fn put_optional_word<V: Named, O: Out>(
+    pen: Pen,
+    name: &str,
+    value: Option<V>,
+    out: &mut O,
+) -> Pen
+    ensures { PutsFields pen result (O.told out.old) (O.told out.new) ((name.now, option_map compact_text (option_map (λ v. string (V.name_of v)) value)) ∷ []) }
+{
+    match value {
+        Some(value) => put_word(pen, name, value, out),
+        None => pen,
+    }
+}
+
+/// Puts a member whose value is a truth value, where there is one.
+pub(crate) fn put_optional_flag<O: Out>(
+    pen: Pen,
+    name: &str,
+    value: Option<bool>,
+    out: &mut O,
+) -> Pen
+    ensures { PutsFields pen result (O.told out.old) (O.told out.new) ((name.now, option_map compact_text (option_map boolean value)) ∷ []) }
+{
+    match value {
+        Some(flag) => {
+            let named = add_name(pen, name, out);
+            Pen {
+                state: add_flag(named, flag, out),
+                later: true,
+            }
+        },
+        None => pen,
+    }
+}
+
+/// Puts a truth value.
+pub(crate) fn add_flag<O: Out>(so_far: Pouring, flag: bool, out: &mut O) -> Pouring
+    ensures { Adds so_far result (O.told out.old) (O.told out.new) (compact_text (boolean flag)) }
+{
+    if flag {
+        add(so_far, b"true", out)
+    } else {
+        add(so_far, b"false", out)
+    }
+}
+
+/// Puts a member whose value is of a sort.
+pub(crate) fn put_one<P: Poured, O: Out>(pen: Pen, name: &str, value: &P::Tree, out: &mut O) -> Pen
+    ensures { PutsFields pen result (O.told out.old) (O.told out.new) ((name.now, Some (compact_text (P.spell value.now))) ∷ []) }
+{
+    let named = add_name(pen, name, out);
+    Pen {
+        state: P::pour(named, value, out),
+        later: true,
+    }
+}
+
+/// The same, where there may be none.
+pub(crate) fn put_optional<P: Poured, O: Out>(
+    pen: Pen,
+    name: &str,
+    value: &Option<P::Tree>,
+    out: &mut O,
+) -> Pen
+    ensures { PutsFields pen result (O.told out.old) (O.told out.new) ((name.now, option_map compact_text (option_map P.spell value.now)) ∷ []) }
+{
+    match value {
+        Some(value) => put_one::<P, O>(pen, name, value, out),
+        None => pen,
+    }
+}
+
+/// Puts a member whose value is an array, unless it has no items.
+pub(crate) fn put_list<P: Poured, O: Out>(
+    pen: Pen,
+    name: &str,
+    values: &Many<P::Tree>,
+    out: &mut O,
+) -> Pen
+    ensures { PutsFields pen result (O.told out.old) (O.told out.new) ((name.now, option_map compact_text (list_of P.spell values.now)) ∷ []) }
+{
+    if values.is_empty() {
+        return pen;
+    }
+    let named = add_name(pen, name, out);
+    let opened = add(named, b"[", out);
+    Pen {
+        state: pour_items::<P, O>(opened, values.as_slice(), out),
+        later: true,
+    }
+}
