@@ -1,0 +1,6 @@
+pub mod Ahead
+pub mod Documents
+pub mod FromTrees
+pub mod Going
+pub mod Looking
+pub mod Open

@@ -1,0 +1,12 @@
+use Rattle.std.proofs.Common.{[], ◌∷◌, ◌++◌}
+use Rattle.std.specs.Prelude.{codes}
+use Rattle.json.specs.Print.{quoted, escape_byte}
+use Rattle.serde_json.specs.Written.{comma_if}
+use Rattle.aas_out.proofs.Adding.{adds_both, adds_same}
+use Rattle.aas_pour.proofs.elements.put_elements_name.Goals as goal
+
+pub returns : goal.returns
+unfolding escape_byte
+returns g c =
+    adds_both c.args.pen.state c.add-comma.result c.add.result (g.O.Out.told c.args.out.now) (g.O.Out.told c.add-comma.new.out) (g.O.Out.told c.add.new.out) (comma_if c.args.pen.later) (quoted (codes "submodelElements") ++ 58 ∷ 91 ∷ [])
+    (adds_same c.args.pen.state c.add-comma.result (g.O.Out.told c.args.out.now) (g.O.Out.told c.add-comma.new.out) c.comma_of.result.now (comma_if c.args.pen.later) c.add-comma.ensures c.comma_of.ensures) c.add.ensures

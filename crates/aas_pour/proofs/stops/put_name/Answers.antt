@@ -1,0 +1,12 @@
+use Rattle.std.proofs.Common.{[], ◌∷◌, ◌++◌, subst, List, ℕ}
+use Rattle.aas_out.specs.Adds.{Adds}
+use Rattle.json.specs.Print.{quoted}
+use Rattle.serde_json.specs.Written.{comma_if}
+use Rattle.aas_members_text.specs.Members.{stop_name}
+use Rattle.aas_out.proofs.Adding.{adds_both}
+use Rattle.aas_pour.proofs.stops.put_name.Goals as goal
+
+pub returns : goal.returns
+returns g c =
+    adds_both c.args.so_far c.add-comma.result c.add.result (g.O.Out.told c.args.out.now) (g.O.Out.told c.add-comma.new.out) (g.O.Out.told c.add.new.out) (comma_if c.args.later) (quoted (stop_name c.args.stop) ++ 58 ∷ 91 ∷ [])
+    (subst (λ (t : List ℕ). Adds c.args.so_far c.add-comma.result (g.O.Out.told c.args.out.now) (g.O.Out.told c.add-comma.new.out) t) c.comma_of.ensures c.add-comma.ensures) (subst (λ (t : List ℕ). Adds c.add-comma.result c.add.result (g.O.Out.told c.add-comma.new.out) (g.O.Out.told c.add.new.out) t) c.name_of.ensures c.add.ensures)

@@ -1,0 +1,4 @@
+pub mod Elements
+pub mod Poured
+pub mod Submodels
+pub mod Walk

@@ -1,0 +1,85 @@
+// The elements of a document, one after another.
+ghost use Rattle.std.specs.Prelude.{◌≡◌, ◌-◌, ◌^◌, ◌<◌, ◌||◌, ◌∷◌, [], codes, true, IfSome};
+ghost use Rattle.aas_members_text.specs.Members.{field_text};
+ghost use Rattle.aas_members_text.specs.Script.{is_any, listed_text, more_text};
+ghost use Rattle.aas_members_text.specs.declared.members.Show.{Show};
+ghost use Rattle.aas_out.specs.Adds.{Adds};
+ghost use Rattle.aas_pour.specs.Elements.{IsNextElement, elements_from, elements_of};
+ghost use Rattle.aas_pour.specs.Poured.{AreLow};
+
+use crate::rows::Rows;
+use crate::stops::comma_of;
+use crate::walk::pour_element;
+use aas_members_text::{Members, Pen, Show};
+use aas_out::{Out, Pouring, add};
+
+/// Puts the member `submodelElements` behind others, where there are elements.
+pub fn pour_elements<R: Rows, M: Members, O: Out>(
+    pen: Pen,
+    rows: &R,
+    members: &M,
+    show: Show,
+    out: &mut O,
+) -> Pen
+    requires { AreLow (R.Rows.lines rows.now) }
+    ensures text { Adds pen.state result.state (O.told out.old) (O.told out.new) (listed_text pen.later (codes "submodelElements") (elements_of show (R.Rows.lines rows.now))) }
+    ensures later { result.later ≡ (pen.later || is_any (elements_of show (R.Rows.lines rows.now))) }
+{
+    let Some(first) = next_element(rows, 0) else {
+        return pen;
+    };
+    let named = put_elements_name(pen, out);
+    let element = pour_element(named, rows, members, show, first, out);
+    let state = pour_further(element, rows, members, show, first + 1, out);
+    Pen { state, later: true }
+}
+
+/// The first row from a rank on that stands right below the document.
+fn next_element<R: Rows>(rows: &R, from: u64) -> Option<u64>
+    ensures next { (show : Show) → IsNextElement show (R.Rows.lines rows.now) from result }
+    ensures within { IfSome result (λ rank. rank < 2 ^ 64 - 1) }
+{
+    let mut at = from;
+    loop {
+        let Some(row) = rows.row(at) else {
+            return None;
+        };
+        if row.level == 0 {
+            return None;
+        }
+        if row.level == 1 {
+            return Some(at);
+        }
+        at += 1;
+    }
+}
+
+/// Puts the name of the member that holds the elements, and the bracket.
+fn put_elements_name<O: Out>(pen: Pen, out: &mut O) -> Pouring
+    ensures { Adds pen.state result (O.told out.old) (O.told out.new) (field_text pen.later (codes "submodelElements") (91 ∷ [])) }
+{
+    let comma = add(pen.state, comma_of(pen.later), out);
+    add(comma, b"\"submodelElements\":[", out)
+}
+
+/// Puts the elements of the document from a rank on, each with a comma before it, and the bracket.
+fn pour_further<R: Rows, M: Members, O: Out>(
+    so_far: Pouring,
+    rows: &R,
+    members: &M,
+    show: Show,
+    from: u64,
+    out: &mut O,
+) -> Pouring
+    requires { AreLow (R.Rows.lines rows.now) }
+    ensures { Adds so_far result (O.told out.old) (O.told out.new) (more_text (elements_from show (R.Rows.lines rows.now) from)) }
+{
+    let mut state = so_far;
+    let mut at = from;
+    while let Some(next) = next_element(rows, at) {
+        let comma = add(state, b",", out);
+        state = pour_element(comma, rows, members, show, next, out);
+        at = next + 1;
+    }
+    add(state, b"]", out)
+}

@@ -1,0 +1,21 @@
+//! Texts that are poured from rows: the text of an element or a submodel is put into an end piece by piece, and takes no
+//! memory.
+//!
+//! A walk goes over the rows in preorder. It keeps which elements are open, at most 30, and which part of each follows its
+//! children; what it has put before is never looked at again, and a row is asked for where it is needed.
+
+#![tactic(auto)]
+
+mod children;
+mod elements;
+mod laws;
+mod rows;
+mod stops;
+mod submodel;
+mod walk;
+
+pub use elements::pour_elements;
+pub use laws::{rows_give_the_submodel, rows_give_the_texts};
+pub use rows::Rows;
+pub use submodel::pour_submodel;
+pub use walk::pour_element;
