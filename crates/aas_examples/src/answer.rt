@@ -4,6 +4,7 @@ use crate::faults::fault_of;
 use crate::forms::form_of;
 use crate::modifiers::{Modifier, paths_at, reference_at, shown};
 use crate::parts::{part_of, sameness};
+use crate::poured::poured;
 use crate::text::{text, text_of};
 use aas_command::Refusal;
 use aas_model::{
@@ -34,6 +35,9 @@ fn called(alloc: Global, call: &str, input: &str) -> Result<String, Refusal> {
         "write element" => written::<Element>(alloc, input),
         "write asset" => written::<AssetInformation>(alloc, input),
         "write reference" => part_of::<Reference>(alloc, input),
+        "pour shell" => poured::<Shell>(alloc, input),
+        "pour concept" => poured::<Concept>(alloc, input),
+        "pour element" => poured::<Element>(alloc, input),
         "same references" => sameness(alloc, input),
         "name of specific" => part_of::<SpecificAssetId>(alloc, input),
         "value" => form_of::<Element>(alloc, input, Extent::WithBlobValue),

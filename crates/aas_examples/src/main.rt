@@ -10,6 +10,7 @@ mod faults;
 mod forms;
 mod modifiers;
 mod parts;
+mod poured;
 mod text;
 
 ghost use Rattle.std.specs.Prelude.{◌≡◌, MatchOption, string_bytes};
