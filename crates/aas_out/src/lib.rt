@@ -1,6 +1,6 @@
 //! Ends that bytes are put into piece by piece, and pourings: what puts a text into such an end, part by part.
 //!
-//! No text is made here, and nothing takes memory.
+//! No text is made here. Nothing takes memory but the end that keeps a text in it.
 #![tactic(auto)]
 
 mod buffered;
@@ -8,6 +8,7 @@ mod counting;
 mod linked;
 mod out;
 mod pouring;
+mod text_out;
 mod texts;
 
 pub use aas_outside::{Failed, Link};
@@ -16,4 +17,5 @@ pub use counting::CountOut;
 pub use linked::LinkOut;
 pub use out::Out;
 pub use pouring::{Pouring, add};
+pub use text_out::TextOut;
 pub use texts::{Pour, give_poured, measure};

@@ -1,0 +1,57 @@
+// The end over a text in memory.
+ghost use Rattle.std.specs.Prelude.{◌≡◌, ◌+◌, ◌<◌, [], length, vec_capacity, vec_len, OnErr};
+ghost use Rattle.aas_out.specs.TextTold.{text_told};
+ghost use Rattle.aas_out.specs.Told.{Puts};
+
+use crate::Out;
+use aas_outside::Failed;
+use std::alloc::Global;
+
+/// What is put is a text in memory. It fails exactly where memory is refused.
+///
+/// Contracts see the text and how many calls have failed. A text that is begun here and poured to the end, so that the
+/// pouring goes on, is what was poured.
+#[derive(Drop)]
+pub struct TextOut {
+    text: Vec<u8>,
+    /// It stands still at the greatest number.
+    faults: u64,
+}
+
+impl TextOut {
+    /// Nothing is put yet.
+    pub fn new(alloc: Global) -> TextOut
+        ensures { result.text.items ≡ [] }
+    {
+        TextOut {
+            text: Vec::new(alloc),
+            faults: 0,
+        }
+    }
+
+    /// All that was put.
+    pub fn into_text(self) -> Vec<u8>
+        ensures { result ≡ self.text }
+    {
+        self.text
+    }
+}
+
+impl Out for TextOut {
+    ghost Kept = { Unit {0} };
+
+    ghost told = { λ out. text_told out.text.items out.faults };
+
+    fn put(&mut self, bytes: &[u8]) -> Result<(), Failed>
+        ensures put { Puts (text_told self.old.text.items self.old.faults) (text_told self.new.text.items self.new.faults) result bytes.now }
+        ensures refused { OnErr result (vec_capacity self.old.text < vec_len self.old.text + length bytes.now) }
+    {
+        match self.text.extend_from_slice(bytes) {
+            Ok(()) => Ok(()),
+            Err(_) => {
+                self.faults = self.faults.saturating_add(1);
+                Err(Failed)
+            }
+        }
+    }
+}
