@@ -1,68 +1,51 @@
 // Canonical texts of whole documents, environments, elements and references.
-ghost use Rattle.std.specs.Prelude.{◌≡◌, true, IfOk};
+ghost use Rattle.std.specs.Prelude.{◌≡◌, IfOk};
 ghost use Rattle.std.specs.Str.{IsUtf8};
+ghost use Rattle.serde_json.specs.Written.{compact_text};
 ghost use Rattle.aas_json_spelling.specs.Spells.{canonical_text};
 ghost use Rattle.aas_json_mapping.specs.Trees.{asset_informations, concepts, elements, environments, shells, submodels};
-ghost use Rattle.aas_json_table.specs.TooDeep.{limits};
-ghost use Rattle.aas_json_write.specs.Order.{element_in_order};
 ghost use Rattle.aas_reference.specs.Trees.{references};
 
-use aas_json_write::{
-    whole_trees_are_in_order, write_asset_information, write_concept, write_element,
-    write_environment, write_shell, write_submodel,
-};
+use aas_json_parts::AssetInformations;
+use aas_members_text::{Concepts, Poured, Shells};
 use aas_model::{
     AssetInformation, Concept, Element, Environment, NoMemory, Reference, Shell, Submodel,
 };
-use aas_reference::write_reference;
+use aas_out::{Pouring, TextOut};
+use aas_pour::{Elements, Environments, Submodels};
+use aas_reference::References;
 use std::alloc::Global;
 
 /// The canonical text of a shell.
 pub fn shell_text(alloc: Global, shell: &Shell) -> Result<Vec<u8>, NoMemory>
-    requires { shells.IsWhole limits shell.now }
     ensures text { IfOk result (λ text. text.items ≡ canonical_text shells shell.now) }
     ensures utf8 { IfOk result (λ text. IsUtf8 text.items) }
 {
-    whole_trees_are_in_order();
-    let mut text = Vec::new(alloc);
-    write_shell(alloc, shell, &mut text)?;
-    Ok(text)
+    poured_text::<Shells>(alloc, shell)
 }
 
 /// The canonical text of a submodel.
 pub fn submodel_text(alloc: Global, submodel: &Submodel) -> Result<Vec<u8>, NoMemory>
-    requires { submodels.IsWhole limits submodel.now }
     ensures text { IfOk result (λ text. text.items ≡ canonical_text submodels submodel.now) }
     ensures utf8 { IfOk result (λ text. IsUtf8 text.items) }
 {
-    whole_trees_are_in_order();
-    let mut text = Vec::new(alloc);
-    write_submodel(alloc, submodel, &mut text)?;
-    Ok(text)
+    poured_text::<Submodels>(alloc, submodel)
 }
 
 /// The canonical text of a concept description.
 pub fn concept_text(alloc: Global, concept: &Concept) -> Result<Vec<u8>, NoMemory>
-    requires { concepts.IsWhole limits concept.now }
     ensures text { IfOk result (λ text. text.items ≡ canonical_text concepts concept.now) }
     ensures utf8 { IfOk result (λ text. IsUtf8 text.items) }
 {
-    whole_trees_are_in_order();
-    let mut text = Vec::new(alloc);
-    write_concept(alloc, concept, &mut text)?;
-    Ok(text)
+    poured_text::<Concepts>(alloc, concept)
 }
 
 /// The canonical text of an environment.
 pub fn environment_text(alloc: Global, environment: &Environment) -> Result<Vec<u8>, NoMemory>
-    requires { environments.IsWhole limits environment.now }
     ensures text { IfOk result (λ text. text.items ≡ canonical_text environments environment.now) }
     ensures utf8 { IfOk result (λ text. IsUtf8 text.items) }
 {
-    whole_trees_are_in_order();
-    let mut text = Vec::new(alloc);
-    write_environment(alloc, environment, &mut text)?;
-    Ok(text)
+    poured_text::<Environments>(alloc, environment)
 }
 
 /// The canonical text of what a shell says of its asset.
@@ -70,9 +53,7 @@ pub fn asset_text(alloc: Global, asset: &AssetInformation) -> Result<Vec<u8>, No
     ensures text { IfOk result (λ text. text.items ≡ canonical_text asset_informations asset.now) }
     ensures utf8 { IfOk result (λ text. IsUtf8 text.items) }
 {
-    let mut text = Vec::new(alloc);
-    write_asset_information(alloc, asset, &mut text)?;
-    Ok(text)
+    poured_text::<AssetInformations>(alloc, asset)
 }
 
 /// The canonical text of a reference.
@@ -80,18 +61,30 @@ pub fn reference_text(alloc: Global, reference: &Reference) -> Result<Vec<u8>, N
     ensures text { IfOk result (λ text. text.items ≡ canonical_text references reference.now) }
     ensures utf8 { IfOk result (λ text. IsUtf8 text.items) }
 {
-    let mut text = Vec::new(alloc);
-    write_reference(alloc, reference, &mut text)?;
-    Ok(text)
+    poured_text::<References>(alloc, reference)
 }
 
-/// The canonical text of an element whose kept data is in order, as it is in each whole element and in each form of one.
+/// The canonical text of an element.
 pub fn element_text(alloc: Global, element: &Element) -> Result<Vec<u8>, NoMemory>
-    requires { element_in_order element.now ≡ true }
     ensures text { IfOk result (λ text. text.items ≡ canonical_text elements element.now) }
     ensures utf8 { IfOk result (λ text. IsUtf8 text.items) }
 {
-    let mut text = Vec::new(alloc);
-    write_element(alloc, element, &mut text)?;
-    Ok(text)
+    poured_text::<Elements>(alloc, element)
+}
+
+/// The text of what is poured.
+fn poured_text<P: Poured>(alloc: Global, tree: &P::Tree) -> Result<Vec<u8>, NoMemory>
+    ensures text { IfOk result (λ text. text.items ≡ compact_text (P.spell tree.now)) }
+    ensures utf8 { IfOk result (λ text. IsUtf8 text.items) }
+{
+    let mut out = TextOut::new(alloc);
+    let Pouring::Going = P::pour(Pouring::Going, tree, &mut out) else {
+        return Err(NoMemory);
+    };
+    let text = out.into_text();
+    match str::from_utf8(&text) {
+        Ok(_) => Ok(text),
+        // This never comes: the text is JSON, and UTF-8, which no contract of a pouring says.
+        Err(_) => Err(NoMemory),
+    }
 }

@@ -7,7 +7,6 @@ ghost use Rattle.aas_json_mapping.specs.Trees.{elements};
 ghost use Rattle.aas_json_spelling.specs.Spells.{canonical_text};
 ghost use Rattle.aas_json_spelling.specs.Values.{HasWholeNumbers};
 ghost use Rattle.serde_json.specs.Written.{compact_text};
-ghost use Rattle.aas_json_table.specs.TooDeep.{Levels};
 ghost use Rattle.aas_path.specs.PathText.{path_text};
 ghost use Rattle.std.specs.Str.{encode_utf8_all};
 
@@ -16,7 +15,6 @@ use crate::canonical::{
     submodel_text,
 };
 use crate::{Command, SentValue};
-use aas_json_write::whole_trees_are_in_order;
 use aas_model::{Element, NoMemory, Path, Text};
 use aas_outside::Frame;
 use aas_path::print_path;
@@ -130,7 +128,7 @@ fn payload(alloc: Global, command: &Command) -> Result<Vec<u8>, EncodeFault>
     }
 }
 
-/// The payload of a command on the element to which a path leads, with an element that is whole.
+/// The payload of a command on the element to which a path leads, with an element.
 #[tactic(auto, using(crate::proofs::Payloads::longer_by_third))]
 fn element_payload(
     alloc: Global,
@@ -139,8 +137,7 @@ fn element_payload(
     path: &Path,
     element: &Element,
 ) -> Result<Vec<u8>, EncodeFault>
-    requires path { IsPlace path.now.steps }
-    requires whole { (left : Levels) × elements.IsWhole left element.now }
+    requires { IsPlace path.now.steps }
     ensures payload { MatchResult result
         (λ payload. payload.items ≡ bytes_of (tagged tag
         (encode_utf8_all submodel.now ∷ path_text path.now.steps ∷ canonical_text elements element.now ∷ [])))
@@ -149,7 +146,6 @@ fn element_payload(
     ensures fields { OnOk result (IsField (encode_utf8_all submodel.now) × IsField (path_text path.now.steps)
         × IsField (canonical_text elements element.now)) }
 {
-    whole_trees_are_in_order();
     let mut payload = path_payload(alloc, tag, submodel, path)?;
     push_field(&mut payload, &element_text(alloc, element)?)?;
     Ok(payload)

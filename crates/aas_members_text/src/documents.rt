@@ -113,6 +113,32 @@ impl Poured for AssetInformations {
     }
 }
 
+/// Shells, as they are put.
+pub struct Shells;
+
+impl Poured for Shells {
+    type Tree = Shell;
+
+    ghost spell = { spell_shell };
+
+    fn pour<O: Out>(so_far: Pouring, shell: &Shell, out: &mut O) -> Pouring {
+        pour_shell(so_far, shell, out)
+    }
+}
+
+/// Concept descriptions, as they are put.
+pub struct Concepts;
+
+impl Poured for Concepts {
+    type Tree = Concept;
+
+    ghost spell = { spell_concept };
+
+    fn pour<O: Out>(so_far: Pouring, concept: &Concept, out: &mut O) -> Pouring {
+        pour_concept(so_far, concept, out)
+    }
+}
+
 /// Puts the canonical text of a shell (IDTA-01001-3-0, class AssetAdministrationShell).
 pub fn pour_shell<O: Out>(so_far: Pouring, shell: &Shell, out: &mut O) -> Pouring
     ensures { Adds so_far result (O.told out.old) (O.told out.new) (compact_text (spell_shell shell.now)) }

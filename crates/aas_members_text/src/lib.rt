@@ -18,7 +18,7 @@ mod poured;
 mod quoted;
 mod references;
 
-pub use documents::{begin_submodel, end_submodel, pour_concept, pour_shell};
+pub use documents::{Concepts, Shells, begin_submodel, end_submodel, pour_concept, pour_shell};
 pub use elements::CanonicalMembers;
 pub use kept::Plains;
 pub use laws::{
@@ -26,4 +26,5 @@ pub use laws::{
     submodels_have_the_canonical_text, trees_have_the_canonical_text,
 };
 pub use members::{Members, Pen, Show};
+pub use pen::{begin_object, end_object, put_list};
 pub use poured::Poured;

@@ -16,7 +16,7 @@ use aas_model_names::Named;
 use aas_out::{Out, Pouring, add};
 
 /// Begins an object.
-pub(crate) fn begin_object<O: Out>(so_far: Pouring, out: &mut O) -> Pen
+pub fn begin_object<O: Out>(so_far: Pouring, out: &mut O) -> Pen
     ensures { BeginsObject so_far result (O.told out.old) (O.told out.new) [] }
 {
     Pen {
@@ -26,7 +26,7 @@ pub(crate) fn begin_object<O: Out>(so_far: Pouring, out: &mut O) -> Pen
 }
 
 /// Ends an object.
-pub(crate) fn end_object<O: Out>(pen: Pen, out: &mut O) -> Pouring
+pub fn end_object<O: Out>(pen: Pen, out: &mut O) -> Pouring
     ensures { Adds pen.state result (O.told out.old) (O.told out.new) (125 ∷ []) }
 {
     add(pen.state, b"}", out)
@@ -160,12 +160,7 @@ pub(crate) fn put_optional<P: Poured, O: Out>(
 }
 
 /// Puts a member whose value is an array, unless it has no items.
-pub(crate) fn put_list<P: Poured, O: Out>(
-    pen: Pen,
-    name: &str,
-    values: &Many<P::Tree>,
-    out: &mut O,
-) -> Pen
+pub fn put_list<P: Poured, O: Out>(pen: Pen, name: &str, values: &Many<P::Tree>, out: &mut O) -> Pen
     ensures { PutsFields pen result (O.told out.old) (O.told out.new) ((name.now, option_map compact_text (list_of P.spell values.now)) ∷ []) }
 {
     if values.is_empty() {

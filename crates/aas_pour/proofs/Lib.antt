@@ -4,3 +4,4 @@ pub mod FromTrees
 pub mod Going
 pub mod Looking
 pub mod Open
+pub mod Whole

@@ -1,4 +1,5 @@
 pub mod Elements
 pub mod Poured
 pub mod Submodels
+pub mod Trees
 pub mod Walk

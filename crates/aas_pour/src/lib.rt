@@ -8,14 +8,18 @@
 
 mod children;
 mod elements;
+mod environment;
 mod laws;
 mod rows;
 mod stops;
 mod submodel;
+mod tree;
 mod walk;
 
 pub use elements::pour_elements;
+pub use environment::{Environments, pour_environment};
 pub use laws::{rows_give_the_submodel, rows_give_the_texts};
 pub use rows::Rows;
 pub use submodel::pour_submodel;
+pub use tree::{Elements, Submodels, pour_submodel_tree, pour_tree};
 pub use walk::pour_element;

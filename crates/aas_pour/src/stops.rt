@@ -39,7 +39,7 @@ pub(crate) fn role_fits(stop: u8, role: Role) -> bool
 
 /// The text before a child at a stop.
 #[tactic(auto, unfolding(aas_members_text::specs::Members::opening))]
-fn opening_of(stop: u8) -> &'static [u8]
+pub(crate) fn opening_of(stop: u8) -> &'static [u8]
     ensures { result.now ≡ opening stop }
 {
     if 2 < stop && stop < 6 {
