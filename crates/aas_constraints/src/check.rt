@@ -1,9 +1,10 @@
-ghost use Rattle.std.specs.Prelude.{◌≡◌, [], IfOk, List};
+ghost use Rattle.std.specs.Prelude.{◌≡◌, [], IfOk, List, false, flat_map, map};
 ghost use Rattle.std.specs.Option.{option_copied};
 ghost use Rattle.aas_reference.specs.Rules.{first};
 ghost use Rattle.aas_constraint_rules.specs.Sites.{Own};
-ghost use Rattle.aas_constraint_rules.specs.Faults.{concept_faults, element_faults, fault, faults, shell_faults};
-ghost use Rattle.aas_constraint_rules.specs.Sites.{own_of};
+ghost use Rattle.aas_constraint_rules.specs.Faults.{concept_faults, element_faults, fault, faults, faults_at, shell_faults};
+ghost use Rattle.aas_constraint_rules.specs.Rules.{first_some, is_repeat, semantics_of};
+ghost use Rattle.aas_constraint_rules.specs.Sites.{own_of, sites, tree_of};
 ghost use Rattle.aas_constraint_laws.specs.Law.{local_faults};
 ghost use Rattle.aas_constraints.specs.Walk.{above_of, Knows, found_in, found_among};
 
@@ -88,6 +89,31 @@ pub fn local_fault(alloc: Global, element: &Element) -> Result<Option<Fault>, No
     ensures { IfOk result (λ f. f ≡ first (local_faults element.now)) }
 {
     Ok(check_in(alloc, element, Scope::Local, true, None, false, None)?)
+}
+
+/// The first fault of an element that is the last child of its parent, and of all below it: `above` is the parent, none under
+/// the submodel itself. No child before it has its idShort, and `lead` is the first semanticId among them. The fault's path
+/// begins at the element: a fault of the element itself has the empty path.
+pub fn check_child(
+    alloc: Global,
+    element: &Element,
+    in_template: bool,
+    above: Option<&Element>,
+    lead: Option<&Reference>,
+) -> Result<Option<Fault>, NoMemory>
+    ensures { IfOk result (λ f. (b : List Own) → is_repeat b (own_of element.now).common.id_short ≡ false →
+        option_copied lead.entry ≡ first_some (map semantics_of b) →
+        f ≡ first (flat_map faults_at (sites in_template (above_of above.entry) b (tree_of element.now)))) }
+{
+    Ok(check_in(
+        alloc,
+        element,
+        Scope::Everything,
+        in_template,
+        above,
+        false,
+        lead,
+    )?)
 }
 
 /// The first fault of a submodel: at the submodel or at the first faulty element in preorder, there with the least number.

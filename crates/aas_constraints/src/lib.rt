@@ -10,5 +10,7 @@ mod documents;
 mod element;
 mod place;
 
-pub use check::{check_concept, check_element, check_shell, check_submodel, local_fault};
+pub use check::{
+    check_child, check_concept, check_element, check_shell, check_submodel, local_fault,
+};
 pub use place::step_to;
