@@ -1,5 +1,5 @@
 -- What a loan of a row leaves.
-use Rattle.std.proofs.Common.{◌≡◌, ℕ, ◌≤◌, List, length, Option, Some, None, refl, sym, ap, subst}
+use Rattle.std.proofs.Common.{◌≡◌, ℕ, ◌≤◌, length, Option, Some, None, refl, sym, ap, subst}
 use Rattle.std.specs.FinMap as map
 use Rattle.std.specs.Option.{option_map_or, IfSome, MatchOption}
 use Rattle.aas_model.specs.declared.documents.Submodel.{Submodel}

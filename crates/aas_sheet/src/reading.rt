@@ -1,11 +1,12 @@
-ghost use Rattle.std.specs.Prelude.{◌≡◌, ◌≢◌, ◌↔◌, Some, Err, IfOk};
+ghost use Rattle.std.specs.Prelude.{◌≡◌, ◌≢◌, ◌↔◌, Some, Err, IfOk, MatchOption};
 ghost use Rattle.aas_model.specs.declared.path.Missing.{Missing};
 ghost use Rattle.aas_path_trees.specs.ElementAt.{element_at};
 ghost use Rattle.aas_store.specs.Edited.{LeadsNowhere};
+ghost use Rattle.aas_store.specs.Reads.{IsRowOf};
 
 use aas_model::{Element, Missing, NoMemory, Path};
 use aas_sheet_rows::Sheet;
-use aas_store::Lack;
+use aas_store::{Lack, RowView};
 
 /// A copy of the element at the path.
 pub(crate) fn copy_at(sheet: &Sheet, path: &Path) -> Result<Element, Lack>
@@ -20,5 +21,20 @@ pub(crate) fn copy_at(sheet: &Sheet, path: &Path) -> Result<Element, Lack>
     match sheet.element_of_rank(rank) {
         Ok(Some(element)) => Ok(element),
         Ok(None) | Err(NoMemory) => Err(Lack::NoMemory),
+    }
+}
+
+/// The row of the element at the path.
+pub(crate) fn row_at<'a>(sheet: &'a Sheet, path: &Path) -> Result<RowView<'a>, Lack>
+    ensures found { IfOk result (λ row. MatchOption (element_at sheet.now path.now.steps) ⊥ (λ e. IsRowOf e row)) }
+    ensures there { result ≢ Err Lack.NoSubmodel }
+    ensures no_element { (m : Missing) → (result ≡ Err (Lack.NoElement m)) ↔ LeadsNowhere sheet.now path.now.steps m }
+{
+    match sheet.row_at(path) {
+        Some(row) => Ok(row),
+        None => {
+            let steps = sheet.depth(path);
+            Err(Lack::NoElement(Missing { steps }))
+        },
     }
 }

@@ -1,14 +1,16 @@
 ghost use Rattle.std.specs.Prelude.{◌≡◌, MatchOption};
 ghost use Rattle.std.specs.Borrow.{LendsIf, sem};
+ghost use Rattle.aas_rows.specs.Rows.{rows_of_all};
 ghost use Rattle.aas_sheet.specs.Lent.{holding_row, sheets_type, store_type, with_row_in, HasNoRow, IsRowOf};
 ghost use Rattle.aas_sheet.specs.SheetStore.{documents};
 ghost use Rattle.aas_sheet_rows.specs.Lent.{row_type};
 ghost use Rattle.aas_store.specs.Documents.{empty};
 
 use crate::laying::lay_out;
-use crate::reading::copy_at;
+use crate::reading::{copy_at, row_at};
 use aas_model::{
-    Collection, Concept, Duplicate, Element, Environment, NoMemory, Patch, Path, Shell, Submodel,
+    Collection, Concept, Duplicate, Element, Environment, NoMemory, Patch, Path, Reference, Shell,
+    Submodel, Text,
 };
 use aas_sheet_rows::{Row, Sheet};
 use aas_store::{Lack, RowView, Shelf, Spot, StepRef, Store};
@@ -147,6 +149,46 @@ impl Store for SheetStore {
     fn row(&self, id: &str, rank: u64) -> Option<RowView<'_>> {
         match self.submodels.get(id) {
             Some(sheet) => sheet.row(rank as usize),
+            None => None,
+        }
+    }
+
+    type Table = Sheet;
+
+    ghost rows = { λ submodel. rows_of_all submodel.kids 1 };
+
+    fn table(&self, id: &str) -> Option<&Sheet> {
+        self.submodels.get(id)
+    }
+
+    fn row_of(table: &Sheet, rank: u64) -> Option<RowView<'_>> {
+        table.row(rank as usize)
+    }
+
+    fn element_count(&self, id: &str) -> Option<u64> {
+        match self.submodels.get(id) {
+            Some(sheet) => Some(sheet.element_count() as u64),
+            None => None,
+        }
+    }
+
+    fn row_at(&self, id: &str, path: &Path) -> Result<RowView<'_>, Lack> {
+        match self.submodels.get(id) {
+            Some(sheet) => row_at(sheet, path),
+            None => Err(Lack::NoSubmodel),
+        }
+    }
+
+    fn has_child(&self, id: &str, path: &Path, id_short: &Text) -> bool {
+        match self.submodels.get(id) {
+            Some(sheet) => sheet.has_child(path, id_short),
+            None => false,
+        }
+    }
+
+    fn first_semantic_id(&self, id: &str, path: &Path) -> Option<&Reference> {
+        match self.submodels.get(id) {
+            Some(sheet) => sheet.first_semantic_id(path),
             None => None,
         }
     }

@@ -271,7 +271,7 @@ size_facts rs ss rank side t lt is =
 
 -- ---- paths
 
-no_steps : (p : List PathStep) → length p ≡ 0 → p ≡ []
+pub no_steps : (p : List PathStep) → length p ≡ 0 → p ≡ []
 no_steps [] e = refl
 no_steps (s ∷ p) e = absurd (omega arith)
 

@@ -1,3 +1,4 @@
+mod Below
 mod Columns
 pub mod Edits
 mod Found

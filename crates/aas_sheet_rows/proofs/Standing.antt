@@ -185,10 +185,10 @@ some_spot rank kind = Some (record { rank = rank; kind = kind })
 abbrev pub spot_of : ℕ → List Element → Child → Spot
 spot_of first ks c = record { rank = first + length (elements_of_all (take c.0 ks)); kind = kind_of c.1 }
 
-no_side : Side
+pub no_side : Side
 no_side = record { id_short = None; level = 0; size = 0 }
 
-own_side : (ss : List Side) (n : ℕ) (d : Side) → get_or ss n d ≡ get_or ss n (get_or ss n d)
+pub own_side : (ss : List Side) (n : ℕ) (d : Side) → get_or ss n d ≡ get_or ss n (get_or ss n d)
 own_side [] n d = refl
 own_side (s ∷ ss) zero d = refl
 own_side (s ∷ ss) (suc n) d = own_side ss n d

@@ -1,5 +1,5 @@
 -- Where elements stand in a table.
-use Rattle.std.specs.Prelude.{◌≡◌, ℕ, ◌+◌, Bool, false, List, [], ◌∷◌, ◌++◌, length, Option, None, if◌then◌else◌}
+use Rattle.std.specs.Prelude.{◌≡◌, ℕ, ◌+◌, Bool, false, List, [], ◌∷◌, ◌++◌, length, Option, Some, None, if◌then◌else◌}
 use Rattle.aas_model.specs.declared.documents.Submodel.{Submodel}
 use Rattle.aas_model.specs.declared.element.Element.{Element}
 use Rattle.aas_model.specs.declared.path.PathStep.{PathStep}
@@ -10,6 +10,7 @@ use Rattle.aas_rows.specs.Edits.{rank_among}
 use Rattle.aas_rows.specs.Rows.{Line, rows_of_all, BeginsRows}
 use Rattle.aas_sheet_index.specs.Sides.{is_below, is_named_below}
 use Rattle.aas_sheet_rows.specs.Table.{lines_of}
+use Rattle.aas_sheet_rows.specs.declared.reading.Span.{Span}
 use Rattle.aas_sheet_rows.specs.declared.row.Row.{Row}
 use Rattle.aas_sheet_index.specs.declared.side.Side.{Side}
 
@@ -26,6 +27,11 @@ pub record Among (rs : List Row) (ss : List Side) (first end k : ℕ) (ks : List
   pub start : length before ≡ first
   pub stop : first + length (rows_of_all ks (k + 1)) ≡ end
   pub higher : BeginsRows (k + 1) behind
+
+-- ks stand, as the children of one, in the rows that are given out, or there are none
+abbrev pub AreBelow : List Row → List Side → List Element → Option Span → Type 0
+AreBelow rs ss ks None = ks ≡ []
+AreBelow rs ss ks (Some b) = Among rs ss b.first b.end b.level ks
 
 -- the rank of what a path leads to
 abbrev pub rank_at : Submodel → List PathStep → Option ℕ

@@ -131,7 +131,8 @@ pub(crate) fn find_among(
     requires table { IsTable rows.now sides.now }
     requires ordered { first ≤ end }
     requires within { end ≤ length sides.now }
-    ensures { (ks : List Element) → Among rows.now sides.now first end level ks → result ≡ option_map (λ r. first + r) (rank_among in_list step.now path.now ks) }
+    ensures value { (ks : List Element) → Among rows.now sides.now first end level ks → result ≡ option_map (λ r. first + r) (rank_among in_list step.now path.now ks) }
+    ensures inside { IfSome result (λ r. r < length sides.now) }
 {
     let Some(rank) = rank_of_step(sides, first, end, level, in_list, step_ref(step)) else {
         return None;

@@ -11,6 +11,7 @@ mod identified;
 mod laws;
 mod laying;
 mod payloads;
+mod reading;
 mod row;
 mod sheet;
 mod tree;

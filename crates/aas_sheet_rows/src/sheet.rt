@@ -1,4 +1,5 @@
-ghost use Rattle.std.specs.Prelude.{◌≡◌, ◌<◌, ◌≤◌, length, slice_get, option_map, unwrap_or, IfOk, IsSome, MatchOption, OnErr, OnOk, Some};
+ghost use Rattle.std.specs.Prelude.{◌≡◌, ◌<◌, ◌≤◌, is_some, length, slice_get, option_map, unwrap_or, IfOk, IsSome, MatchOption, None, OnErr, OnOk, Some};
+ghost use Rattle.std.specs.Option.{option_copied};
 
 use crate::editing::{put_rows, remove_rows};
 use crate::finding::{
@@ -7,8 +8,9 @@ use crate::finding::{
 use crate::growing::grow;
 use crate::laying::lay_all;
 use crate::payloads::put_payloads;
+use crate::reading::{below, first_semantic_id};
 use crate::row::{Kept, Row, row_mut, view};
-use aas_model::{Duplicate, Element, Many, NoMemory, Patch, Path, Role, Submodel};
+use aas_model::{Duplicate, Element, Many, NoMemory, Patch, Path, Reference, Role, Submodel, Text};
 use aas_path::role_within;
 use aas_rows::RowView;
 use aas_sheet_index::Sides;
@@ -47,7 +49,7 @@ impl Model for Sheet {
 impl Sheet {
     ghost use Rattle.std.specs.Borrow.{LendsIf, sem};
     ghost use Rattle.aas_path_trees.specs.Edits.{inserted, removed, replaced, role_at};
-    ghost use Rattle.aas_path_trees.specs.ElementAt.{depth_found, element_at};
+    ghost use Rattle.aas_path_trees.specs.ElementAt.{depth_found, element_at, place_named};
     ghost use Rattle.aas_rows.specs.Rows.{rows_of_all};
     ghost use Rattle.aas_rows.specs.Views.{line_of};
     ghost use Rattle.aas_sheet_rows.specs.Changed.{with_row, IsRow};
@@ -55,6 +57,7 @@ impl Sheet {
     ghost use Rattle.aas_sheet_rows.specs.Lent.{sheet_type, row_type};
     ghost use Rattle.aas_store.specs.Documents.{without_children};
     ghost use Rattle.aas_store.specs.Edited.{FitsAt, patched_at};
+    ghost use Rattle.aas_store.specs.Reads.{IsRowOf, children_at, first_semantic_id};
     ghost use Rattle.aas_store.specs.Spots.{elements_of_all, spot_below, step_of};
     ghost use Rattle.aas_store.specs.Storable.{element_count};
 
@@ -141,6 +144,48 @@ impl Sheet {
         };
         let rows = self.rows.as_slice();
         depth_among(rows, &self.sides, 0, self.sides.len(), 0, false, step, rest)
+    }
+
+    /// The row of the element to which the path leads.
+    pub fn row_at(&self, path: &Path) -> Option<RowView<'_>>
+        ensures { MatchOption result (element_at self.now path.now.steps ≡ None) (λ row. MatchOption (element_at self.now path.now.steps) ⊥ (λ e. IsRowOf e row)) }
+    {
+        match self.find(path) {
+            Some(rank) => self.row(rank),
+            None => None,
+        }
+    }
+
+    /// How many elements there are, at all levels.
+    pub fn element_count(&self) -> usize
+        ensures { result ≡ element_count self.now }
+    {
+        self.sides.len()
+    }
+
+    /// Whether what is at the path, the submodel itself at the empty path, has a child of the idShort.
+    pub fn has_child(&self, path: &Path, id_short: &Text) -> bool
+        ensures { result ≡ is_some (place_named id_short.now (children_at self.now path.now.steps)) }
+    {
+        let rows = self.rows.as_slice();
+        let Some(found) = below(rows, &self.sides, path) else {
+            return false;
+        };
+        let name = StepRef::Name(id_short.as_str());
+        let (first, end) = (found.first, found.end);
+        child_among(rows, &self.sides, first, end, found.level, false, name).is_some()
+    }
+
+    /// The first semanticId among the children of what is at the path, the submodel itself at the empty path.
+    pub fn first_semantic_id(&self, path: &Path) -> Option<&Reference>
+        ensures { option_copied result ≡ first_semantic_id (children_at self.now path.now.steps) }
+    {
+        let rows = self.rows.as_slice();
+        let sides = self.sides.as_slice();
+        match below(rows, &self.sides, path) {
+            Some(found) => first_semantic_id(rows, sides, found.first, found.end),
+            None => None,
+        }
     }
 
     /// A copy of the element to which the path leads, with all below it.

@@ -34,6 +34,7 @@ use Rattle.aas_value.specs.ValueForm.{value_form}
 use Rattle.aas_value_update.specs.Shape.{first_misshapen}
 use Rattle.aas_value_update.specs.Update.{valued_at}
 use Rattle.aas_store.specs.Documents.{Documents, has}
+use Rattle.aas_store.specs.Reads.{children_at}
 use Rattle.aas_store.specs.Storable.{element_count}
 
 -- a refusal, where it applies
@@ -106,10 +107,6 @@ is_lost s p = unless (leads s p) (NotFound (absent.Element (record { steps = tak
 abbrev pub is_container : Submodel → List PathStep → Bool
 is_container s [] = true
 is_container s (step ∷ p) = option_map_or (λ o. is_some (role_within (out-Element o).payload)) (element_at s (step ∷ p)) false
-
-abbrev pub children_at : Submodel → List PathStep → List Element
-children_at s [] = s.kids
-children_at s (step ∷ p) = option_map_or kids_of (element_at s (step ∷ p)) []
 
 -- one of the elements has this idShort
 abbrev pub is_named_among : Option (List ℕ) → List Element → Bool

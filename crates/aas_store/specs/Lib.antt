@@ -5,6 +5,7 @@ pub mod Merged
 pub mod Overlay
 pub mod Places
 pub mod Ranked
+pub mod Reads
 pub mod Shelf
 pub mod Spots
 pub mod Storable

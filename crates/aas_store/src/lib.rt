@@ -10,6 +10,7 @@ mod elements;
 mod lack;
 mod merging;
 mod overlay;
+mod reads;
 mod rows;
 mod shelf;
 mod spot;

@@ -9,7 +9,7 @@ use aas_model::{Element, Submodel};
 use aas_rows::RowView;
 
 /// The row of an element that stands at the level.
-fn row_of(element: &Element, level: u32) -> RowView<'_>
+pub(crate) fn row_of(element: &Element, level: u32) -> RowView<'_>
     ensures { line_of result ≡ line_at level element.now }
 {
     let id_short = match &element.common.id_short {

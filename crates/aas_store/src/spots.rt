@@ -24,9 +24,10 @@ fn behind(element: &Element, rank: u64) -> Option<u64>
     behind_all(element.kids.as_slice(), rank + 1)
 }
 
+/// The rank behind elements and all below them, the first of which has a rank.
 #[cycle(behind)]
 #[tactic(auto, using(crate::proofs::Listed::size_out, crate::proofs::Listed::size_next, crate::proofs::Listed::size_none))]
-fn behind_all(kids: &[Element], first: u64) -> Option<u64>
+pub(crate) fn behind_all(kids: &[Element], first: u64) -> Option<u64>
     ensures { MatchOption result (65536 < first + length (elements_of_all kids.now)) (λ next. next ≡ first + length (elements_of_all kids.now)) }
 {
     let mut rank = first;

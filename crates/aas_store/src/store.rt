@@ -1,22 +1,24 @@
-ghost use Rattle.std.specs.Prelude.{◌≡◌, ◌↔◌, ◌≤◌, true, Some, None, All, Err, IfOk, IfSome, IsSome, OnErr, OnOk};
+ghost use Rattle.std.specs.Prelude.{◌≡◌, ◌↔◌, ◌≤◌, true, false, List, Some, None, All, Err, IfOk, IfSome, IsSome, MatchOption, OnErr, OnOk, is_some};
 ghost use Rattle.std.specs.Prelude.{length, option_and_then, option_map, slice_get};
 ghost use Rattle.std.specs.FinMap as map;
-ghost use Rattle.std.specs.Option.{option_copied};
+ghost use Rattle.std.specs.Option.{option_copied, option_map_or};
 ghost use Rattle.aas_model.specs.declared.path.Missing.{Missing};
 ghost use Rattle.aas_path_trees.specs.Edits.{inserted, removed, replaced, role_at};
-ghost use Rattle.aas_path_trees.specs.ElementAt.{element_at};
-ghost use Rattle.aas_rows.specs.Rows.{rows_of_all};
+ghost use Rattle.aas_path_trees.specs.ElementAt.{element_at, place_named};
+ghost use Rattle.aas_rows.specs.Rows.{Line, rows_of_all};
 ghost use Rattle.aas_rows.specs.Views.{line_of};
 ghost use Rattle.aas_store.specs.Documents.{Documents, count, first_above, has, ids, without_children};
 ghost use Rattle.aas_store.specs.Documents.{with_all, with_concept, with_shell, with_submodel, without};
 ghost use Rattle.aas_store.specs.Edited.{CanReplace, FitsAt, Holds, LeadsNowhere, patched_at, with_changed};
+ghost use Rattle.aas_store.specs.Reads.{IsRowOf, children_at, first_semantic_id};
 ghost use Rattle.aas_store.specs.Spots.{spot_below, step_of};
 ghost use Rattle.aas_store.specs.Storable.{IsStorable, element_count};
 
 use crate::lack::Lack;
 use crate::spot::{Spot, StepRef};
 use aas_model::{
-    Collection, Concept, Element, Environment, NoMemory, Patch, Path, Shell, Submodel,
+    Collection, Concept, Element, Environment, NoMemory, Patch, Path, Reference, Shell, Submodel,
+    Text,
 };
 use aas_rows::RowView;
 
@@ -84,6 +86,43 @@ pub trait Store {
     fn row(&self, id: &str, rank: u64) -> Option<RowView<'_>>
         requires { IfSome (map.get (documents self.now).submodels id.now) (λ s. element_count s ≤ 65536) }
         ensures { option_map line_of result ≡ option_and_then (λ s. slice_get (rows_of_all s.kids 1) rank) (map.get (documents self.now).submodels id.now) };
+
+    /// A submodel as it is stored.
+    type Table;
+
+    /// The rows of its elements.
+    ghost rows: { Self.Table → List Line };
+
+    /// The stored submodel of the identifier.
+    fn table(&self, id: &str) -> Option<&Self::Table>
+        ensures { MatchOption result (map.get (documents self.now).submodels id.now ≡ None)
+            (λ table. Holds (documents self.now) id.now (λ s. rows table.now ≡ rows_of_all s.kids 1)) };
+
+    /// The row of the rank in a stored submodel, or `None` past the end. That there are at most 65,536 bounds the levels.
+    fn row_of(table: &Self::Table, rank: u64) -> Option<RowView<'_>>
+        requires { length (rows table.now) ≤ 65536 }
+        ensures { option_map line_of result ≡ slice_get (rows table.now) rank };
+
+    /// How many elements the submodel of the identifier has, at all levels. That these are at most 65,536 bounds the count.
+    fn element_count(&self, id: &str) -> Option<u64>
+        requires { IfSome (map.get (documents self.now).submodels id.now) (λ s. element_count s ≤ 65536) }
+        ensures { result ≡ option_map element_count (map.get (documents self.now).submodels id.now) };
+
+    /// The row of the element to which the path leads in the submodel of the identifier; the empty path leads to none.
+    fn row_at(&self, id: &str, path: &Path) -> Result<RowView<'_>, Lack>
+        requires { IfSome (map.get (documents self.now).submodels id.now) (λ s. element_count s ≤ 65536) }
+        ensures found { IfOk result (λ row. Holds (documents self.now) id.now (λ s. MatchOption (element_at s path.now.steps) ⊥ (λ e. IsRowOf e row))) }
+        ensures no_submodel { (result ≡ Err Lack.NoSubmodel) ↔ (map.get (documents self.now).submodels id.now ≡ None) }
+        ensures no_element { (m : Missing) → (result ≡ Err (Lack.NoElement m)) ↔ Holds (documents self.now) id.now (λ s. LeadsNowhere s path.now.steps m) };
+
+    /// Whether what is at the path in the submodel of the identifier, the submodel itself at the empty path, has a child of
+    /// the idShort.
+    fn has_child(&self, id: &str, path: &Path, id_short: &Text) -> bool
+        ensures { result ≡ option_map_or (λ s. is_some (place_named id_short.now (children_at s path.now.steps))) (map.get (documents self.now).submodels id.now) false };
+
+    /// The first semanticId among the children of what is at the path in the submodel of the identifier.
+    fn first_semantic_id(&self, id: &str, path: &Path) -> Option<&Reference>
+        ensures { option_copied result ≡ option_and_then (λ s. first_semantic_id (children_at s path.now.steps)) (map.get (documents self.now).submodels id.now) };
 
     /// Puts the shell under its identifier, in the place of one that is there.
     fn put_shell(&mut self, shell: Shell) -> Result<(), NoMemory>

@@ -1,17 +1,20 @@
 ghost use Rattle.std.specs.Prelude.{◌≡◌};
+ghost use Rattle.aas_rows.specs.Rows.{rows_of_all};
 ghost use Rattle.aas_store.specs.Documents.{empty};
 ghost use Rattle.aas_store.specs.TreeStore.{documents};
 
 use crate::elements::{copy_at, copy_child, insert_at, patch_at, remove_at, replace_at};
 use crate::lack::Lack;
-use crate::rows::row_at;
 use crate::shelf::Shelf;
 use crate::spot::{Spot, StepRef};
 use crate::spots::spot_below;
 use crate::store::Store;
+use crate::{reads, rows};
 use aas_model::{
-    Collection, Concept, Duplicate, Element, Environment, NoMemory, Patch, Path, Shell, Submodel,
+    Collection, Concept, Duplicate, Element, Environment, NoMemory, Patch, Path, Reference, Shell,
+    Submodel, Text,
 };
+use aas_path::place_named;
 use aas_rows::RowView;
 use std::alloc::Global;
 
@@ -19,8 +22,8 @@ use std::alloc::Global;
 ///
 /// A look-up costs the logarithm of the collection's size. A put and a delete also move 32 bytes for each document
 /// behind the one that they meet; `put_all` moves each document once for all that it puts in. A step of a path by name
-/// costs the siblings that it passes, `child` and `row` the elements before the one that they look for. Only puts, `insert_element`
-/// and copies take memory.
+/// costs the siblings that it passes, `child`, `row` and `row_of` the elements before the one that they look for, and
+/// `element_count` all. Only puts, `insert_element` and copies take memory.
 #[derive(Drop)]
 pub struct TreeStore {
     shells: Shelf<Shell>,
@@ -118,7 +121,47 @@ impl Store for TreeStore {
 
     fn row(&self, id: &str, rank: u64) -> Option<RowView<'_>> {
         match self.submodels.get(id) {
-            Some(submodel) => row_at(submodel, rank),
+            Some(submodel) => rows::row_at(submodel, rank),
+            None => None,
+        }
+    }
+
+    type Table = Submodel;
+
+    ghost rows = { λ submodel. rows_of_all submodel.kids 1 };
+
+    fn table(&self, id: &str) -> Option<&Submodel> {
+        self.submodels.get(id)
+    }
+
+    fn row_of(table: &Submodel, rank: u64) -> Option<RowView<'_>> {
+        rows::row_at(table, rank)
+    }
+
+    fn element_count(&self, id: &str) -> Option<u64> {
+        match self.submodels.get(id) {
+            Some(submodel) => reads::element_count(submodel),
+            None => None,
+        }
+    }
+
+    fn row_at(&self, id: &str, path: &Path) -> Result<RowView<'_>, Lack> {
+        match self.submodels.get(id) {
+            Some(submodel) => reads::row_at(submodel, path),
+            None => Err(Lack::NoSubmodel),
+        }
+    }
+
+    fn has_child(&self, id: &str, path: &Path, id_short: &Text) -> bool {
+        match self.submodels.get(id) {
+            Some(submodel) => place_named(reads::children_at(submodel, path), id_short).is_some(),
+            None => false,
+        }
+    }
+
+    fn first_semantic_id(&self, id: &str, path: &Path) -> Option<&Reference> {
+        match self.submodels.get(id) {
+            Some(submodel) => reads::first_semantic_id(reads::children_at(submodel, path)),
             None => None,
         }
     }

@@ -1,11 +1,13 @@
 use Rattle.std.proofs.Common.{◌∙◌, Ok, Err, Some, sym}
 use Rattle.aas_sheet.proofs.Walked.{is_not_missing, leads_nowhere}
+use Rattle.aas_sheet_rows.proofs.Edits.{no_element}
 use Rattle.aas_sheet_rows.proofs.Standing.{element_of_path}
 use Rattle.aas_store.specs.declared.lack.Lack.TheVariants.{NoMemory}
 use Rattle.aas_sheet.proofs.reading.copy_at.Goals as goal
 
 pub returns-in_default-clause-no_element : goal.returns-in_default-clause-no_element
-returns-in_default-clause-no_element c = λ m. leads_nowhere c.args.sheet.now c.args.path.now.steps c.depth-steps.result m c.in_default.ensures c.depth-steps.ensures
+returns-in_default-clause-no_element c =
+    λ m. leads_nowhere c.args.sheet.now c.args.path.now.steps c.depth-steps.result m (no_element c.args.sheet.now c.args.path.now.steps c.in_default.ensures) c.depth-steps.ensures
 
 pub returns-in-Ok-Some-clause-found : goal.returns-in-Ok-Some-clause-found
 returns-in-Ok-Some-clause-found c =

@@ -8,21 +8,21 @@ use Rattle.aas_sheet_index.specs.declared.side.Side.{Side}
 use Rattle.aas_sheet_rows.proofs.Found.{Stood, stepped, stood, path_ends, path_goes_on, path_lost}
 use Rattle.aas_sheet_rows.proofs.finding.+find_among.Goals as goal
 
-pub returns-in_default : goal.returns-in_default
-returns-in_default t c = λ ks a.
+pub returns-in_default-clause-value : goal.returns-in_default-clause-value
+returns-in_default-clause-value t c = λ ks a.
     let ss : List Side = c.args.sides.now in
     (path_lost c.args.rows.now ss c.args.first c.args.end c.args.level ks c.args.in_list c.args.step.now c.args.path.now c.requires.table a
     (c.in_default.ensures.value ∙ ap (λ s. option_map (λ i. c.args.first + i) (side_of_step c.args.in_list s c.args.level (take (c.args.end - c.args.first) (drop c.args.first ss)))) c.step_ref.ensures)).0
 
-pub returns-in-None : goal.returns-in-None
-returns-in-None t c = λ ks a.
+pub returns-in-None-clause-value : goal.returns-in-None-clause-value
+returns-in-None-clause-value t c = λ ks a.
     let ss : List Side = c.args.sides.now in
     (path_ends c.args.rows.now ss c.args.first c.args.level c.in-Some.rank ks c.args.in_list c.args.step.now c.args.path.now c.in-None.ensures.cases
     (stepped c.args.rows.now ss c.args.first c.args.end c.args.level c.in-Some.rank ks c.args.in_list c.args.step.now c.requires.table a
     (c.in-Some.ensures.value ∙ ap (λ s. option_map (λ i. c.args.first + i) (side_of_step c.args.in_list s c.args.level (take (c.args.end - c.args.first) (drop c.args.first ss)))) c.step_ref.ensures))).0
 
-pub returns-in-Some-split_first : goal.returns-in-Some-split_first
-returns-in-Some-split_first t c = λ ks a.
+pub returns-in-Some-split_first-clause-value : goal.returns-in-Some-split_first-clause-value
+returns-in-Some-split_first-clause-value t c = λ ks a.
     let rank : ℕ = c.in-Some.rank in
     let rs : List Row = c.args.rows.now in
     let ss : List Side = c.args.sides.now in
@@ -37,6 +37,6 @@ returns-in-Some-split_first t c = λ ks a.
     let own : Stood rs ss rank c.rank_behind-end.result st.child.1 row side =
     stood rs ss (c.args.level + 1) rank c.rank_behind-end.result st.child.1 row side c.requires.table st.stands inside (ap (get_or rs rank) c.index-rows-rank.is) (ap (get_or all rank) c.index-all-rank.is ∙ ap (λ (ss : List Side). get_or ss rank side) same)
     size c.rank_behind-end.ensures.above in
-    c.find_among.ensures (kids_of st.child.1) own.kids
+    c.find_among.ensures.value (kids_of st.child.1) own.kids
     ∙ ap (λ b. option_map (λ r. rank + 1 + r) (rank_among b c.in-Some-split_first.next.now c.in-Some-split_first.rest.now (kids_of st.child.1))) (c.is_list-in_list.ensures ∙ ap (λ (r : Row). is_list_payload r.payload) (c.get.ensures ∙ c.index-rows-rank.is) ∙ own.in_list)
     ∙ (path_goes_on rs ss c.args.first c.args.level rank ks c.args.in_list c.args.step.now c.in-Some-split_first.next.now c.args.path.now c.in-Some-split_first.rest.now c.in-Some-split_first.ensures.cases.0 st).0

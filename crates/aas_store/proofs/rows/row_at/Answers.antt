@@ -1,4 +1,4 @@
-use Rattle.std.proofs.Common.{◌∙◌, sym, ap, arith, length}
+use Rattle.std.proofs.Common.{sym, ap, arith, length}
 use Rattle.std.proofs.lemmas.Option.{slice_get_past}
 use Rattle.aas_rows.proofs.Edited.{count_at}
 use Rattle.aas_rows.specs.Rows.{rows_of_all}

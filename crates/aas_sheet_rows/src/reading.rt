@@ -1,0 +1,66 @@
+// The rows below what is at a path, and what they say.
+ghost use Rattle.std.specs.Prelude.{◌≡◌, ℕ, ◌≤◌, List, length};
+ghost use Rattle.std.specs.Option.{option_copied, IfSome};
+ghost use Rattle.aas_model.specs.declared.documents.Submodel.{Submodel};
+ghost use Rattle.aas_model.specs.declared.element.Element.{Element};
+ghost use Rattle.aas_sheet_rows.specs.Found.{Among, AreBelow};
+ghost use Rattle.aas_sheet_rows.specs.Table.{IsTable};
+ghost use Rattle.aas_store.specs.Reads.{children_at, first_semantic_id};
+
+use crate::finding::{find_among, rank_behind};
+use crate::row::Kept;
+use aas_model::{Path, Reference};
+use aas_sheet_index::{Side, Sides};
+
+/// Rows from `first` to `end`, which stand below one of a level.
+#[derive(Clone, Copy)]
+pub(crate) struct Span {
+    pub(crate) first: usize,
+    pub(crate) end: usize,
+    pub(crate) level: u32,
+}
+
+/// The rows below what is at the path, all rows at the empty path.
+pub(crate) fn below(rows: &[Kept], sides: &Sides, path: &Path) -> Option<Span>
+    requires { IsTable rows.now sides.now }
+    ensures rows { (s : Submodel) → Among rows.now sides.now 0 (length sides.now) 0 s.kids → AreBelow rows.now sides.now (children_at s path.now.steps) result }
+    ensures ordered { IfSome result (λ b. b.first ≤ b.end) }
+    ensures inside { IfSome result (λ b. b.end ≤ length sides.now) }
+{
+    let Some((step, rest)) = path.steps.as_slice().split_first() else {
+        return Some(Span {
+            first: 0,
+            end: sides.len(),
+            level: 0,
+        });
+    };
+    let rank = find_among(rows, sides, 0, sides.len(), 0, false, step, rest)?;
+    let all = sides.as_slice();
+    let end = rank_behind(rows, all, rank);
+    Some(Span {
+        first: rank + 1,
+        end,
+        level: all[rank].level,
+    })
+}
+
+/// The first semanticId of the elements that stand, as siblings, in the rows from `first` to `end`.
+pub(crate) fn first_semantic_id<'a>(
+    rows: &'a [Kept],
+    sides: &[Side],
+    first: usize,
+    end: usize,
+) -> Option<&'a Reference>
+    requires table { IsTable rows.now sides.now }
+    requires within { end ≤ length sides.now }
+    ensures { (k : ℕ) (ks : List Element) → Among rows.now sides.now first end k ks → option_copied result ≡ first_semantic_id ks }
+{
+    let mut rank = first;
+    while rank < end {
+        match &rows[rank].get().common.semantics.semantic_id {
+            Some(reference) => return Some(reference),
+            None => rank = rank_behind(rows, sides, rank),
+        }
+    }
+    None
+}

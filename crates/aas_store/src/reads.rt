@@ -1,0 +1,66 @@
+// What is read of a submodel before an edit.
+ghost use Rattle.std.specs.Prelude.{◌≡◌, ◌≢◌, ◌↔◌, ◌≤◌, Err, IfOk, MatchOption, Some};
+ghost use Rattle.std.specs.Option.{option_copied};
+ghost use Rattle.aas_model.specs.declared.path.Missing.{Missing};
+ghost use Rattle.aas_path_trees.specs.ElementAt.{element_at};
+ghost use Rattle.aas_store.specs.Edited.{LeadsNowhere};
+ghost use Rattle.aas_store.specs.Reads.{IsRowOf, children_at, first_semantic_id};
+ghost use Rattle.aas_store.specs.Storable.{element_count};
+
+use crate::lack::Lack;
+use crate::rows::row_of;
+use crate::spots::{MOST, behind_all};
+use aas_model::{Element, Missing, Path, Reference, Submodel};
+use aas_path::at;
+use aas_rows::RowView;
+
+/// How many elements the submodel has, at all levels.
+pub(crate) fn element_count(submodel: &Submodel) -> Option<u64>
+    requires { element_count submodel.now ≤ 65536 }
+    ensures { result ≡ Some (element_count submodel.now) }
+{
+    behind_all(submodel.kids.as_slice(), 0)
+}
+
+/// The row of the element at the path.
+pub(crate) fn row_at<'a>(submodel: &'a Submodel, path: &Path) -> Result<RowView<'a>, Lack>
+    ensures found { IfOk result (λ row. MatchOption (element_at submodel.now path.now.steps) ⊥ (λ e. IsRowOf e row)) }
+    ensures there { result ≢ Err Lack.NoSubmodel }
+    ensures no_element { (m : Missing) → (result ≡ Err (Lack.NoElement m)) ↔ LeadsNowhere submodel.now path.now.steps m }
+{
+    if path.steps.is_empty() {
+        return Err(Lack::NoElement(Missing { steps: 0 }));
+    }
+    match at(submodel, path) {
+        Ok(element) => {
+            let level = (path.steps.len() as u64).min(MOST) as u32;
+            Ok(row_of(element, level))
+        }
+        Err(missing) => Err(Lack::NoElement(missing)),
+    }
+}
+
+/// The children of what is at the path, the submodel's own at the empty path.
+pub(crate) fn children_at<'a>(submodel: &'a Submodel, path: &Path) -> &'a [Element]
+    ensures { result.now ≡ children_at submodel.now path.now.steps }
+{
+    if path.steps.is_empty() {
+        return submodel.kids.as_slice();
+    }
+    match at(submodel, path) {
+        Ok(element) => element.kids.as_slice(),
+        Err(_) => &[],
+    }
+}
+
+/// The first semanticId of the elements.
+pub(crate) fn first_semantic_id(kids: &[Element]) -> Option<&Reference>
+    ensures { option_copied result ≡ first_semantic_id kids.now }
+{
+    for kid in kids {
+        if let Some(reference) = &kid.common.semantics.semantic_id {
+            return Some(reference);
+        }
+    }
+    None
+}
