@@ -3,5 +3,4 @@ mod Awaiting
 pub mod FirstLaws
 mod Firsts
 mod Lengths
-mod Texts
 mod Values

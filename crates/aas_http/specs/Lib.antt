@@ -2,7 +2,6 @@ pub mod BodyLength
 pub mod Close
 pub mod FirstRequest
 pub mod Found
-pub mod Gathering
 pub mod Head
 pub mod Laws
 pub mod NotImplemented

@@ -1,5 +1,5 @@
 -- The text of a reply. HTTP/1.1 (RFC 9112), in the form of this profile.
-use Rattle.std.specs.Prelude.{◌==◌, ℕ, Bool, List, [], ◌++◌, length, decimal, codes, if◌then◌else◌, Option, Some, None, unwrap_or}
+use Rattle.std.specs.Prelude.{◌==◌, ◌+◌, ℕ, Bool, List, [], ◌++◌, length, decimal, codes, if◌then◌else◌, Option, Some, None, unwrap_or}
 use Rattle.std.specs.Str.{encode_utf8_all}
 use Rattle.aas_http.specs.declared.replies.Reply.{Reply}
 
@@ -25,10 +25,10 @@ crlf = codes "\r\n"
 abbrev pub status_line : ℕ → List ℕ
 status_line status = codes "HTTP/1.1 " ++ decimal status ++ codes " " ++ unwrap_or (phrase status) [] ++ crlf
 
--- none on 204, which has no body
-abbrev pub content_fields : ℕ → List ℕ → List ℕ
-content_fields status body =
-    if status == 204 then [] else codes "Content-Type: application/json\r\nContent-Length: " ++ decimal (length body) ++ crlf
+-- the length is that of the body and of what follows it; none on 204, which has no body
+abbrev pub content_fields : ℕ → List ℕ → ℕ → List ℕ
+content_fields status body later =
+    if status == 204 then [] else codes "Content-Type: application/json\r\nContent-Length: " ++ decimal (length body + later) ++ crlf
 
 -- the methods, on 405
 abbrev pub allow_field : ℕ → List ℕ → List ℕ
@@ -43,5 +43,5 @@ body_bytes status body = if status == 204 then [] else body
 -- the status line, the fields, an empty line and the body
 unfoldable pub reply_text : Reply → List ℕ
 reply_text reply =
-    status_line reply.status ++ content_fields reply.status reply.body ++ allow_field reply.status reply.allow
+    status_line reply.status ++ content_fields reply.status reply.body reply.later ++ allow_field reply.status reply.allow
     ++ connection_field reply.close ++ crlf ++ body_bytes reply.status reply.body

@@ -5,7 +5,6 @@
 #![tactic(auto)]
 
 mod fields;
-mod gathering;
 mod laws;
 mod length;
 mod replies;
@@ -16,7 +15,7 @@ pub use laws::{begins_with_one, ends_unfinished, fits_limits};
 pub use length::whole_length;
 pub use replies::Reply;
 pub use request::{Request, Step, is_blank, next_request};
-pub use send::reply;
+pub use send::{put_reply, reply};
 
 #[cfg(test)]
 mod tests;

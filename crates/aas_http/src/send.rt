@@ -1,77 +1,111 @@
 // Replies given to a link.
-ghost use Rattle.std.specs.Prelude.{◌≡◌, [], IsSome, unwrap_or, if◌then◌else◌, OnOk, OnErr};
+ghost use Rattle.std.specs.Prelude.{◌≡◌, [], unwrap_or, OnOk, OnErr};
 ghost use Rattle.std.specs.Io.KnownBytes.{append_known};
-ghost use Rattle.aas_http.specs.Gathering.{Adds};
-ghost use Rattle.aas_http.specs.ReplyText.{phrase, reply_text};
+ghost use Rattle.aas_http.specs.ReplyText.{phrase, status_line, content_fields, allow_field, connection_field, body_bytes, reply_text};
+ghost use Rattle.aas_out.specs.Adds.{Adds};
 ghost use Rattle.aas_outside.specs.Faults.{HasCause};
 ghost use Rattle.aas_outside.specs.Link.{GivesFront};
 
 use crate::Reply;
-use crate::gathering::Gathering;
+use aas_out::{Out, Pour, Pouring, add, give_poured};
 use aas_outside::{Failed, Link};
 use itoa::Buffer;
 
-/// Gives the text of a reply, up to 4,096 bytes of it at once. Where the link fails a front of the
-/// text was given. The status is one of those with a phrase. It takes no memory.
+/// Gives the text of a reply, up to 8,192 bytes of it at once. Where the link fails a front of the
+/// text was given. It takes no memory.
 pub fn reply<L: Link>(reply: &Reply, link: &mut L) -> Result<(), Failed>
-    requires { IsSome (phrase reply.now.status) }
     ensures given { OnOk result (L.sent link.new ≡ append_known (L.sent link.old) (reply_text reply.now)) }
     ensures front { OnErr result (GivesFront (L.sent link.old) (L.sent link.new) (reply_text reply.now)) }
     ensures surroundings { L.surroundings link.new ≡ L.surroundings link.old }
     ensures left { L.left link.new ≡ L.left link.old }
     ensures cause { HasCause (L.faults link.old) (L.faults link.new) result }
 {
-    let mut text = Gathering::new();
-    put_reply(&mut text, link, reply);
-    text.finish(link)
+    give_poured(reply, link)
 }
 
-/// Adds the text of a reply.
-fn put_reply<L: Link>(text: &mut Gathering, link: &mut L, reply: &Reply)
-    requires { IsSome (phrase reply.now.status) }
-    ensures adds { Adds text.old text.new (L.sent link.old) (L.sent link.new) (L.faults link.old) (L.faults link.new) (reply_text reply.now) }
-    ensures surroundings { L.surroundings link.new ≡ L.surroundings link.old }
-    ensures left { L.left link.new ≡ L.left link.old }
-{
-    let mut status = Buffer::new();
-    let mut size = Buffer::new();
-    let has_body = reply.status != 204;
-    let has_allow = reply.status == 405;
-    text.put(link, b"HTTP/1.1 ");
-    text.put(link, status.format(reply.status).as_bytes());
-    text.put(link, b" ");
-    text.put(link, phrase(reply.status));
-    text.put(link, b"\r\n");
-    text.put(
-        link,
-        when(
-            has_body,
-            b"Content-Type: application/json\r\nContent-Length: ",
-        ),
-    );
-    text.put(
-        link,
-        when(has_body, size.format(reply.body.len()).as_bytes()),
-    );
-    text.put(link, when(has_body, b"\r\n"));
-    text.put(link, when(has_allow, b"Allow: "));
-    text.put(link, when(has_allow, reply.allow.as_str().as_bytes()));
-    text.put(link, when(has_allow, b"\r\n"));
-    text.put(link, when(reply.close, b"Connection: close\r\n"));
-    text.put(link, b"\r\n");
-    text.put(link, when(has_body, reply.body.as_slice()));
+impl Pour for Reply {
+    ghost text = { reply_text };
+
+    fn pour<O: Out>(&self, out: &mut O) -> Result<(), Failed> {
+        put_reply(Pouring::Going, self, out).outcome()
+    }
 }
 
-/// The bytes, or none.
-fn when<'a>(holds: bool, bytes: &'a [u8]) -> &'a [u8]
-    ensures { result.now ≡ (if holds then bytes.now else []) }
+/// Puts the text of a reply where the pouring goes on. Of an unknown status the phrase is empty.
+pub fn put_reply<O: Out>(so_far: Pouring, reply: &Reply, out: &mut O) -> Pouring
+    ensures { Adds so_far result (O.told out.old) (O.told out.new) (reply_text reply.now) }
 {
-    if holds { bytes } else { b"" }
+    let begun = put_status_line(so_far, reply.status, out);
+    let described = put_content_fields(begun, reply, out);
+    let allowing = put_allow_field(described, reply, out);
+    let whole_head = put_connection_field(allowing, reply.close, out);
+    let ended = add(whole_head, b"\r\n", out);
+    put_body(ended, reply, out)
+}
+
+fn put_status_line<O: Out>(so_far: Pouring, status: u16, out: &mut O) -> Pouring
+    ensures { Adds so_far result (O.told out.old) (O.told out.new) (status_line status) }
+{
+    let mut digits = Buffer::new();
+    let version = add(so_far, b"HTTP/1.1 ", out);
+    let number = add(version, digits.format(status).as_bytes(), out);
+    let space = add(number, b" ", out);
+    let named = add(space, phrase(status), out);
+    add(named, b"\r\n", out)
+}
+
+#[tactic(auto, using(crate::proofs::Adding::adds_none))]
+fn put_content_fields<O: Out>(so_far: Pouring, reply: &Reply, out: &mut O) -> Pouring
+    ensures { Adds so_far result (O.told out.old) (O.told out.new) (content_fields reply.now.status reply.now.body reply.now.later) }
+{
+    if reply.status == 204 {
+        return so_far;
+    }
+    let mut digits = Buffer::new();
+    let size = reply.body.len() as u128 + reply.later as u128;
+    let names = b"Content-Type: application/json\r\nContent-Length: ";
+    let named = add(so_far, names, out);
+    let sized = add(named, digits.format(size).as_bytes(), out);
+    add(sized, b"\r\n", out)
+}
+
+#[tactic(auto, using(crate::proofs::Adding::adds_none))]
+fn put_allow_field<O: Out>(so_far: Pouring, reply: &Reply, out: &mut O) -> Pouring
+    ensures { Adds so_far result (O.told out.old) (O.told out.new) (allow_field reply.now.status reply.now.allow) }
+{
+    if reply.status == 405 {
+        let named = add(so_far, b"Allow: ", out);
+        let listed = add(named, reply.allow.as_str().as_bytes(), out);
+        add(listed, b"\r\n", out)
+    } else {
+        so_far
+    }
+}
+
+#[tactic(auto, using(crate::proofs::Adding::adds_none))]
+fn put_connection_field<O: Out>(so_far: Pouring, close: bool, out: &mut O) -> Pouring
+    ensures { Adds so_far result (O.told out.old) (O.told out.new) (connection_field close) }
+{
+    if close {
+        add(so_far, b"Connection: close\r\n", out)
+    } else {
+        so_far
+    }
+}
+
+#[tactic(auto, using(crate::proofs::Adding::adds_none))]
+fn put_body<O: Out>(so_far: Pouring, reply: &Reply, out: &mut O) -> Pouring
+    ensures { Adds so_far result (O.told out.old) (O.told out.new) (body_bytes reply.now.status reply.now.body) }
+{
+    if reply.status == 204 {
+        so_far
+    } else {
+        add(so_far, reply.body.as_slice(), out)
+    }
 }
 
 /// The phrase of a status.
 fn phrase(status: u16) -> &'static [u8]
-    requires { IsSome (phrase status) }
     ensures { result.now ≡ unwrap_or (phrase status) [] }
 {
     match status {
@@ -86,6 +120,7 @@ fn phrase(status: u16) -> &'static [u8]
         500 => b"Internal Server Error",
         501 => b"Not Implemented",
         503 => b"Service Unavailable",
-        _ => b"Insufficient Storage",
+        507 => b"Insufficient Storage",
+        _ => b"",
     }
 }

@@ -39,6 +39,7 @@ fn a_reply(rt: HostRuntime) -> Result<(), Fail> {
     let not_allowed = Reply {
         status: 405,
         body,
+        later: 0,
         allow,
         close: true,
     };

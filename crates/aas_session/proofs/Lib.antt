@@ -3,4 +3,5 @@ mod Progress
 mod Receiving
 mod SoFar
 mod Turns
+mod WholeReplies
 mod Windows

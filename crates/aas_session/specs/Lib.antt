@@ -5,3 +5,4 @@ pub mod Refusals
 pub mod Served
 pub mod Session
 pub mod Steps
+pub mod WholeReply

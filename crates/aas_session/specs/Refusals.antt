@@ -9,7 +9,7 @@ message_body code text =
     codes "{\"messages\":[{\"code\":\"" ++ decimal code ++ codes "\",\"messageType\":\"Error\",\"text\":\"" ++ text ++ codes "\"}]}"
 
 abbrev pub closing_refusal : (status code : ℕ) → List ℕ → Reply
-closing_refusal status code text = record { status = status; body = message_body code text; allow = []; close = true }
+closing_refusal status code text = record { status = status; body = message_body code text; later = 0; allow = []; close = true }
 
 unfoldable pub out_of_memory : List ℕ
 out_of_memory = reply_text (closing_refusal 503 0 (codes "out of memory"))

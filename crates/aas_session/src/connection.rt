@@ -7,10 +7,12 @@ ghost use Rattle.aas_session.specs.Intake.{ReceivesMore};
 ghost use Rattle.aas_session.specs.Served.{Served};
 ghost use Rattle.aas_session.specs.Steps.{ServesOne, Refuses};
 
+use crate::given::Given;
 use crate::intake::Intake;
 use crate::machine::{Machine, Stop};
 use crate::refusals::{bad_request, not_implemented, out_of_memory, storage_fault, too_large};
-use aas_http::{Request, Step, is_blank, next_request, reply, whole_length};
+use aas_http::{Request, Step, is_blank, next_request, whole_length};
+use aas_out::give_poured;
 use aas_outside::{Failed, Link, give_all};
 
 /// The most requests on a connection.
@@ -142,8 +144,12 @@ fn serve_one<M: Machine, L: Link>(
 {
     match machine.answer(request) {
         Ok(mut answer) => {
-            answer.close = close;
-            match reply(&answer, link) {
+            answer.reply.close = close;
+            let given = Given {
+                machine: &*machine,
+                answer: &answer,
+            };
+            match give_poured(&given, link) {
                 Ok(()) => Ok(()),
                 Err(Failed) => Err(Ended::LinkFault),
             }

@@ -4,6 +4,7 @@
 #![tactic(auto)]
 
 mod connection;
+mod given;
 mod intake;
 mod machine;
 mod refusals;
@@ -11,5 +12,5 @@ mod wire;
 
 pub use connection::{Ended, serve_connection};
 pub use intake::Intake;
-pub use machine::{Machine, Stop};
+pub use machine::{Answer, Machine, Stop};
 pub use wire::{WireEnded, serve};

@@ -2,14 +2,18 @@
 ghost use Rattle.std.specs.Prelude.{◌≡◌, ◌≢◌, ◌≤◌, List, ℕ, Bool, false, Err, IfOk, IsSome};
 ghost use Rattle.aas_http.specs.ReplyText.{phrase};
 ghost use Rattle.aas_http.specs.Steps.{message_of};
+ghost use Rattle.aas_out.specs.Told.{Puts};
 ghost use Rattle.aas_outside.specs.Faults.{Rose};
 ghost use Rattle.aas_rule.specs.Rule.{Room};
 ghost use Rattle.aas_rule.specs.State.{State, IsSettledState, PassesTo, repository_of};
 ghost use Rattle.aas_session.specs.Answers.{Answers};
 ghost use Rattle.aas_session.specs.Session.{HttpRule};
+ghost use Rattle.aas_session.specs.WholeReply.{IsMeasured, whole_replies};
 ghost use Rattle.aas_session.specs.declared.machine.Stop.TheVariants.{StorageFault};
 
 use aas_http::{Reply, Request};
+use aas_out::Out;
+use aas_outside::Failed;
 
 /// Why a request has no answer of its own.
 #[derive(Clone, Copy, Debug, PartialEq, Eq, Drop)]
@@ -20,8 +24,19 @@ pub enum Stop {
     StorageFault,
 }
 
+/// An answer to a request.
+#[derive(Drop)]
+pub struct Answer<P> {
+    pub reply: Reply,
+    /// What is poured behind the reply's body, if anything.
+    pub plan: Option<P>,
+}
+
 /// A repository that answers requests one by one, and keeps the commands that it accepts.
 pub trait Machine {
+    /// What is to be poured behind the body of a reply.
+    type Plan: Drop;
+
     ghost Documents: { Type 0 };
 
     /// What a stop leaves: a list of payloads, or the contents of some files.
@@ -45,18 +60,27 @@ pub trait Machine {
     /// The keeper has failed, and no more requests are taken.
     ghost stopped: { Self → Bool };
 
+    /// The bytes that a plan stands for.
+    ghost poured: { Self → Self.Plan → List ℕ };
+
     /// Answers a request; who gives the reply sets its `close`. At `Ok` every stop leaves the
     /// request's command, where it is one that was accepted.
-    fn answer(&mut self, request: &Request) -> Result<Reply, Stop>
+    fn answer(&mut self, request: &Request) -> Result<Answer<Self::Plan>, Stop>
         requires { stopped self.old ≡ false }
         ensures answered { (records : List (List ℕ)) →
             IsSettledState stands_for (state self.old) records →
             Answers (rule (room self.old)) stands_for (repository_of (state self.old) records)
-            (message_of request.now) (state self.old).moment (state self.new) result }
-        ensures reply { IfOk result (λ reply. IsSome (phrase reply.status)) }
+            (message_of request.now) (state self.old).moment (state self.new)
+            (whole_replies (poured self.new) result) }
+        ensures measured { IfOk result (λ a. IsMeasured (poured self.new) a) }
+        ensures reply { IfOk result (λ a. IsSome (phrase a.reply.status)) }
         ensures room { room self.new ≡ room self.old }
         ensures past { PassesTo (state self.old) (state self.new) }
         ensures stopped { result ≢ Err StorageFault → stopped self.new ≡ false }
         ensures later { faults self.old ≤ faults self.new }
         ensures fault { result ≡ Err StorageFault → Rose (faults self.old) (faults self.new) };
+
+    /// Puts what is poured. It takes no memory.
+    fn pour<O: Out>(&self, plan: &Self::Plan, out: &mut O) -> Result<(), Failed>
+        ensures { Puts (O.told out.old) (O.told out.new) result (poured self.now plan.now) };
 }

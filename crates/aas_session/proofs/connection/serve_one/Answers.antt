@@ -6,15 +6,15 @@ use Rattle.aas_outside.specs.Link.{GivesFront}
 use Rattle.aas_session.proofs.Giving.{gives_unless}
 use Rattle.aas_session.proofs.connection.serve_one.Goals as goal
 
-pub returns-in-Ok-reply-clause-served : goal.returns-in-Ok-reply-clause-served
-returns-in-Ok-reply-clause-served g c = λ records settled.
+pub returns-in-Ok-give_poured-clause-served : goal.returns-in-Ok-give_poured-clause-served
+returns-in-Ok-give_poured-clause-served g c = λ records settled.
     let answer = c.in-Ok.ensures.answered records settled in
-    (answer.0, answer.1, answer.3, c.in-Ok-reply.ensures.given ∙ ap (λ (r : Reply). append_known (g.L.Link.sent c.args.link.now) (reply_text (record r { close = c.args.close }))) answer.2)
+    (answer.0, answer.1, answer.3, c.in-Ok-give_poured.ensures.given ∙ ap (λ (r : Reply). append_known (g.L.Link.sent c.args.link.now) (reply_text (record r { close = c.args.close }))) answer.2)
 
 pub returns-in-Ok-clause-served : goal.returns-in-Ok-clause-served
 returns-in-Ok-clause-served g c = λ records settled.
     let answer = c.in-Ok.ensures.answered records settled in
-    inl (answer.0, answer.1, answer.3, subst (λ (r : Reply). GivesFront (g.L.Link.sent c.args.link.now) (g.L.Link.sent c.reply.new.link) (reply_text (record r { close = c.args.close }))) answer.2 c.in-Err.ensures.front)
+    inl (answer.0, answer.1, answer.3, subst (λ (r : Reply). GivesFront (g.L.Link.sent c.args.link.now) (g.L.Link.sent c.give_poured.new.link) (reply_text (record r { close = c.args.close }))) answer.2 c.in-Err.ensures.front)
 
 pub returns-clause-served : goal.returns-clause-served
 returns-clause-served g c = λ records settled.
