@@ -104,7 +104,7 @@ same_pointer found p q first second = let e : Some (encode_utf8_all p) ≡ Some 
 
 -- a bad request, with the text of a code and a place
 abbrev bad_at : ℕ → List ℕ → List ℕ → Reply
-bad_at code words place = record { status = 400; body = compact_text (messages code (words ++ place)); allow = []; close = false }
+bad_at code words place = record { status = 400; body = compact_text (messages code (words ++ place)); later = 0; allow = []; close = false }
 
 same_misfits : (p q : List ℕ) → encode_utf8_all p ≡ encode_utf8_all q
     → refusal_reply (refusal.NotMapping p) ≡ refusal_reply (refusal.NotMapping q)

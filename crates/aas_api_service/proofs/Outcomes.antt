@@ -12,7 +12,7 @@ use Rattle.aas_rule.specs.State.{State, Holds, IsSettledState, repository_of}
 use Rattle.aas_store.specs.Documents.{Documents}
 use Rattle.aas_step.specs.Step.{accepted, refused}
 use Rattle.aas_repo.specs.Acts.{Acts}
-use Rattle.aas_repo.specs.Answers.{answer_of}
+use Rattle.aas_answer.specs.Answers.{answer_of}
 use Rattle.aas_repo.specs.declared.repo.Done.{Done}
 use Rattle.aas_session.specs.Answers.{Answers}
 use Rattle.aas_session.specs.declared.machine.Stop.{Stop}
@@ -53,7 +53,7 @@ module _ {I : Type 0} (room : Room) (stands_for : I → List (List ℕ) → Type
   -- ---- questions
 
   pub answers_question : (state : State Documents I) (records : List (List ℕ)) → IsSettledState stands_for state records → (q : Question)
-      (answer : Result Reply Stop) → IsReply (answer_reply (answer_of state.documents q)) answer
+      (answer : Result Reply Stop) → IsReply (answer_reply q (answer_of state.documents q)) answer
       → Answers (AskComesTo room) stands_for (repository_of state records) (Answer q) state.moment state answer
   unfolding AskComesTo
   answers_question state records settled q answer (inl none) =
@@ -64,7 +64,7 @@ module _ {I : Type 0} (room : Room) (stands_for : I → List (List ℕ) → Type
       let P : Result Reply Stop → Type 0 =
       λ a. Answers (AskComesTo room) stands_for (repository_of state records) (Answer q) state.moment state a in
       let r = repository_of state records in
-      let reply = answer_reply (answer_of state.documents q) in
+      let reply = answer_reply q (answer_of state.documents q) in
       subst P (sym is) (unchanged r reply, refl, refl, holds_unchanged r reply state.moment state (holds_still state records settled))
 
   -- ---- commands

@@ -13,7 +13,7 @@ use Rattle.aas_step.specs.Causes.{Cause}
 use Rattle.aas_step.specs.Laws.{StaysValid}
 use Rattle.aas_step.specs.Step.{accepted, refused, Steps}
 use Rattle.aas_step.specs.Valid.{AreValid}
-use Rattle.aas_repo.specs.Answers.{answer_of}
+use Rattle.aas_answer.specs.Answers.{answer_of}
 use Rattle.aas_api_service.specs.Replies.{refusal_reply}
 use Rattle.aas_api.specs.Submodels.{submodel_of}
 use Rattle.aas_api.specs.declared.ask.Ask.{Ask}
@@ -75,7 +75,7 @@ module _ (room : Room) where
   unfolding AskComesTo
   by_ask r (Act c) outcome well (accepted new, steps, fields, is) = inr (c, new, well, steps, fields, is)
   by_ask r (Act c) outcome well (refused why, steps, read, is) = inl (refusal_reply why, is)
-  by_ask r (Answer q) outcome well is = inl (answer_reply (answer_of r.documents q), is)
+  by_ask r (Answer q) outcome well is = inl (answer_reply q (answer_of r.documents q), is)
 
   by_cause : (cause : Cause) (r : Repository Documents) (ask : Ask) (outcome : Outcome Documents Reply) → IsWellFormedAsk ask
       → ComesUnless cause room r ask outcome → Turned r outcome

@@ -4,9 +4,18 @@ use Rattle.aas_command.specs.declared.refusal.Refusal.{Refusal}
 use Rattle.aas_command.specs.declared.refusal.Refusal.TheVariants as refusal
 use Rattle.aas_http.specs.declared.replies.Reply.{Reply}
 use Rattle.aas_repo.specs.declared.repo.Done.{Done}
+use Rattle.aas_answer.specs.Plans.{plan_text}
+use Rattle.aas_answer.specs.declared.plans.Plan.{Plan}
+use Rattle.aas_session.specs.WholeReply.{whole_replies}
+use Rattle.aas_session.specs.declared.machine.Answer.{Answer}
 use Rattle.aas_session.specs.declared.machine.Stop.{Stop}
 use Rattle.aas_session.specs.declared.machine.Stop.TheVariants as stop
+use Rattle.aas_store.specs.Documents.{Documents}
 use Rattle.aas_api_service.specs.Replies.{refusal_reply}
+
+-- what is answered, with what is poured behind it from these documents
+abbrev pub whole_of : Documents → Result (Answer Plan) Stop → Result Reply Stop
+whole_of d answer = whole_replies (plan_text d) answer
 
 -- it is this reply, or memory was refused
 abbrev pub IsReply : Reply → Result Reply Stop → Type 0

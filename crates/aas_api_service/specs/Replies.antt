@@ -35,4 +35,20 @@ abbrev pub messages : ℕ → List ℕ → Data
 messages code text = object (member (codes "messages") (array (item (message code text) no_items)) no_members)
 
 unfoldable pub refusal_reply : Refusal → Reply
-refusal_reply r = record { status = status_of r; body = compact_text (messages (code_of r) (text_of r)); allow = allow_of r; close = false }
+refusal_reply r = record {
+  status = status_of r;
+  body = compact_text (messages (code_of r) (text_of r));
+  later = 0;
+  allow = allow_of r;
+  close = false;
+}
+
+-- the answer to a question would have 2^64 bytes or more
+unfoldable pub reply_too_long : Reply
+reply_too_long = record {
+  status = 500;
+  body = compact_text (messages 25 (codes "reply too long"));
+  later = 0;
+  allow = [];
+  close = false;
+}

@@ -1,6 +1,6 @@
 -- What a request comes to in a repository (IDTA-01002-3-0, HTTP/REST API): it is refused, or a question is answered, or a command is done.
 -- Which status and which body a reply has is this profile's own rule.
-use Rattle.std.specs.Prelude.{◌≡◌, ℕ, List, [], ◌∷◌, false, Option, Some, None, Result, Ok, Err, ⊤}
+use Rattle.std.specs.Prelude.{◌≡◌, ◌^◌, ℕ, nat_lt, List, [], ◌∷◌, length, false, Option, Some, None, Result, Ok, Err, ⊤, if◌then◌else◌}
 use Rattle.aas_json_spelling.specs.Spells.{canonical_text}
 use Rattle.aas_json_mapping.specs.Trees.{concepts, elements, shells, submodels}
 use Rattle.aas_reference.specs.Trees.{references}
@@ -15,9 +15,11 @@ use Rattle.aas_rule.specs.Rule.{Repository, Room, Rule, Outcome}
 use Rattle.aas_store.specs.Documents.{Documents}
 use Rattle.aas_step.specs.Causes.{Cause, first_of, reference_causes}
 use Rattle.aas_step.specs.Step.{Result as StepResult, accepted, refused, Steps}
-use Rattle.aas_repo.specs.Answers.{answer_of}
+use Rattle.aas_answer.specs.Answers.{answer_of}
+use Rattle.aas_answer.specs.Plans.{is_planned}
+use Rattle.aas_question.specs.declared.question.Question.{Question}
 use Rattle.aas_api.specs.Asked.{Called, IsAsked}
-use Rattle.aas_api_service.specs.Replies.{refusal_reply}
+use Rattle.aas_api_service.specs.Replies.{refusal_reply, reply_too_long}
 use Rattle.aas_api.specs.Submodels.{submodel_of}
 use Rattle.aas_api.specs.declared.ask.Ask.{Ask}
 use Rattle.aas_api.specs.declared.ask.Ask.TheVariants.{Act, Answer}
@@ -26,12 +28,16 @@ use Rattle.aas_api.specs.declared.ask.Call.{Call}
 -- ---- replies
 
 abbrev pub reply_with : ℕ → List ℕ → Reply
-reply_with status body = record { status = status; body = body; allow = []; close = false }
+reply_with status body = record { status = status; body = body; later = 0; allow = []; close = false }
 
--- 200 with what is asked for, or the reply of the refusal
-abbrev pub answer_reply : Result (List ℕ) Refusal → Reply
-answer_reply (Ok body) = reply_with 200 body
-answer_reply (Err refusal) = refusal_reply refusal
+-- 200 with the body, unless it has 2^64 bytes or more
+abbrev pub counted_reply : List ℕ → Reply
+counted_reply body = if nat_lt (length body) (2 ^ 64) then reply_with 200 body else reply_too_long
+
+-- 200 with what is asked for, or the reply of the refusal; a body that is planned is counted first
+abbrev pub answer_reply : Question → Result (List ℕ) Refusal → Reply
+answer_reply q (Ok body) = if is_planned q then counted_reply body else reply_with 200 body
+answer_reply q (Err refusal) = refusal_reply refusal
 
 -- the reply to a command that is accepted: 201 with what it creates, or else 204
 abbrev pub success_reply : Command → Reply
@@ -60,7 +66,7 @@ CanBeRead c (accepted new) = HasFields c
 
 -- what is asked comes to
 unfoldable pub AskComesTo : Room → Repository Documents → Ask → Outcome Documents Reply → Type 0
-AskComesTo room r (Answer q) outcome = outcome ≡ unchanged r (answer_reply (answer_of r.documents q))
+AskComesTo room r (Answer q) outcome = outcome ≡ unchanged r (answer_reply q (answer_of r.documents q))
 AskComesTo room r (Act c) outcome = (result : StepResult) × Steps room r c result × CanBeRead c result × (outcome ≡ outcome_of r c result)
 
 -- why a submodel isn't reached through a shell, if it is asked about through one

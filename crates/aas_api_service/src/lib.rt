@@ -4,6 +4,7 @@
 #![tactic(auto)]
 
 mod laws;
+mod questions;
 mod refusals;
 mod replies;
 mod service;

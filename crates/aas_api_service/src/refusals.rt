@@ -4,7 +4,7 @@ ghost use Rattle.std.specs.Option.{IsSome};
 ghost use Rattle.serde_json.specs.View.{view};
 ghost use Rattle.serde_json.specs.Written.{compact_text};
 ghost use Rattle.aas_http.specs.ReplyText.{phrase};
-ghost use Rattle.aas_api_service.specs.Replies.{allow_of, messages, refusal_reply, status_of};
+ghost use Rattle.aas_api_service.specs.Replies.{allow_of, messages, refusal_reply, reply_too_long, status_of};
 
 use aas_command::Refusal;
 use aas_http::Reply;
@@ -13,6 +13,9 @@ use itoa::Buffer;
 use serde_json::{Value, json};
 use std::alloc::{AllocError, Global};
 
+/// The code of the message that an answer is too long.
+const TOO_LONG: u8 = 25;
+
 /// The reply to a request that is refused. The connection stays open behind it.
 ///
 /// IDTA-01002-3-0, class Result.
@@ -20,6 +23,7 @@ use std::alloc::{AllocError, Global};
 pub(crate) fn refused(alloc: Global, refusal: &Refusal) -> Result<Reply, NoMemory>
     ensures reply { IfOk result (λ reply. reply ≡ refusal_reply refusal.now) }
     ensures phrase { IfOk result (λ reply. IsSome (phrase reply.status)) }
+    ensures later { IfOk result (λ reply. reply.later ≡ 0) }
 {
     let text = refusal.text(alloc)?;
     // It is UTF-8, which its contract doesn't say.
@@ -29,7 +33,24 @@ pub(crate) fn refused(alloc: Global, refusal: &Refusal) -> Result<Reply, NoMemor
     Ok(Reply {
         status: status(refusal),
         body: message_body(alloc, refusal.code(), text)?,
+        later: 0,
         allow: allow(alloc, refusal)?,
+        close: false,
+    })
+}
+
+/// The reply to a question whose answer would have 2^64 bytes or more.
+#[tactic(auto, unfolding(crate::specs::Replies::reply_too_long))]
+pub(crate) fn too_long(alloc: Global) -> Result<Reply, NoMemory>
+    ensures reply { IfOk result (λ reply. reply ≡ reply_too_long) }
+    ensures phrase { IfOk result (λ reply. IsSome (phrase reply.status)) }
+    ensures later { IfOk result (λ reply. reply.later ≡ 0) }
+{
+    Ok(Reply {
+        status: 500,
+        body: message_body(alloc, TOO_LONG, "reply too long")?,
+        later: 0,
+        allow: Text::from_str(alloc, "")?,
         close: false,
     })
 }

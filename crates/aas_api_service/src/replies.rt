@@ -1,7 +1,9 @@
 // The replies to questions, commands and refusals.
-ghost use Rattle.std.specs.Prelude.{◌≡◌, ◌↔◌, Err, IfOk, IsSome};
+ghost use Rattle.std.specs.Prelude.{◌≡◌, ◌↔◌, false, Err, IfOk, IsSome};
 ghost use Rattle.aas_command.specs.Commands.{IsWellFormed};
 ghost use Rattle.aas_http.specs.ReplyText.{phrase};
+ghost use Rattle.aas_answer.specs.Plans.{is_planned};
+ghost use Rattle.aas_question.specs.declared.question.Question.{Question};
 ghost use Rattle.aas_api_service.specs.Finished.{Finishes, IsRefused, IsReply};
 ghost use Rattle.aas_api_service.specs.Turns.{answer_reply, reply_with, success_reply};
 
@@ -16,11 +18,12 @@ use aas_repo::Done;
 use aas_session::Stop;
 use std::alloc::Global;
 
-/// The reply to what a question is answered.
+/// The reply to what a question is answered that isn't planned.
 pub(crate) fn told(alloc: Global, answer: Result<Many<u8>, Refusal>) -> Result<Reply, Stop>
     ensures told { answer ≡ Err Refusal.NoMemory → result ≡ Err Stop.NoMemory }
-    ensures reply { IsReply (answer_reply answer) result }
+    ensures reply { (q : Question) → is_planned q ≡ false → IsReply (answer_reply q answer) result }
     ensures phrase { IfOk result (λ reply. IsSome (phrase reply.status)) }
+    ensures later { IfOk result (λ reply. reply.later ≡ 0) }
 {
     match answer {
         Ok(body) => match open_reply(alloc, 200, body) {
@@ -37,6 +40,7 @@ pub(crate) fn success(alloc: Global, command: &Command) -> Result<Reply, NoMemor
     requires { IsWellFormed command.now }
     ensures reply { IfOk result (λ reply. reply ≡ success_reply command.now) }
     ensures phrase { IfOk result (λ reply. IsSome (phrase reply.status)) }
+    ensures later { IfOk result (λ reply. reply.later ≡ 0) }
 {
     match command {
         Command::CreateShell { document } => created(alloc, shell_text(alloc, document)?),
@@ -57,6 +61,7 @@ pub(crate) fn success(alloc: Global, command: &Command) -> Result<Reply, NoMemor
 fn created(alloc: Global, text: Vec<u8>) -> Result<Reply, NoMemory>
     ensures reply { IfOk result (λ reply. reply ≡ reply_with 201 text.items) }
     ensures status { IfOk result (λ reply. reply.status ≡ 201) }
+    ensures later { IfOk result (λ reply. reply.later ≡ 0) }
 {
     open_reply(alloc, 201, text.into())
 }
@@ -67,10 +72,12 @@ pub(crate) fn finish(
     done: Result<Done, Refusal>,
     reply: Reply,
 ) -> Result<Reply, Stop>
-    requires { IsSome (phrase reply.status) }
+    requires phrase { IsSome (phrase reply.status) }
+    requires later { reply.later ≡ 0 }
     ensures finished { Finishes done reply result }
     ensures fault { (result ≡ Err Stop.StorageFault) ↔ (done ≡ Err Refusal.StorageFault) }
     ensures phrase { IfOk result (λ reply. IsSome (phrase reply.status)) }
+    ensures later { IfOk result (λ reply. reply.later ≡ 0) }
 {
     match done {
         Ok(_) => Ok(reply),
@@ -83,6 +90,7 @@ pub(crate) fn finish(
 pub(crate) fn refuse(alloc: Global, refusal: Refusal) -> Result<Reply, Stop>
     ensures refused { IsRefused refusal result }
     ensures phrase { IfOk result (λ reply. IsSome (phrase reply.status)) }
+    ensures later { IfOk result (λ reply. reply.later ≡ 0) }
 {
     refuse_by(alloc, &refusal)
 }
@@ -90,6 +98,7 @@ pub(crate) fn refuse(alloc: Global, refusal: Refusal) -> Result<Reply, Stop>
 fn refuse_by(alloc: Global, refusal: &Refusal) -> Result<Reply, Stop>
     ensures refused { IsRefused refusal.now result }
     ensures phrase { IfOk result (λ reply. IsSome (phrase reply.status)) }
+    ensures later { IfOk result (λ reply. reply.later ≡ 0) }
 {
     match refusal {
         Refusal::NoMemory => Err(Stop::NoMemory),
@@ -101,13 +110,15 @@ fn refuse_by(alloc: Global, refusal: &Refusal) -> Result<Reply, Stop>
 }
 
 /// A reply that leaves the connection open and names no methods.
-fn open_reply(alloc: Global, status: u16, body: Many<u8>) -> Result<Reply, NoMemory>
+pub(crate) fn open_reply(alloc: Global, status: u16, body: Many<u8>) -> Result<Reply, NoMemory>
     ensures reply { IfOk result (λ reply. reply ≡ reply_with status body) }
     ensures status { IfOk result (λ reply. reply.status ≡ status) }
+    ensures later { IfOk result (λ reply. reply.later ≡ 0) }
 {
     Ok(Reply {
         status,
         body,
+        later: 0,
         allow: Text::from_str(alloc, "")?,
         close: false,
     })

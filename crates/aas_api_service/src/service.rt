@@ -6,23 +6,27 @@ ghost use Rattle.aas_http.specs.ReplyText.{phrase};
 ghost use Rattle.aas_http.specs.Steps.{message_of};
 ghost use Rattle.aas_outside.specs.Faults.{Rose};
 ghost use Rattle.aas_rule.specs.State.{IsSettledState, PassesTo, repository_of};
-ghost use Rattle.aas_repo.specs.Answers.{answer_of};
+ghost use Rattle.aas_answer.specs.Plans.{plan_text};
 ghost use Rattle.aas_repo.specs.Held.{state_of};
 ghost use Rattle.aas_session.specs.Answers.{Answers};
+ghost use Rattle.aas_session.specs.WholeReply.{IsMeasured};
 ghost use Rattle.aas_session.specs.declared.machine.Stop.TheVariants.{StorageFault};
 ghost use Rattle.aas_api.specs.Submodels.{submodel_of};
 ghost use Rattle.aas_api_service.specs.Turns.{AskComesTo, CallComesTo, Turns, unreached};
+ghost use Rattle.aas_api_service.specs.Finished.{whole_of};
 ghost use Rattle.aas_api_service.specs.WellFormed.{IsWellFormedAsk};
 
-use crate::replies::{finish, refuse, success, told};
+use crate::questions::{tell, whole};
+use crate::replies::{finish, refuse, success};
+use aas_answer::Plan;
 use aas_api::{Ask, Call, read_call};
 use aas_command::{Command, Refusal};
 use aas_http::{Reply, Request};
-use aas_model::{Many, NoMemory};
-use aas_outside::Keeper;
-use aas_question::Question;
+use aas_model::NoMemory;
+use aas_out::Out;
+use aas_outside::{Failed, Keeper};
 use aas_repo::Repo;
-use aas_session::{Machine, Stop};
+use aas_session::{Answer, Machine, Stop};
 use aas_store::Store;
 use std::alloc::Global;
 
@@ -64,16 +68,24 @@ impl<S: Store, K: Keeper> Machine for Service<S, K> {
 
     ghost stopped = { λ service. service.repo.stopped };
 
-    fn answer(&mut self, request: &Request) -> Result<Reply, Stop> {
+    type Plan = Plan;
+
+    ghost poured = { λ service. plan_text service.repo.documents };
+
+    fn answer(&mut self, request: &Request) -> Result<Answer<Plan>, Stop> {
         match read_call(self.alloc, request) {
             Ok(call) => answer(self.alloc, &mut self.repo, call),
-            Err(refusal) => refuse(self.alloc, refusal),
+            Err(refusal) => whole(refuse(self.alloc, refusal)),
         }
+    }
+
+    fn pour<O: Out>(&self, plan: &Plan, out: &mut O) -> Result<(), Failed> {
+        self.repo.pour(plan, out)
     }
 }
 
 /// Does what is asked, unless it is asked through a shell that doesn't reach the submodel, and answers the reply, whose `close`
-/// is false. The success reply to a command is made before the command is taken, so that nothing is kept which can't be
+/// is false, and what is poured behind its body. The success reply to a command is made before the command is taken, so that nothing is kept which can't be
 /// answered.
 ///
 /// # Errors
@@ -83,15 +95,16 @@ pub fn answer<S: Store, K: Keeper>(
     alloc: Global,
     repo: &mut Repo<S, K>,
     call: Call,
-) -> Result<Reply, Stop>
+) -> Result<Answer<Plan>, Stop>
     requires open { repo.old.stopped ≡ false }
     requires well_formed { IsWellFormedAsk call.ask }
     ensures answered { (records : List (List ℕ)) →
         IsSettledState K.stands_for (state_of K.kept K.moment K.left_at repo.old) records →
         Answers (CallComesTo (K.room_behind repo.old.keeper)) K.stands_for
         (repository_of (state_of K.kept K.moment K.left_at repo.old) records) call
-        (K.moment repo.old.keeper) (state_of K.kept K.moment K.left_at repo.new) result }
-    ensures reply { IfOk result (λ reply. IsSome (phrase reply.status)) }
+        (K.moment repo.old.keeper) (state_of K.kept K.moment K.left_at repo.new) (whole_of repo.new.documents result) }
+    ensures measured { IfOk result (IsMeasured (plan_text repo.new.documents)) }
+    ensures reply { IfOk result (λ answer. IsSome (phrase answer.reply.status)) }
     ensures room { K.room_behind repo.new.keeper ≡ K.room_behind repo.old.keeper }
     ensures past { PassesTo (state_of K.kept K.moment K.left_at repo.old) (state_of K.kept K.moment K.left_at repo.new) }
     ensures stopped { result ≢ Err StorageFault → repo.new.stopped ≡ false }
@@ -100,7 +113,7 @@ pub fn answer<S: Store, K: Keeper>(
 {
     match reach(repo, &call) {
         Ok(()) => answer_ask(alloc, repo, call.ask),
-        Err(refusal) => refuse(alloc, refusal),
+        Err(refusal) => whole(refuse(alloc, refusal)),
     }
 }
 
@@ -122,15 +135,16 @@ fn answer_ask<S: Store, K: Keeper>(
     alloc: Global,
     repo: &mut Repo<S, K>,
     ask: Ask,
-) -> Result<Reply, Stop>
+) -> Result<Answer<Plan>, Stop>
     requires open { repo.old.stopped ≡ false }
     requires well_formed { IsWellFormedAsk ask }
     ensures answered { (records : List (List ℕ)) →
         IsSettledState K.stands_for (state_of K.kept K.moment K.left_at repo.old) records →
         Answers (AskComesTo (K.room_behind repo.old.keeper)) K.stands_for
         (repository_of (state_of K.kept K.moment K.left_at repo.old) records) ask
-        (K.moment repo.old.keeper) (state_of K.kept K.moment K.left_at repo.new) result }
-    ensures reply { IfOk result (λ reply. IsSome (phrase reply.status)) }
+        (K.moment repo.old.keeper) (state_of K.kept K.moment K.left_at repo.new) (whole_of repo.new.documents result) }
+    ensures measured { IfOk result (IsMeasured (plan_text repo.new.documents)) }
+    ensures reply { IfOk result (λ answer. IsSome (phrase answer.reply.status)) }
     ensures room { K.room_behind repo.new.keeper ≡ K.room_behind repo.old.keeper }
     ensures past { PassesTo (state_of K.kept K.moment K.left_at repo.old) (state_of K.kept K.moment K.left_at repo.new) }
     ensures stopped { result ≢ Err StorageFault → repo.new.stopped ≡ false }
@@ -138,8 +152,8 @@ fn answer_ask<S: Store, K: Keeper>(
     ensures fault { result ≡ Err StorageFault → Rose (K.faults repo.old.keeper) (K.faults repo.new.keeper) }
 {
     match ask {
-        Ask::Act { command } => act(alloc, repo, command),
-        Ask::Answer { question } => told(alloc, tell(repo, question)),
+        Ask::Act { command } => whole(act(alloc, repo, command)),
+        Ask::Answer { question } => tell(alloc, repo, &question),
     }
 }
 
@@ -157,6 +171,7 @@ fn act<S: Store, K: Keeper>(
         (repository_of (state_of K.kept K.moment K.left_at repo.old) records) (Act command)
         (K.moment repo.old.keeper) (state_of K.kept K.moment K.left_at repo.new) result }
     ensures reply { IfOk result (λ reply. IsSome (phrase reply.status)) }
+    ensures no_more { IfOk result (λ reply. reply.later ≡ 0) }
     ensures room { K.room_behind repo.new.keeper ≡ K.room_behind repo.old.keeper }
     ensures past { PassesTo (state_of K.kept K.moment K.left_at repo.old) (state_of K.kept K.moment K.left_at repo.new) }
     ensures stopped { result ≢ Err StorageFault → repo.new.stopped ≡ false }
@@ -170,12 +185,4 @@ fn act<S: Store, K: Keeper>(
             Err(Stop::NoMemory)
         }
     }
-}
-
-/// What a question is answered.
-fn tell<S: Store, K: Keeper>(repo: &Repo<S, K>, question: Question) -> Result<Many<u8>, Refusal>
-    requires { repo.now.stopped ≡ false }
-    ensures { (result ≡ Err Refusal.NoMemory) ⊎ (result ≡ answer_of repo.now.documents question) }
-{
-    repo.ask(&question)
 }

@@ -1,4 +1,4 @@
--- What a keeper's call makes of a plan.
+-- What a keeper's call makes of a command that was taken.
 use Rattle.std.proofs.Common.{◌≡◌, ℕ, Bool, List, [], ◌∷◌, ◌++◌, refl, subst, Ok, Err}
 use Rattle.std.specs.Prelude.{Result}
 use Rattle.aas_command.specs.declared.command.Command.{Command}
@@ -9,9 +9,9 @@ use Rattle.aas_rule.specs.Rule.{Room}
 use Rattle.aas_rule.specs.State.{IsSettledState, repository_of}
 use Rattle.aas_store.specs.Documents.{Documents}
 use Rattle.aas_repo.specs.Acts.{Acts, done_of}
-use Rattle.aas_repo.specs.Decisions.{IsPlan}
+use Rattle.aas_repo.specs.Decisions.{IsTaken}
 use Rattle.aas_repo.specs.Held.{Held, state_of}
-use Rattle.aas_repo.specs.declared.decision.Plan.TheVariants as plan
+use Rattle.aas_repo.specs.declared.decision.Taken.TheVariants as taken
 use Rattle.aas_repo.specs.declared.repo.Done.{Done}
 
 abbrev pub held : {K : Type 0} → Documents → K → Bool → Held K
@@ -27,7 +27,7 @@ module _ {K I : Type 0} (stands_for : I → List (List ℕ) → Type 0) (kept : 
       (state_of kept moment left_at new) result
 
   pub keeps : (frame : List ℕ) (done : Done) → done ≡ done_of c
-      → IsPlan has_room (kept mid.keeper) (room_behind mid.keeper) mid.documents c new.documents (plan.Made frame)
+      → IsTaken has_room (kept mid.keeper) (room_behind mid.keeper) mid.documents c new.documents (taken.Made frame)
       → ((payloads : List (List ℕ)) → kept mid.keeper payloads → kept new.keeper (payloads ++ frame ∷ []))
       → ((payloads : List (List ℕ)) → IsSettled stands_for (kept mid.keeper) (moment mid.keeper) (left_at mid.keeper) payloads
       → InTurn stands_for (left_at new.keeper) (moment mid.keeper) (moment new.keeper) payloads (frame ∷ []) [])
@@ -47,7 +47,7 @@ module _ {K I : Type 0} (stands_for : I → List (List ℕ) → Type 0) (kept : 
     },
   ))
 
-  pub tears : (frame : List ℕ) → IsPlan has_room (kept mid.keeper) (room_behind mid.keeper) mid.documents c new.documents (plan.Made frame)
+  pub tears : (frame : List ℕ) → IsTaken has_room (kept mid.keeper) (room_behind mid.keeper) mid.documents c new.documents (taken.Made frame)
       → ((payloads : List (List ℕ)) → IsSettled stands_for (kept mid.keeper) (moment mid.keeper) (left_at mid.keeper) payloads
       → InTurn stands_for (left_at new.keeper) (moment mid.keeper) (moment new.keeper) payloads [] (frame ∷ []))
       → Does (Err StorageFault) old

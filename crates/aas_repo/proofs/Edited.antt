@@ -6,21 +6,20 @@ use Rattle.std.specs.Option.{option_map_or}
 use Rattle.std.specs.Str.{encode_utf8_all}
 use Rattle.aas_command.specs.Commands.{IsWellFormed}
 use Rattle.aas_command.specs.declared.command.Command.{Command}
-use Rattle.aas_command.specs.declared.command.Command.TheVariants.{InsertElement, ReplaceElement, DeleteElement}
+use Rattle.aas_command.specs.declared.command.Command.TheVariants.{ReplaceElement}
 use Rattle.aas_command.specs.declared.refusal.Refusal.{Refusal}
 use Rattle.aas_command.specs.declared.refusal.Refusal.TheVariants.{NoMemory, NotFound, StorageFault}
 use Rattle.aas_constraint_rules.specs.Faults.{submodel}
-use Rattle.aas_edit_laws.proofs.Edits.{insert_keeps_whole, remove_keeps_whole}
 use Rattle.aas_json_mapping.specs.Whole.{is_whole_submodel}
 use Rattle.aas_json_table.specs.TooDeep.{limits}
 use Rattle.aas_model.specs.declared.documents.Submodel.{Submodel}
 use Rattle.aas_model.specs.declared.element.Element.{Element}
 use Rattle.aas_model.specs.declared.path.Path.{Path}
 use Rattle.aas_model_names.specs.declared.collection.Collection.TheVariants.{Submodels}
-use Rattle.aas_path_trees.specs.Edits.{inserted, removed, replaced}
+use Rattle.aas_path_trees.specs.Edits.{replaced}
 use Rattle.aas_path_trees.specs.ElementAt.{element_at}
 use Rattle.aas_step.proofs.Validity.{replaced_whole}
-use Rattle.aas_step.specs.Causes.{Cause, absent_of, causes, delete_causes, first_of, insert_causes, replace_causes, unless}
+use Rattle.aas_step.specs.Causes.{Cause, absent_of, causes, first_of, replace_causes, unless}
 use Rattle.aas_step.specs.Valid.{AreValid}
 use Rattle.aas_store.specs.Documents.{Documents}
 use Rattle.aas_repo.proofs.Decided.{is_refused_or_no_memory, refused_by}
@@ -29,19 +28,10 @@ use Rattle.aas_repo.specs.declared.decision.Decision.TheVariants as decision
 
 -- ---- whole submodels
 
-pub insertion_keeps_whole : (id : List ℕ) (p : Path) (e : Element) (s : Submodel) → IsWellFormed (InsertElement id p e)
-    → first_of (insert_causes p.steps e s) ≡ None → is_whole_submodel limits s ≡ true → is_whole_submodel limits (inserted s p.steps e) ≡ true
-unfolding IsWellFormed
-insertion_keeps_whole id p e s formed none whole = insert_keeps_whole s p.steps e whole formed.1
-
 pub replacement_keeps_whole : (id : List ℕ) (p : Path) (e : Element) (s : Submodel) → IsWellFormed (ReplaceElement id p e)
     → first_of (replace_causes p.steps e s) ≡ None → is_whole_submodel limits s ≡ true → is_whole_submodel limits (replaced s p.steps e) ≡ true
 unfolding IsWellFormed
 replacement_keeps_whole id p e s formed none whole = replaced_whole s p.steps e (element_at s p.steps) refl none whole formed.1
-
-pub deletion_keeps_whole : (id : List ℕ) (p : Path) (s : Submodel) → IsWellFormed (DeleteElement id p)
-    → first_of (delete_causes p.steps s) ≡ None → is_whole_submodel limits s ≡ true → is_whole_submodel limits (removed s p.steps) ≡ true
-deletion_keeps_whole id p s formed none whole = remove_keeps_whole s p.steps whole
 
 -- ---- by the submodel
 

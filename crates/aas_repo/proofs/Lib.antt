@@ -1,11 +1,13 @@
+mod Accepted
 mod Acted
 mod Bodies
 mod Counted
 mod Decided
+mod Deleted
 mod Edited
 pub mod Imported
-mod Pages
-mod Planned
+mod Inserted
+mod Taken
 mod Reached
 mod Referred
 mod Updated

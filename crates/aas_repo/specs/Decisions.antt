@@ -18,8 +18,8 @@ use Rattle.aas_step.specs.Made.{IsMade, changed_shell, changed_submodel, left}
 use Rattle.aas_step.specs.Step.{ComesTo, Steps, accepted, refused}
 use Rattle.aas_repo.specs.declared.decision.Decision.{Decision}
 use Rattle.aas_repo.specs.declared.decision.Decision.TheVariants as decision
-use Rattle.aas_repo.specs.declared.decision.Plan.{Plan}
-use Rattle.aas_repo.specs.declared.decision.Plan.TheVariants as plan
+use Rattle.aas_repo.specs.declared.decision.Taken.{Taken}
+use Rattle.aas_repo.specs.declared.decision.Taken.TheVariants as taken
 
 -- with the documents before and after
 abbrev pub IsDecision : Bool → Documents → Command → Documents → Decision → Type 0
@@ -33,15 +33,15 @@ decision_of NoMemory = decision.NoMemory
 decision_of refusal = decision.Refused refusal
 
 -- the same, where the keeper that keeps these records has room for so many bytes or not
-abbrev pub IsPlan : (has_room : ℕ → Bool) (kept : List (List ℕ) → Type 0) (room : Room) → Documents → Command → Documents → Plan → Type 0
-IsPlan has_room kept room old c new (plan.Made frame) =
+abbrev pub IsTaken : (has_room : ℕ → Bool) (kept : List (List ℕ) → Type 0) (room : Room) → Documents → Command → Documents → Taken → Type 0
+IsTaken has_room kept room old c new (taken.Made frame) =
     (frame ≡ payload_of c) × IsTrue (has_room (length frame))
     × ((records : List (List ℕ)) → kept records → Steps room (record { documents = old; records = records }) c (accepted new))
     × HasFields c
-IsPlan has_room kept room old c new (plan.Refused refusal) =
+IsTaken has_room kept room old c new (taken.Refused refusal) =
     (new ≡ old) × (refusal ≢ StorageFault)
     × ((records : List (List ℕ)) → kept records → Steps room (record { documents = old; records = records }) c (refused refusal))
-IsPlan has_room kept room old c new plan.NoMemory = new ≡ old
+IsTaken has_room kept room old c new taken.NoMemory = new ≡ old
 
 -- One cause in what is there may refuse the command, and it makes one document.
 pub record Puts (d : Documents) (c : Command) (early : Cause) (x : Document) : Type 0 where

@@ -1,7 +1,7 @@
+pub mod Accepted
 pub mod Acts
-pub mod Answers
 pub mod Decisions
 pub mod Faulty
 pub mod Held
-pub mod Listed
+pub mod Inserting
 pub mod Patches

@@ -1,14 +1,11 @@
-// What stands where an element is inserted, and how far a path leads.
-ghost use Rattle.std.specs.Prelude.{◌≡◌, ◌⊎◌, ◌&&◌, take, IfOk};
-ghost use Rattle.aas_command.specs.declared.refusal.Absent.TheVariants as absent;
-ghost use Rattle.aas_command.specs.declared.refusal.Refusal.TheVariants.{NoMemory as NoMemoryLeft, NotFound};
+// What stands where an element is inserted.
+ghost use Rattle.std.specs.Prelude.{◌≡◌, ◌&&◌};
 ghost use Rattle.aas_path_trees.specs.Children.{id_short_of};
-ghost use Rattle.aas_step.specs.Causes.{children_at, is_container, is_named_among};
+ghost use Rattle.aas_step.specs.Causes.{is_container, is_named_among};
+ghost use Rattle.aas_store.specs.Reads.{children_at};
 
-use aas_command::{Absent, Refusal};
-use aas_model::{Duplicate, Element, Many, Missing, NoMemory, Path, Submodel};
+use aas_model::{Element, Path, Submodel};
 use aas_path::{at, place_named, role_within};
-use std::alloc::Global;
 
 /// Whether the path leads to a container that has a child of the element's idShort.
 pub(crate) fn conflicts(submodel: &Submodel, path: &Path, element: &Element) -> bool
@@ -28,30 +25,4 @@ pub(crate) fn conflicts(submodel: &Submodel, path: &Path, element: &Element) -> 
         }
         Err(_) => false,
     }
-}
-
-/// That the path leads nowhere behind its first steps.
-pub(crate) fn not_found(alloc: Global, path: &Path, missing: Missing) -> Refusal
-    ensures { (result ≡ NoMemoryLeft)
-        ⊎ (result ≡ NotFound (absent.Element (record { steps = take missing.steps path.now.steps }))) }
-{
-    match front(alloc, path, missing.steps) {
-        Ok(after) => Refusal::NotFound {
-            what: Absent::Element { after },
-        },
-        Err(NoMemory) => Refusal::NoMemory,
-    }
-}
-
-/// The first steps of a path.
-fn front(alloc: Global, path: &Path, count: usize) -> Result<Path, NoMemory>
-    ensures { IfOk result (λ front. front.steps ≡ take count path.now.steps) }
-{
-    let steps = path.steps.as_slice();
-    let first = &steps[..count.min(steps.len())];
-    let mut front = Many::new(alloc);
-    for step in first {
-        front.push(step.copy()?)?;
-    }
-    Ok(Path { steps: front })
 }

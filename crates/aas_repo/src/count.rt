@@ -5,6 +5,9 @@ ghost use Rattle.aas_store.specs.Storable.{element_count};
 
 use aas_model::{Element, Submodel};
 
+/// The most elements that a submodel may have.
+pub(crate) const ELEMENT_LIMIT: u32 = 65_536;
+
 /// What is left of a count behind an element and all below it, or `None` where these are more.
 #[cycle(count)]
 fn count_off(element: &Element, left: u32) -> Option<u32>
@@ -32,4 +35,11 @@ pub(crate) fn has_more_elements(submodel: &Submodel, limit: u32) -> bool
     ensures { result ≡ nat_lt limit (element_count submodel.now) }
 {
     count_off_all(submodel.kids.as_slice(), limit).is_none()
+}
+
+/// Whether the element and all below it are more than the limit.
+pub(crate) fn has_more_below(element: &Element, limit: u32) -> bool
+    ensures { result ≡ nat_lt limit (length (kinds element.now)) }
+{
+    count_off(element, limit).is_none()
 }

@@ -15,8 +15,10 @@ ghost use Rattle.aas_step.specs.Valid.{AreValid};
 ghost use Rattle.aas_repo.specs.Decisions.{Deletes, IsDecision, Makes, with_asset};
 
 use crate::decision::Decision;
-use crate::editing::{Deletion, Insertion, Replacement, make_edit};
+use crate::deleting::delete_element;
+use crate::editing::{Replacement, make_edit};
 use crate::importing::import;
+use crate::inserting::insert_element;
 use crate::references::{add_reference, drop_reference};
 use crate::stored::Stored;
 use crate::updating::update;
@@ -58,13 +60,7 @@ pub(crate) fn decide<S: Store>(
             submodel,
             path,
             element,
-        } => make_edit(
-            alloc,
-            store,
-            submodel,
-            Insertion { path, element },
-            has_room,
-        ),
+        } => insert_element(alloc, store, submodel, path, element, has_room),
         Command::ReplaceElement {
             submodel,
             path,
@@ -77,7 +73,7 @@ pub(crate) fn decide<S: Store>(
             has_room,
         ),
         Command::DeleteElement { submodel, path } => {
-            make_edit(alloc, store, submodel, Deletion { path }, has_room)
+            delete_element(alloc, store, submodel, path, has_room)
         }
         Command::UpdateValue {
             submodel,

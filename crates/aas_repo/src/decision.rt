@@ -12,9 +12,9 @@ pub enum Decision {
     NoMemory,
 }
 
-/// What is left to do with a command.
+/// What became of a command that was taken, before it is kept.
 #[derive(Drop)]
-pub(crate) enum Plan {
+pub(crate) enum Taken {
     /// The store has what the command makes, and there is room to keep its frame.
     Made(Frame),
     /// The store is as it was, and so at `NoMemory`.

@@ -11,12 +11,13 @@ ghost use Rattle.aas_step.specs.Valid.{AreValid};
 ghost use Rattle.aas_store.specs.Documents.{Documents};
 ghost use Rattle.aas_repo.specs.Decisions.{Edits, IsDecision, decision_of};
 
-use crate::containers::{conflicts, not_found};
+use crate::containers::conflicts;
 use crate::deciding::put;
 use crate::decision::Decision;
+use aas_answer::not_found;
 use aas_command::{Absent, Refusal};
 use aas_model::{Element, NoMemory, Path, Submodel, Text};
-use aas_path::{InsertFault, ReplaceFault, insert, remove, replace};
+use aas_path::{InsertFault, ReplaceFault, insert, replace};
 use aas_store::Store;
 use std::alloc::Global;
 
@@ -93,12 +94,6 @@ pub(crate) struct Replacement {
     pub(crate) element: Element,
 }
 
-/// An element is taken away.
-#[derive(Drop)]
-pub(crate) struct Deletion {
-    pub(crate) path: Path,
-}
-
 impl Edit for Insertion {
     ghost use Rattle.std.specs.Prelude.{refl};
     ghost use Rattle.aas_command.specs.declared.command.Command.TheVariants.{InsertElement};
@@ -147,28 +142,6 @@ impl Edit for Replacement {
             Ok(_old) => Ok(()),
             Err(ReplaceFault::Missing(missing)) => Err(not_found(alloc, &path, missing)),
             Err(ReplaceFault::NotAContainer) => Err(Refusal::NotAContainer),
-        }
-    }
-}
-
-impl Edit for Deletion {
-    ghost use Rattle.std.specs.Prelude.{refl};
-    ghost use Rattle.aas_command.specs.declared.command.Command.TheVariants.{DeleteElement};
-    ghost use Rattle.aas_path_trees.specs.Edits.{removed};
-    ghost use Rattle.aas_step.specs.Causes.{delete_causes};
-
-    ghost command = { λ edit id. DeleteElement id edit.path };
-
-    ghost causes_in = { λ edit. delete_causes edit.path.steps };
-
-    ghost changed = { λ edit s. removed s edit.path.steps };
-
-    ghost edits = { λ edit id d. record { causes_are = refl; made = λ new is. is; left_are = refl } };
-
-    fn make(self, alloc: Global, submodel: &mut Submodel) -> Result<(), Refusal> {
-        match remove(submodel, &self.path) {
-            Ok(_old) => Ok(()),
-            Err(missing) => Err(not_found(alloc, &self.path, missing)),
         }
     }
 }

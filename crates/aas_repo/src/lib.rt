@@ -1,30 +1,24 @@
-//! The repository: commands are refused, or change the documents and are kept; questions are answered.
+//! The repository: commands are refused, or change the documents and are kept.
 //!
-//! What a command comes to is said below (`aas_step`), and how a request asks for one above.
+//! What a command comes to is said below (`aas_step`), and so is what a question is answered (`aas_answer`); how a request asks
+//! for one above.
 #![tactic(auto)]
 
-mod answers;
-mod asking;
 mod containers;
 mod count;
 mod deciding;
 mod decision;
-mod document_pages;
+mod deleting;
 mod editing;
-mod element_answers;
-mod forms;
 mod importing;
-mod page_text;
-mod place_pages;
-mod planning;
+mod inserting;
 mod references;
 mod repo;
 mod stored;
-mod submodel_answers;
-mod texts;
+mod taking;
 mod updating;
 
 pub use decision::Decision;
 pub use importing::{first_faulty, first_repeated};
-pub use planning::change;
 pub use repo::{Counts, Done, Repo};
+pub use taking::change;

@@ -1,5 +1,5 @@
 // Documents in a store, and the commands that made them in a keeper.
-ghost use Rattle.std.specs.Prelude.{◌≡◌, ◌≢◌, ◌≤◌, ◌⊎◌, ℕ, List, None, Some, false, Err, MatchResult};
+ghost use Rattle.std.specs.Prelude.{◌≡◌, ◌≢◌, ◌≤◌, ◌⊎◌, ◌^◌, ℕ, List, length, nat_lt, None, Some, true, false, Err, IfErr, IfOk, MatchResult, if◌then◌else◌};
 ghost use Rattle.aas_command.specs.Commands.{IsWellFormed};
 ghost use Rattle.aas_command.specs.declared.refusal.Refusal.TheVariants.{NoMemory, StorageFault};
 ghost use Rattle.aas_outside.specs.Faults.{Rose};
@@ -7,15 +7,18 @@ ghost use Rattle.aas_rule.specs.State.{IsSettledState, PassesTo, repository_of};
 ghost use Rattle.aas_step.specs.Causes.{first_of, reference_causes};
 ghost use Rattle.aas_step.specs.Valid.{AreValid};
 ghost use Rattle.aas_repo.specs.Acts.{Acts, done_of};
-ghost use Rattle.aas_repo.specs.Answers.{answer_of};
+ghost use Rattle.aas_answer.specs.Answers.{answer_of};
+ghost use Rattle.aas_answer.specs.Plans.{IsPlanOf, is_planned, plan_text};
+ghost use Rattle.aas_out.specs.Told.{Puts};
 ghost use Rattle.aas_repo.specs.Held.{state_of};
 
-use crate::asking::tell;
-use crate::decision::Plan;
-use crate::planning::plan;
+use crate::decision::Taken;
 use crate::references::referring;
+use crate::taking::take;
+use aas_answer::{Plan, measure_plan, pour_plan, tell};
 use aas_command::{Command, Refusal};
 use aas_model::{Many, Text};
+use aas_out::Out;
 use aas_outside::{Failed, Keeper};
 use aas_question::Question;
 use aas_store::Store;
@@ -121,16 +124,16 @@ impl<S: Store, K: Keeper> Repo<S, K> {
         ensures fault { result ≡ Err StorageFault → Rose (K.faults self.old.keeper) (K.faults self.new.keeper) }
     {
         let done = done_of(&command);
-        match plan(self.alloc, &mut self.store, &self.keeper, command) {
-            Plan::Made(frame) => match self.keeper.keep(&frame) {
+        match take(self.alloc, &mut self.store, &self.keeper, command) {
+            Taken::Made(frame) => match self.keeper.keep(&frame) {
                 Ok(()) => Ok(done),
                 Err(Failed) => {
                     self.stopped = true;
                     Err(Refusal::StorageFault)
                 }
             },
-            Plan::Refused(refusal) => Err(refusal),
-            Plan::NoMemory => Err(Refusal::NoMemory),
+            Taken::Refused(refusal) => Err(refusal),
+            Taken::NoMemory => Err(Refusal::NoMemory),
         }
     }
 
@@ -141,6 +144,32 @@ impl<S: Store, K: Keeper> Repo<S, K> {
         ensures { (result ≡ Err NoMemory) ⊎ (result ≡ answer_of self.now.documents question.now) }
     {
         tell(self.alloc, &self.store, question)
+    }
+
+    /// Which documents the answer to a question tells, where such answers are poured: those that tell whole documents, a page
+    /// of any or one submodel. `None` exactly for other questions; only `NotFound` and `NoMemory` come.
+    pub fn plan(&self, question: &Question) -> Result<Option<Plan>, Refusal>
+        requires { self.now.stopped ≡ false }
+        ensures planned { IfOk result (IsPlanOf self.now.documents question.now) }
+        ensures refused { IfErr result (λ refusal. (refusal ≡ NoMemory)
+            ⊎ ((is_planned question.now ≡ true) × (answer_of self.now.documents question.now ≡ Err refusal))) }
+    {
+        aas_answer::plan(self.alloc, &self.store, question)
+    }
+
+    /// How many bytes the answer of the plan has, or `None` where they are 2^64 or more. It takes no memory.
+    pub fn measure(&self, plan: &Plan) -> Option<u64>
+        ensures { let bytes = length (plan_text self.now.documents plan.now) in
+            result ≡ (if nat_lt bytes (2 ^ 64) then Some bytes else None) }
+    {
+        measure_plan(&self.store, plan)
+    }
+
+    /// Puts the answer of the plan. It takes no memory.
+    pub fn pour<O: Out>(&self, plan: &Plan, out: &mut O) -> Result<(), Failed>
+        ensures { Puts (O.told out.old) (O.told out.new) result (plan_text self.now.documents plan.now) }
+    {
+        pour_plan(&self.store, plan, out)
     }
 
     /// Asks whether a shell is there and has a reference to a submodel, as all that goes through the shell to the submodel

@@ -11,15 +11,12 @@ ghost use Rattle.aas_step.specs.Made.{id_of, with_document};
 ghost use Rattle.aas_store.specs.Documents.{Documents};
 ghost use Rattle.aas_repo.specs.Decisions.{Puts};
 
-use crate::count::has_more_elements;
+use crate::count::{ELEMENT_LIMIT, has_more_elements};
 use aas_constraints::{check_concept, check_shell, check_submodel};
 use aas_model::{Collection, Concept, Fault, NoMemory, Shell, Submodel};
 use aas_step::valid_submodels_are_storable;
 use aas_store::Store;
 use std::alloc::Global;
-
-/// The most elements that a submodel may have.
-const ELEMENT_LIMIT: u32 = 65_536;
 
 /// A document that a command brings.
 pub(crate) trait Stored: Drop + Sized {

@@ -14,9 +14,9 @@ ghost use Rattle.aas_store.specs.Edited.{FitsAt, Holds};
 ghost use Rattle.aas_repo.specs.Decisions.{IsDecision};
 ghost use Rattle.aas_repo.specs.Patches.{IsPatchFor, IsRefused, refusal_behind};
 
-use crate::containers::not_found;
 use crate::decision::Decision;
 use crate::editing::decision_of;
+use aas_answer::not_found;
 use aas_command::{Absent, Refusal, SentValue};
 use aas_model::{Duplicate, Element, Fault, NoMemory, Patch, Path, Submodel, Text};
 use aas_store::{Lack, Store};

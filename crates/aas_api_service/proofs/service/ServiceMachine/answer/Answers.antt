@@ -1,5 +1,11 @@
+use Rattle.std.proofs.Common.{Result, subst, sym}
 use Rattle.aas_http.specs.Steps.{message_of}
+use Rattle.aas_http.specs.declared.replies.Reply.{Reply}
 use Rattle.aas_repo.specs.Held.{state_of}
+use Rattle.aas_rule.specs.State.{repository_of}
+use Rattle.aas_session.specs.Answers.{Answers}
+use Rattle.aas_session.specs.declared.machine.Stop.{Stop}
+use Rattle.aas_api_service.specs.Turns.{Turns}
 use Rattle.aas_api_service.proofs.Outcomes.{answers_asked, answers_refused, asked_of}
 use Rattle.aas_api_service.proofs.WellFormed.{asks_well}
 use Rattle.aas_api_service.proofs.service.ServiceMachine.answer.Goals as goal
@@ -12,12 +18,15 @@ answer-requires-clause-well_formed g c =
 pub returns-in-Ok-clause-answered : goal.returns-in-Ok-clause-answered
 returns-in-Ok-clause-answered g c = λ records settled.
     let m = message_of c.args.request.now in
-    answers_asked (g.K.Keeper.room_behind c.args.self.now.repo.keeper) g.K.Keeper.stands_for _ _ _ m c.in-Ok.call c.answer.result
+    answers_asked (g.K.Keeper.room_behind c.args.self.now.repo.keeper) g.K.Keeper.stands_for _ _ _ m c.in-Ok.call _
     (asked_of m c.in-Ok.call c.in-Ok.ensures) (c.answer.ensures.answered records settled)
 
 pub returns-in-Err-clause-answered : goal.returns-in-Err-clause-answered
 returns-in-Err-clause-answered g c = λ records settled.
     let K = g.K.Keeper in
+    let room = K.room_behind c.args.self.now.repo.keeper in
     let state = state_of K.kept K.moment K.left_at c.args.self.now.repo in
-    answers_refused (K.room_behind c.args.self.now.repo.keeper) K.stands_for state records settled (message_of c.args.request.now)
-    c.in-Err.refusal c.refuse.result c.in-Err.ensures c.refuse.ensures.refused
+    let m = message_of c.args.request.now in
+    let P : Result Reply Stop → Type 0 = λ a. Answers (Turns room) K.stands_for (repository_of state records) m state.moment state a in
+    subst P (sym (c.whole.ensures.whole c.args.self.now.repo.documents))
+    (answers_refused room K.stands_for state records settled m c.in-Err.refusal c.refuse.result c.in-Err.ensures c.refuse.ensures.refused)

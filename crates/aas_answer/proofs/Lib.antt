@@ -1,0 +1,7 @@
+mod Entries
+mod Found
+mod Low
+mod Pages
+mod Planned
+mod Shown
+mod Stored

@@ -1,0 +1,62 @@
+-- What a store tells of a submodel by its head and its rows.
+use Rattle.std.proofs.Common.{◌≡◌, ◌≤◌, List, [], length, Option, Some, None, refl, sym, ap, ◌∙◌, subst, arith}
+use Rattle.std.specs.Prelude.{MatchOption, option_map}
+use Rattle.std.specs.FinMap as map
+use Rattle.std.specs.Option.{option_map_or}
+use Rattle.aas_json_mapping.specs.Documents.{spell_submodel}
+use Rattle.serde_json.specs.Written.{compact_text}
+use Rattle.aas_model.specs.declared.documents.Submodel.{Submodel}
+use Rattle.aas_model_names.specs.declared.modifiers.Extent.{Extent}
+use Rattle.aas_model_names.specs.declared.modifiers.Level.{Level}
+use Rattle.aas_pour.specs.Poured.{AreLow}
+use Rattle.aas_pour.specs.Submodels.{shown_submodel}
+use Rattle.aas_rows.specs.Rows.{Line, rows_of_all}
+use Rattle.aas_rows.proofs.Edited.{count_at}
+use Rattle.aas_step.specs.Laws.{ValidIsStorable}
+use Rattle.aas_step.specs.Valid.{AreValid}
+use Rattle.aas_store.specs.Documents.{Documents, Identifier, without_children}
+use Rattle.aas_store.specs.Storable.{IsStorable}
+use Rattle.aas_answer.specs.Answers.{submodel_shown}
+use Rattle.aas_answer.specs.Shown.{show_at}
+use Rattle.aas_answer.proofs.Low.{rows_are_low}
+use Rattle.aas_answer.proofs.Pages.{head_there}
+use Rattle.aas_answer.proofs.Shown.{submodel_text_shown}
+
+-- these rows are those of the submodel that is found
+abbrev pub HasLines : Option Submodel → List Line → Type 0
+HasLines found lines = MatchOption found ⊥ (λ s. lines ≡ rows_of_all s.kids 1)
+
+-- valid submodels
+abbrev pub HasValid : Option Submodel → Type 0
+HasValid found = (s : Submodel) → found ≡ Some s → IsStorable s
+
+pub storable : (d : Documents) (id : Identifier) → ValidIsStorable → AreValid d → HasValid (map.get d.submodels id)
+storable d id law valid s is = let there = valid.submodels id s is in law s there.valid there.few
+
+pub few_lines : (found : Option Submodel) (lines : List Line) → HasValid found → HasLines found lines → length lines ≤ 65536
+few_lines None lines valid has = absurd has
+few_lines (Some s) lines valid has = let few = (valid s refl).few in omega (arith, few, ap length has ∙ count_at s.kids 1)
+
+pub low_lines : (found : Option Submodel) (lines : List Line) → HasValid found → HasLines found lines → AreLow lines
+low_lines None lines valid has = absurd has
+low_lines (Some s) lines valid has = subst AreLow (sym has) (rows_are_low s.kids (valid s refl).shallow)
+
+-- what is shown of a stored submodel with the children that its rows tell
+pub shown_of_lines : (level : Level) (extent : Extent) (found : Option Submodel) (h : Submodel) (lines : List Line) → HasValid found → HasLines found lines
+    → Some (without_children h) ≡ option_map without_children found
+    → (s : Submodel) × (lines ≡ rows_of_all s.kids 1) × (compact_text (spell_submodel (shown_submodel (show_at 0 level extent) h s.kids)) ≡ option_map_or (submodel_shown level extent) found [])
+shown_of_lines level extent None h lines valid has is = absurd has
+shown_of_lines level extent (Some s) h lines valid has is =
+    let there = head_there (Some s) h is in
+    let w = show_at 0 level extent in
+    let same : s ≡ there.0 = cc in (
+      s,
+      has,
+      ap (λ h. compact_text (spell_submodel (shown_submodel w h s.kids))) (there.2 ∙ ap without_children (sym same))
+          ∙ submodel_text_shown level extent s (rows_are_low s.kids (valid s refl).shallow),
+    )
+
+-- a submodel that isn't told of by its head isn't there
+pub no_head : (found : Option Submodel) → None ≡ option_map without_children found → found ≡ None
+no_head None is = refl
+no_head (Some s) is = absurd (cc)

@@ -1,0 +1,58 @@
+-- What pages tell of their entries, by the form in which they tell it (IDTA-01002-3-0, the content modifiers Normal, Metadata,
+-- Value and Reference).
+use Rattle.std.specs.Prelude.{◌≡◌, ℕ, List, []}
+use Rattle.std.specs.FinMap as map
+use Rattle.std.specs.Option.{option_map_or}
+use Rattle.aas_constraint_laws.specs.Valid.{IsValid}
+use Rattle.aas_constraint_rules.specs.Faults as faults
+use Rattle.aas_form.specs.MetadataForm.{metadata_form, submodel_metadata}
+use Rattle.aas_form.specs.ReferenceTo.{child_reference, shell_reference, submodel_reference}
+use Rattle.aas_json_mapping.specs.Trees.{elements, submodels}
+use Rattle.aas_json_spelling.specs.Spells.{canonical_text}
+use Rattle.aas_model.specs.declared.documents.Submodel.{Submodel}
+use Rattle.aas_model.specs.declared.element.Element.{Element}
+use Rattle.aas_model_names.specs.declared.collection.Collection.{Collection}
+use Rattle.aas_model_names.specs.declared.collection.Collection.TheVariants.{Shells, Submodels}
+use Rattle.aas_page.specs.declared.filter.Selection.{Selection}
+use Rattle.aas_store.specs.Documents.{Documents, Identifier, without_children}
+use Rattle.aas_answer.specs.Answers.{Answer, element_shown, of_shells, of_submodels, reference_text, submodel_valued}
+use Rattle.aas_answer.specs.declared.forms.ChildForm.{ChildForm}
+use Rattle.aas_answer.specs.declared.forms.ChildForm.TheVariants as child
+use Rattle.aas_answer.specs.declared.forms.DocumentForm.{DocumentForm}
+use Rattle.aas_answer.specs.declared.forms.DocumentForm.TheVariants as document
+use Rattle.aas_answer.specs.declared.forms.SubmodelForm.{SubmodelForm}
+use Rattle.aas_answer.specs.declared.forms.SubmodelForm.TheVariants as submodel
+
+abbrev pub submodel_text : SubmodelForm → Submodel → List ℕ
+submodel_text submodel.Metadata s = canonical_text submodels (submodel_metadata s)
+submodel_text (submodel.Value level extent) s = submodel_valued level extent s
+submodel_text submodel.Reference s = reference_text (submodel_reference s)
+
+-- it differs from a valid submodel at most in its children
+abbrev pub HasValidHead : Submodel → Type 0
+HasValidHead h = (s : Submodel) × IsValid (faults.submodel s) × (without_children h ≡ without_children s)
+
+-- of a child of a submodel
+abbrev pub child_text : ChildForm → Submodel → Element → List ℕ
+child_text (child.Whole level extent) s e = element_shown level extent e
+child_text child.Metadata s e = canonical_text elements (metadata_form e)
+child_text child.Reference s e = reference_text (child_reference s e)
+
+-- the children of the submodel of an identifier
+abbrev pub children_of : Documents → Identifier → List Element
+children_of d id = option_map_or (λ s. s.kids) (map.get d.submodels id) []
+
+-- ---- documents
+
+abbrev pub collection_of : DocumentForm → Collection
+collection_of document.ShellReference = Shells
+collection_of (document.Submodel form) = Submodels
+
+-- of the document of an identifier; nothing where there is none
+abbrev pub document_text : DocumentForm → Identifier → Documents → List ℕ
+document_text document.ShellReference id d = option_map_or (λ s. reference_text (shell_reference s)) (map.get d.shells id) []
+document_text (document.Submodel form) id d = option_map_or (submodel_text form) (map.get d.submodels id) []
+
+abbrev pub documents_in : DocumentForm → Documents → Selection → Answer
+documents_in document.ShellReference d s = of_shells d s (λ x. reference_text (shell_reference x))
+documents_in (document.Submodel form) d s = of_submodels d s (submodel_text form)

@@ -1,0 +1,202 @@
+// Plans of answers, and the texts that are poured by them.
+ghost use Rattle.std.specs.Prelude.{◌≡◌, ◌^◌, [], codes, is_some, length, nat_lt, slice_get, Some, None, if◌then◌else◌, IfOk};
+ghost use Rattle.std.specs.List.{join_by};
+ghost use Rattle.std.specs.Option.{option_map_or};
+ghost use Rattle.serde_json.specs.Written.{comma_if};
+ghost use Rattle.aas_out.specs.Adds.{Adds};
+ghost use Rattle.aas_out.specs.Told.{Puts};
+ghost use Rattle.aas_step.specs.Valid.{AreValid};
+ghost use Rattle.aas_answer.specs.Answers.{cursor_text, page_begin, page_text};
+ghost use Rattle.aas_answer.specs.Plans.{entry_text, plan_text};
+
+use crate::pouring::pour_document;
+use aas_model::{Collection, Extent, Level, Many, NoMemory, Text};
+use aas_out::{Failed, Out, Pour, Pouring, TextOut, add, measure};
+use aas_store::Store;
+use std::alloc::Global;
+use std::marker::Model;
+
+/// Which documents an answer tells: those of a page, or a single one.
+#[derive(Drop)]
+pub struct Plan {
+    /// The identifiers of the documents.
+    pub ids: Many<Text>,
+    /// The cursor of the page behind, if a further document follows.
+    pub cursor: Option<Many<u8>>,
+    pub collection: Collection,
+    /// The first document alone is told, and not as a page.
+    pub single: bool,
+    /// The level at which submodels are shown.
+    pub level: Level,
+    /// The extent to which submodels are shown.
+    pub extent: Extent,
+}
+
+/// Puts the text of the plan. A document that isn't there is told as nothing.
+pub fn pour_plan<S: Store, O: Out>(store: &S, plan: &Plan, out: &mut O) -> Result<(), Failed>
+    requires { AreValid (S.documents store.now) }
+    ensures { Puts (O.told out.old) (O.told out.new) result (plan_text (S.documents store.now) plan.now) }
+{
+    pour_text(Pouring::Going, store, plan, out).outcome()
+}
+
+fn pour_text<S: Store, O: Out>(so_far: Pouring, store: &S, plan: &Plan, out: &mut O) -> Pouring
+    requires { AreValid (S.documents store.now) }
+    ensures { Adds so_far result (O.told out.old) (O.told out.new) (plan_text (S.documents store.now) plan.now) }
+{
+    if plan.single {
+        pour_single(so_far, store, plan, out)
+    } else {
+        pour_page(so_far, store, plan, out)
+    }
+}
+
+/// Puts what is told of the document of the identifier.
+fn pour_entry<S: Store, O: Out>(
+    so_far: Pouring,
+    store: &S,
+    plan: &Plan,
+    id: &Text,
+    out: &mut O,
+) -> Pouring
+    requires { AreValid (S.documents store.now) }
+    ensures { Adds so_far result (O.told out.old) (O.told out.new) (entry_text (S.documents store.now) plan.now id.now) }
+{
+    pour_document(
+        so_far,
+        store,
+        plan.collection,
+        id.as_str(),
+        plan.level,
+        plan.extent,
+        out,
+    )
+}
+
+/// Puts what is told of the first document.
+fn pour_single<S: Store, O: Out>(so_far: Pouring, store: &S, plan: &Plan, out: &mut O) -> Pouring
+    requires { AreValid (S.documents store.now) }
+    ensures { Adds so_far result (O.told out.old) (O.told out.new)
+        (option_map_or (entry_text (S.documents store.now) plan.now) (slice_get plan.now.ids 0) []) }
+{
+    match plan.ids.get(0) {
+        Some(id) => pour_entry(so_far, store, plan, id, out),
+        None => so_far,
+    }
+}
+
+/// Puts the page.
+fn pour_page<S: Store, O: Out>(so_far: Pouring, store: &S, plan: &Plan, out: &mut O) -> Pouring
+    requires { AreValid (S.documents store.now) }
+    ensures { Adds so_far result (O.told out.old) (O.told out.new)
+        (page_text (entry_text (S.documents store.now) plan.now) plan.now.cursor (record { entries = plan.now.ids; more = is_some plan.now.cursor })) }
+{
+    let begun = pour_begin(so_far, &plan.cursor, out);
+    let told = pour_entries(begun, store, plan, out);
+    add(told, b"]}", out)
+}
+
+/// Puts the text of a page up to its first entry, with the cursor of the page behind it.
+fn pour_begin<O: Out>(so_far: Pouring, cursor: &Option<Many<u8>>, out: &mut O) -> Pouring
+    ensures { Adds so_far result (O.told out.old) (O.told out.new) (page_begin cursor.now) }
+{
+    let named = add(so_far, b"{\"paging_metadata\":", out);
+    let paged = pour_cursor(named, cursor, out);
+    add(paged, b",\"result\":[", out)
+}
+
+fn pour_cursor<O: Out>(so_far: Pouring, cursor: &Option<Many<u8>>, out: &mut O) -> Pouring
+    ensures { Adds so_far result (O.told out.old) (O.told out.new) (cursor_text cursor.now) }
+{
+    match cursor {
+        None => add(so_far, b"{}", out),
+        Some(cursor) => {
+            let named = add(so_far, b"{\"cursor\":\"", out);
+            let told = add(named, cursor.as_slice(), out);
+            add(told, b"\"}", out)
+        }
+    }
+}
+
+/// Puts the entries of the page, with commas between them.
+fn pour_entries<S: Store, O: Out>(so_far: Pouring, store: &S, plan: &Plan, out: &mut O) -> Pouring
+    requires { AreValid (S.documents store.now) }
+    ensures { Adds so_far result (O.told out.old) (O.told out.new)
+        (join_by (entry_text (S.documents store.now) plan.now) (codes ",") plan.now.ids) }
+{
+    let mut state = so_far;
+    for (place, id) in plan.ids.as_slice().iter().enumerate() {
+        let comma = add(state, comma_of(place > 0), out);
+        state = pour_entry(comma, store, plan, id, out);
+    }
+    state
+}
+
+/// A comma, before an entry that isn't the first.
+fn comma_of(is_later: bool) -> &'static [u8]
+    ensures { result.now ≡ comma_if is_later }
+{
+    if is_later { b"," } else { b"" }
+}
+
+/// The text of a plan over the documents of a store, which are valid.
+///
+/// Contracts see it as this text.
+#[derive(Drop)]
+pub struct PlanText<'a, S: Store> {
+    store: &'a S,
+    plan: &'a Plan,
+}
+
+impl<'a, S: Store> Model for PlanText<'a, S> {
+    ghost use Rattle.std.specs.Prelude.{ℕ, List};
+    ghost use Rattle.aas_step.specs.Valid.{AreValid};
+    ghost use Rattle.aas_answer.specs.Plans.{plan_text};
+
+    ghost Value = { List ℕ };
+
+    ghost view = { λ text. plan_text (S.documents text.store.now) text.plan.now };
+
+    ghost invariant = { λ text. AreValid (S.documents text.store.now) };
+}
+
+impl<'a, S: Store> PlanText<'a, S> {
+    pub fn new(store: &'a S, plan: &'a Plan) -> PlanText<'a, S>
+        requires { AreValid (S.documents store.now) }
+        ensures { result ≡ plan_text (S.documents store.now) plan.now }
+    {
+        PlanText { store, plan }
+    }
+}
+
+impl<'a, S: Store> Pour for PlanText<'a, S> {
+    ghost text = { λ text. text };
+
+    fn pour<O: Out>(&self, out: &mut O) -> Result<(), Failed> {
+        pour_plan(self.store, self.plan, out)
+    }
+}
+
+/// How many bytes the text of the plan has, or `None` where they are 2^64 or more.
+pub fn measure_plan<S: Store>(store: &S, plan: &Plan) -> Option<u64>
+    requires { AreValid (S.documents store.now) }
+    ensures { let bytes = length (plan_text (S.documents store.now) plan.now) in result ≡ (if nat_lt bytes (2 ^ 64) then Some bytes else None) }
+{
+    measure(&PlanText::new(store, plan))
+}
+
+/// The text of the plan, in memory.
+pub(crate) fn plan_in_memory<S: Store>(
+    alloc: Global,
+    store: &S,
+    plan: &Plan,
+) -> Result<Many<u8>, NoMemory>
+    requires { AreValid (S.documents store.now) }
+    ensures { IfOk result (λ text. text ≡ plan_text (S.documents store.now) plan.now) }
+{
+    let mut out = TextOut::new(alloc);
+    match pour_plan(store, plan, &mut out) {
+        Ok(()) => Ok(Many::from(out.into_text())),
+        Err(_) => Err(NoMemory),
+    }
+}

@@ -1,0 +1,85 @@
+// Documents of a store are put into an end.
+ghost use Rattle.std.specs.Prelude.{◌≡◌, []};
+ghost use Rattle.std.specs.FinMap as map;
+ghost use Rattle.std.specs.Option.{option_map_or};
+ghost use Rattle.aas_out.specs.Adds.{Adds};
+ghost use Rattle.aas_step.specs.Valid.{AreValid};
+ghost use Rattle.aas_answer.specs.Answers.{submodel_shown};
+ghost use Rattle.aas_answer.specs.Shown.{document_shown, show_at};
+
+use crate::stored_rows::StoredRows;
+use aas_members_text::{Show, pour_concept, pour_shell};
+use aas_model::{Collection, Extent, Level};
+use aas_out::{Out, Pouring};
+use aas_pour::pour_submodel;
+use aas_step::valid_submodels_are_storable;
+use aas_store::Store;
+
+/// A level at which no element stands, since none stands deeper than level 30.
+const PAST_ALL: u64 = 31;
+
+/// What is shown of what stands at a level in its document.
+pub(crate) fn show_at(at: u32, level: Level, extent: Extent) -> Show
+    ensures { result ≡ show_at at level extent }
+{
+    let cut = match level {
+        Level::Deep => PAST_ALL,
+        Level::Core => u64::from(at) + 1,
+    };
+    Show {
+        cut,
+        blobs: matches!(extent, Extent::WithBlobValue),
+    }
+}
+
+/// Puts the text of the document of the identifier, a submodel's at a level and to an extent; nothing where there is none.
+pub fn pour_document<S: Store, O: Out>(
+    so_far: Pouring,
+    store: &S,
+    collection: Collection,
+    id: &str,
+    level: Level,
+    extent: Extent,
+    out: &mut O,
+) -> Pouring
+    requires { AreValid (S.documents store.now) }
+    ensures { Adds so_far result (O.told out.old) (O.told out.new) (document_shown collection level extent id.now (S.documents store.now)) }
+{
+    match collection {
+        Collection::Shells => match store.shell(id) {
+            Some(shell) => pour_shell(so_far, shell, out),
+            None => so_far,
+        },
+        Collection::Submodels => pour_stored(so_far, store, id, level, extent, out),
+        Collection::Concepts => match store.concept(id) {
+            Some(concept) => pour_concept(so_far, concept, out),
+            None => so_far,
+        },
+    }
+}
+
+/// Puts the text of the submodel of the identifier, at a level and to an extent; nothing where there is none.
+fn pour_stored<S: Store, O: Out>(
+    so_far: Pouring,
+    store: &S,
+    id: &str,
+    level: Level,
+    extent: Extent,
+    out: &mut O,
+) -> Pouring
+    requires { AreValid (S.documents store.now) }
+    ensures { Adds so_far result (O.told out.old) (O.told out.new)
+        (option_map_or (submodel_shown level extent) (map.get (S.documents store.now).submodels id.now) []) }
+{
+    match store.submodel_head(id) {
+        Some(head) => match store.table(id) {
+            Some(table) => {
+                valid_submodels_are_storable();
+                let rows = StoredRows::<S>::new(table);
+                pour_submodel(so_far, head, &rows, show_at(0, level, extent), out)
+            }
+            None => so_far,
+        },
+        None => so_far,
+    }
+}

@@ -1,0 +1,48 @@
+// The rows of a stored submodel.
+ghost use Rattle.std.specs.Prelude.{◌≡◌, ◌≤◌, length};
+
+use aas_pour::Rows;
+use aas_rows::RowView;
+use aas_store::Store;
+use std::marker::Model;
+
+/// The rows of a stored submodel that has at most 65,536 elements.
+///
+/// Contracts see it as these rows.
+#[derive(Drop)]
+pub struct StoredRows<'a, S: Store> {
+    table: &'a S::Table,
+}
+
+impl<'a, S: Store> Model for StoredRows<'a, S> {
+    ghost use Rattle.std.specs.Coded.{codes};
+    ghost use Rattle.std.specs.Prelude.{◌≤◌, List, length};
+    ghost use Rattle.aas_model.specs.contracts.common.Common as common;
+    ghost use Rattle.aas_model.specs.contracts.payload.Payload as payload;
+    ghost use Rattle.aas_rows.specs.Rows.{Line};
+
+    ghost Value = { List Line };
+
+    ghost coded = { Prim.hlevel (codes, common.the_row.coded, payload.the_row.coded) };
+
+    ghost view = { λ rows. S.rows rows.table.now };
+
+    ghost invariant = { λ rows. length (S.rows rows.table.now) ≤ 65536 };
+}
+
+impl<'a, S: Store> StoredRows<'a, S> {
+    pub fn new(table: &'a S::Table) -> StoredRows<'a, S>
+        requires { length (S.rows table.now) ≤ 65536 }
+        ensures { result ≡ S.rows table.now }
+    {
+        StoredRows { table }
+    }
+}
+
+impl<'a, S: Store> Rows for StoredRows<'a, S> {
+    ghost lines = { λ rows. rows };
+
+    fn row(&self, rank: u64) -> Option<RowView<'_>> {
+        S::row_of(self.table, rank)
+    }
+}

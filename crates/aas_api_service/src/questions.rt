@@ -1,0 +1,99 @@
+// Questions answered: the answer of a plan is counted, and poured behind its reply; every other stands in its reply.
+ghost use Rattle.std.specs.Prelude.{◌≡◌, ◌↔◌, length, false, Err, IfOk, IsSome};
+ghost use Rattle.aas_answer.specs.Answers.{answer_of};
+ghost use Rattle.aas_answer.specs.Plans.{plan_text};
+ghost use Rattle.aas_http.specs.ReplyText.{phrase};
+ghost use Rattle.aas_session.specs.WholeReply.{IsMeasured, whole_reply};
+ghost use Rattle.aas_store.specs.Documents.{Documents};
+ghost use Rattle.aas_api_service.specs.Finished.{IsReply, whole_of};
+ghost use Rattle.aas_api_service.specs.Replies.{reply_too_long};
+ghost use Rattle.aas_api_service.specs.Turns.{answer_reply, counted_reply, reply_with};
+
+use crate::refusals::too_long;
+use crate::replies::{open_reply, refuse, told};
+use aas_answer::Plan;
+use aas_http::Reply;
+use aas_model::{Many, NoMemory};
+use aas_outside::Keeper;
+use aas_question::Question;
+use aas_repo::Repo;
+use aas_session::{Answer, Stop};
+use aas_store::Store;
+use std::alloc::Global;
+
+/// What a question is answered.
+pub(crate) fn tell<S: Store, K: Keeper>(
+    alloc: Global,
+    repo: &Repo<S, K>,
+    question: &Question,
+) -> Result<Answer<Plan>, Stop>
+    requires { repo.now.stopped ≡ false }
+    ensures told { IsReply (answer_reply question.now (answer_of repo.now.documents question.now)) (whole_of repo.now.documents result) }
+    ensures measured { IfOk result (IsMeasured (plan_text repo.now.documents)) }
+    ensures phrase { IfOk result (λ answer. IsSome (phrase answer.reply.status)) }
+{
+    match repo.plan(question) {
+        Ok(Some(plan)) => tell_planned(alloc, repo, plan),
+        Ok(None) => whole(told(alloc, repo.ask(question))),
+        Err(refusal) => whole(refuse(alloc, refusal)),
+    }
+}
+
+/// What is answered by a plan, unless that is too long.
+fn tell_planned<S: Store, K: Keeper>(
+    alloc: Global,
+    repo: &Repo<S, K>,
+    plan: Plan,
+) -> Result<Answer<Plan>, Stop>
+    ensures told { IsReply (counted_reply (plan_text repo.now.documents plan)) (whole_of repo.now.documents result) }
+    ensures measured { IfOk result (IsMeasured (plan_text repo.now.documents)) }
+    ensures phrase { IfOk result (λ answer. IsSome (phrase answer.reply.status)) }
+{
+    match repo.measure(&plan) {
+        Some(later) => match poured(alloc, plan, later) {
+            Ok(answer) => Ok(answer),
+            Err(NoMemory) => Err(Stop::NoMemory),
+        },
+        None => whole(refuse_long(alloc)),
+    }
+}
+
+/// A reply without a body, behind which so many bytes are poured by a plan.
+fn poured(alloc: Global, plan: Plan, later: u64) -> Result<Answer<Plan>, NoMemory>
+    ensures later { IfOk result (λ answer. answer.reply.later ≡ later) }
+    ensures whole { (d : Documents) → later ≡ length (plan_text d plan) → IfOk result (λ answer.
+        (whole_reply (plan_text d) answer ≡ reply_with 200 (plan_text d plan)) × IsMeasured (plan_text d) answer) }
+    ensures status { IfOk result (λ answer. answer.reply.status ≡ 200) }
+{
+    let mut reply = open_reply(alloc, 200, Many::new(alloc))?;
+    reply.later = later;
+    Ok(Answer {
+        reply,
+        plan: Some(plan),
+    })
+}
+
+fn refuse_long(alloc: Global) -> Result<Reply, Stop>
+    ensures reply { IsReply reply_too_long result }
+    ensures phrase { IfOk result (λ reply. IsSome (phrase reply.status)) }
+    ensures later { IfOk result (λ reply. reply.later ≡ 0) }
+{
+    match too_long(alloc) {
+        Ok(reply) => Ok(reply),
+        Err(NoMemory) => Err(Stop::NoMemory),
+    }
+}
+
+/// The answer of a reply behind which nothing is poured.
+pub(crate) fn whole(reply: Result<Reply, Stop>) -> Result<Answer<Plan>, Stop>
+    requires { IfOk reply (λ reply. reply.later ≡ 0) }
+    ensures whole { (d : Documents) → whole_of d result ≡ reply }
+    ensures fault { (result ≡ Err Stop.StorageFault) ↔ (reply ≡ Err Stop.StorageFault) }
+    ensures measured { (d : Documents) → IfOk result (IsMeasured (plan_text d)) }
+    ensures phrase { IfOk reply (λ reply. IsSome (phrase reply.status)) → IfOk result (λ answer. IsSome (phrase answer.reply.status)) }
+{
+    match reply {
+        Ok(reply) => Ok(Answer { reply, plan: None }),
+        Err(stop) => Err(stop),
+    }
+}

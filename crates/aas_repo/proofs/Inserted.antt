@@ -1,0 +1,243 @@
+-- What the insertion of an element comes to, where it is accepted by its place.
+use Rattle.std.proofs.Common.{◌≡◌, ⊎_elim, ℕ, ◌+◌, ◌≤◌, Bool, true, false, List, [], ◌∷◌, ◌++◌, length, map as each, flat_map, Option, Some, None, option_and_then, inl, refl, sym, ap, ap₂, ◌∙◌, arith}
+use Rattle.std.proofs.lemmas.Bool.Decides.{nat_tests}
+use Rattle.std.specs.Prelude.{◌&&◌, IfSome, IsSome, MatchOption, is_some, nat_lt, option_map, take}
+use Rattle.std.specs.FinMap as map
+use Rattle.std.specs.Option.{option_or}
+use Rattle.std.specs.Str.{encode_utf8_all}
+use Rattle.aas_command.specs.declared.command.Command.TheVariants.{InsertElement}
+use Rattle.aas_command.specs.declared.refusal.Absent.TheVariants as absent
+use Rattle.aas_command.specs.declared.refusal.Refusal.TheVariants.{Conflict, NotAContainer, NotFound, StorageFull}
+use Rattle.aas_constraint_laws.specs.Law.{behind}
+use Rattle.aas_constraint_rules.specs.Faults.{broken, fault, faults_at, is_template}
+use Rattle.aas_constraint_rules.specs.Rules.{agree, first_some, is_repeat, semantics_of}
+use Rattle.aas_constraint_rules.specs.Sites.{Own, Site, own_of, sites, sites_among, stands_in_list, step_to, tree_of, trees, under}
+use Rattle.aas_edit_faults.specs.Laws.{EditsCount, EditsKeepValid, InsertedStandsAlone, IsNewName, faults_as_child}
+use Rattle.aas_edit_faults.specs.Laws as laws
+use Rattle.aas_edit_laws.proofs.Attributes.{insert_keeps_attributes}
+use Rattle.aas_edit_laws.specs.Laws.{at_level}
+use Rattle.aas_json_mapping.specs.Whole.{is_whole_element}
+use Rattle.aas_lemmas.proofs.Lists.{no_first, no_map, no_second}
+use Rattle.aas_model.specs.declared.documents.Submodel.{Submodel}
+use Rattle.aas_model.specs.declared.element.Element.{Element, Element-F, out-Element, out-roll-Element}
+use Rattle.aas_model.specs.declared.element.Role.{Role}
+use Rattle.aas_model.specs.declared.path.Fault.{Fault}
+use Rattle.aas_model.specs.declared.path.Path.{Path}
+use Rattle.aas_model.specs.declared.path.PathStep.{PathStep}
+use Rattle.aas_model.specs.declared.reference.Reference.{Reference}
+use Rattle.aas_path_trees.specs.Children.{id_short_of, with_role}
+use Rattle.aas_path_trees.specs.Edits.{inserted, role_at, role_under_found}
+use Rattle.aas_path_trees.specs.ElementAt.{depth_found, element_at, place_named}
+use Rattle.aas_path_trees.specs.Patched.{kinds}
+use Rattle.aas_reference.specs.Rules.{first}
+use Rattle.aas_step.specs.Causes.{Cause, first_of, insert_causes, is_container, is_named_among, unless, when}
+use Rattle.aas_step.specs.Laws.{ValidIsStorable}
+use Rattle.aas_step.specs.Valid.{AreValid}
+use Rattle.aas_store.specs.Documents.{Documents, without_children}
+use Rattle.aas_store.specs.Edited.{Holds, with_changed}
+use Rattle.aas_store.specs.Reads as reads
+use Rattle.aas_store.specs.Reads.{IsRowOf, children_at}
+use Rattle.aas_store.specs.Storable.{IsStorable, element_count}
+use Rattle.aas_repo.proofs.Accepted as accepted
+use Rattle.aas_repo.proofs.Accepted.{holds_at, holds_then}
+use Rattle.aas_repo.specs.Accepted.{IsAccepted}
+use Rattle.aas_repo.specs.Decisions.{Edits, IsDecision}
+use Rattle.aas_repo.specs.Inserting.{IsAbove, IsInsertable, IsLead, IsNew, role_below}
+use Rattle.aas_repo.specs.declared.decision.Decision.TheVariants as decision
+
+-- ---- the place
+
+-- the same children, as the laws of edits call them
+same_children : (s : Submodel) (p : List PathStep) → children_at s p ≡ laws.children_at s p
+same_children s [] = refl
+same_children s (t ∷ p) = refl
+
+-- ---- the first semanticId
+
+first_is : (ks : List Element) → reads.first_semantic_id ks ≡ first_some (each semantics_of (each own_of ks))
+first_is [] = refl
+first_is (k ∷ ks) = by_own (semantics_of (own_of k)) (first_is ks)
+  where
+    by_own : (z : Option Reference) → reads.first_semantic_id ks ≡ first_some (each semantics_of (each own_of ks))
+        → option_or z (reads.first_semantic_id ks) ≡ first_some (z ∷ each semantics_of (each own_of ks))
+    by_own None more = more
+    by_own (Some r) more = refl
+
+pub in_list : (d : Documents) (id bytes : List ℕ) (p : List PathStep) (a : Option Own) (e : Element) (lead : Option Reference) → bytes ≡ id → stands_in_list a ≡ true
+    → lead ≡ option_and_then (λ s. reads.first_semantic_id (children_at s p)) (map.get d.submodels bytes) → IfSome (map.get d.submodels id) (IsLead p a e lead)
+in_list d id bytes p a e lead same list is =
+    by_submodel (map.get d.submodels id) (is ∙ ap (λ (i : List ℕ). option_and_then (λ s. reads.first_semantic_id (children_at s p)) (map.get d.submodels i)) same)
+  where
+    by_submodel : (found : Option Submodel) → lead ≡ option_and_then (λ s. reads.first_semantic_id (children_at s p)) found → IfSome found (IsLead p a e lead)
+    by_submodel None is = tt
+    by_submodel (Some s) is = inl (list, is ∙ first_is (children_at s p))
+
+-- ---- the faults of a last child
+
+none_first : (fs : List Fault) → None ≡ first fs → fs ≡ []
+none_first [] is = refl
+none_first (f ∷ fs) is = absurd (cc)
+
+under_none : (s : PathStep) (xs : List Site) → flat_map faults_at xs ≡ [] → flat_map faults_at (each (under s) xs ++ []) ≡ []
+under_none s [] none = refl
+under_none s (x ∷ xs) none =
+    ap₂ (λ (ns : List ℕ) (l : List Fault). each (fault (s ∷ x.path)) ns ++ l)
+    (no_map (fault x.path) (broken x) (no_first (faults_at x) (flat_map faults_at xs) none)) (under_none s xs (no_second (faults_at x) (flat_map faults_at xs) none))
+
+among_none : (t : Bool) (a : Option Own) (b : List Own) (e : Element) → flat_map faults_at (sites t a b (tree_of e)) ≡ []
+    → flat_map faults_at (sites_among t a b (trees (tree_of e ∷ []))) ≡ []
+unfolding sites sites_among
+among_none t a b e none = under_none _ (sites t a b (tree_of e)) none
+
+no_repeat : (n : Option (List ℕ)) → is_repeat [] n ≡ false
+no_repeat None = refl
+no_repeat (Some n) = refl
+
+new_name : (ks : List Element) (n : Option (List ℕ)) → is_named_among n ks ≡ false → IsNewName ks n
+new_name ks None new = tt
+new_name ks (Some n) new = by_place (place_named n ks) new
+  where
+    by_place : (place : Option ℕ) → is_some place ≡ false → place ≡ None
+    by_place None is = refl
+    by_place (Some i) is = absurd (cc)
+
+agrees : (x z : Option Reference) → z ≡ None → agree x z ≡ true
+agrees None z is = refl
+agrees (Some r) z is = ap (agree (Some r)) is
+
+-- what a check of the child finds, of which is known what came before it
+abbrev Checked : Bool → Option Own → Element → Option Reference → Type 0
+Checked t a e lead = (b : List Own) → is_repeat b (own_of e).common.id_short ≡ false → lead ≡ first_some (each semantics_of b)
+    → None ≡ first (flat_map faults_at (sites t a b (tree_of e)))
+
+faultless : (s : Submodel) (p : List PathStep) (a : Option Own) (e : Element) (lead : Option Reference) (t : Bool) → InsertedStandsAlone → t ≡ is_template s.kind
+    → IsAbove p a s → IsNew p a e s → IsLead p a e lead s → Checked t a e lead → faults_as_child s p (laws.children_at s p) e ≡ []
+faultless s p a e lead t law template above new lead_is checked =
+    let ks = laws.children_at s p in
+    ⊎_elim
+    (λ list.
+    let b = each own_of ks in
+    let none = none_first _ (checked b (ap (is_repeat b) (new.unnamed list.0)) (list.1 ∙ ap (λ l. first_some (each semantics_of (each own_of l))) (same_children s p))) in
+    ap (λ (fs : List Fault). each (behind p) fs)
+    (ap₂ (λ (u : Bool) (o : Option Own). flat_map faults_at (sites_among u o b (trees (tree_of e ∷ [])))) (sym template) above.own
+    ∙ among_none t a b e none))
+    (λ nothing.
+    let none = none_first _ (checked [] (no_repeat (id_short_of e)) nothing.0) in
+    law s p e (new_name ks (id_short_of e) (ap (is_named_among (id_short_of e)) (sym (same_children s p)) ∙ new.others))
+    (λ list. agrees (first_some (each semantics_of (each own_of ks))) (semantics_of (own_of e)) (nothing.1 (ap stands_in_list (sym above.own) ∙ list)))
+    ∙ ap (λ (fs : List Fault). each (behind (p ++ step_to (option_map own_of (element_at s p)) (length ks) (own_of e) ∷ [])) fs)
+    (ap₂ (λ (u : Bool) (o : Option Own). flat_map faults_at (sites u o [] (tree_of e))) (sym template) above.own ∙ none))
+    lead_is
+
+pub is_faultless : (d : Documents) (id bytes : List ℕ) (p : List PathStep) (a : Option Own) (e : Element) (lead : Option Reference) (t : Bool) (head : Submodel)
+    → InsertedStandsAlone → bytes ≡ id
+    → option_map without_children (Some head) ≡ option_map without_children (map.get d.submodels bytes) → t ≡ is_template head.kind
+    → IfSome (map.get d.submodels id) (IsAbove p a) → IfSome (map.get d.submodels id) (IsNew p a e) → IfSome (map.get d.submodels id) (IsLead p a e lead)
+    → Checked t a e lead → Holds d id (λ s. faults_as_child s p (laws.children_at s p) e ≡ [])
+is_faultless d id bytes p a e lead t head law same head_is template above new lead_is checked =
+    by_submodel (map.get d.submodels id) (head_is ∙ ap (λ (i : List ℕ). option_map without_children (map.get d.submodels i)) same) above new lead_is
+  where
+    by_submodel : (found : Option Submodel) → option_map without_children (Some head) ≡ option_map without_children found
+        → IfSome found (IsAbove p a) → IfSome found (IsNew p a e) → IfSome found (IsLead p a e lead)
+        → MatchOption found ⊥ (λ s. faults_as_child s p (laws.children_at s p) e ≡ [])
+    by_submodel None is above new lead_is = absurd (cc)
+    by_submodel (Some s) is above new lead_is =
+        let same_head : without_children head ≡ without_children s = cc in
+        faultless s p a e lead t law (template ∙ ap (λ (x : Submodel). is_template x.kind) same_head) above new lead_is checked
+
+-- ---- the insertion
+
+-- the role of a new child
+role_is : (s : Submodel) (p : List PathStep) (a : Option Own) (e : Element) → IsAbove p a s → role_at s p e ≡ role_below a e
+role_is s [] a e above = ap (λ o. role_below o e) above.own
+role_is s (t ∷ q) a e above = by_found (element_at s (t ∷ q)) above.there above.own
+  where
+    by_found : (found : Option Element) → is_some found ≡ true → option_map own_of found ≡ a → role_under_found found e ≡ role_below a e
+    by_found None is own = absurd (cc)
+    by_found (Some o) is own = ap (λ o. role_below o e) own
+
+within : (n k m : ℕ) → n ≡ k + m → k + m ≤ 65536 → nat_lt 65536 n ≡ false
+within n k m is few = grind (arith, nat_tests)
+
+no_conflict : (b : Bool) (rest : List Cause) → first_of (when (b && false) Conflict ∷ rest) ≡ first_of rest
+no_conflict true rest = refl
+no_conflict false rest = refl
+
+no_cause : (s : Submodel) (p : List PathStep) (a : Option Own) (e : Element) (r : Role) → IsAbove p a s → IsNew p a e s → role_at s p e ≡ Some r
+    → first_of (insert_causes p e s) ≡ None
+no_cause s p a e r above new role =
+    let conflict : Bool → Cause = λ b. when (is_container s p && b) Conflict in
+    let role_cause : Option Role → Cause = λ r. unless (is_some r) NotAContainer in
+    ap (λ (b : Bool). first_of (unless b (NotFound (absent.Element (record { steps = take (depth_found s p) p })))
+    ∷ conflict (is_named_among (id_short_of e) (children_at s p)) ∷ role_cause (role_at s p e) ∷ [])) above.there
+    ∙ ap (λ (b : Bool). first_of (conflict b ∷ role_cause (role_at s p e) ∷ [])) new.others
+    ∙ no_conflict (is_container s p) (role_cause (role_at s p e) ∷ [])
+    ∙ ap (λ (r : Option Role). first_of (role_cause r ∷ [])) role
+
+pub is_insertable : (d : Documents) (id : List ℕ) (p : List PathStep) (a : Option Own) (e child : Element) (r : Role) → EditsKeepValid → EditsCount → AreValid d
+    → is_whole_element (at_level (length p + 1)) e ≡ true → Some r ≡ role_below a e → child ≡ with_role e r
+    → IfSome (map.get d.submodels (encode_utf8_all id)) (IsAbove p a) → IfSome (map.get d.submodels (encode_utf8_all id)) (IsNew p a e)
+    → IfSome (map.get d.submodels (encode_utf8_all id)) (λ s. element_count s + length (kinds e) ≤ 65536)
+    → Holds d (encode_utf8_all id) (λ s. faults_as_child s p (laws.children_at s p) child ≡ []) → IsInsertable d id p e
+is_insertable d id p a e child r keep count valid whole role same above new few none = by_submodel (map.get d.submodels (encode_utf8_all id)) refl above new few none
+  where
+    by_submodel : (found : Option Submodel) → map.get d.submodels (encode_utf8_all id) ≡ found
+        → IfSome found (IsAbove p a) → IfSome found (IsNew p a e) → IfSome found (λ s. element_count s + length (kinds e) ≤ 65536)
+        → MatchOption found ⊥ (λ s. faults_as_child s p (laws.children_at s p) child ≡ []) → MatchOption found ⊥ (IsAccepted (insert_causes p e) (λ s. inserted s p e))
+    by_submodel None is above new few none = absurd none
+    by_submodel (Some s) is above new few none =
+        let role_at_is : role_at s p e ≡ Some r = role_is s p a e above ∙ sym role in record {
+          no_cause = no_cause s p a e r above new role_at_is;
+          valid = keep.inserted s p e r (valid.submodels (encode_utf8_all id) s is).valid role_at_is whole
+              (ap (faults_as_child s p (laws.children_at s p)) (sym same) ∙ none);
+          few = within _ _ _ (count.inserted s p e r role_at_is) few;
+        }
+
+-- a child has the name of what it is a copy of, in whatever role
+pub new_in_role : (d : Documents) (id : List ℕ) (p : List PathStep) (a : Option Own) (e child : Element) (r : Role) → child ≡ with_role e r
+    → IfSome (map.get d.submodels id) (IsNew p a e) → IfSome (map.get d.submodels id) (IsNew p a child)
+new_in_role d id p a e child r same new = by_submodel (map.get d.submodels id) new
+  where
+    name : id_short_of child ≡ id_short_of e
+    name = ap id_short_of same ∙ ap (λ (f : Element-F Element). f.common.id_short) (out-roll-Element (record (out-Element e) { role = r }))
+
+    by_submodel : (found : Option Submodel) → IfSome found (IsNew p a e) → IfSome found (IsNew p a child)
+    by_submodel None new = tt
+    by_submodel (Some s) new = record {
+      others = ap (λ n. is_named_among n (children_at s p)) name ∙ new.others;
+      unnamed = λ list. name ∙ new.unnamed list;
+    }
+
+-- ---- in the store
+
+module _ (d : Documents) (id : List ℕ) (p : Path) (e : Element) where
+  edits : Edits (InsertElement id p e) id (insert_causes p.steps e) (λ s. inserted s p.steps e) d
+  edits = record { causes_are = refl; made = λ new is. is; left_are = refl }
+
+  taken : (x y : Cause) (b : Bool) → first_of (x ∷ y ∷ unless b NotAContainer ∷ []) ≡ None → b ≡ true
+  taken (Some r) y b is = absurd (cc)
+  taken None (Some r) b is = absurd (cc)
+  taken None None true is = refl
+  taken None None false is = absurd (cc)
+
+  pub takes : (bytes : List ℕ) → bytes ≡ encode_utf8_all id → IsInsertable d id p.steps e → Holds d bytes (λ s. IsSome (role_at s p.steps e))
+  takes bytes same accepted =
+      holds_at d (encode_utf8_all id) bytes (λ s. IsSome (role_at s p.steps e)) same
+      (holds_then d (encode_utf8_all id) (IsAccepted (insert_causes p.steps e) (λ s. inserted s p.steps e)) (λ s. IsSome (role_at s p.steps e))
+      (λ s is one. taken _ _ _ one.no_cause) accepted)
+
+  pub can_store : (bytes : List ℕ) → ValidIsStorable → bytes ≡ encode_utf8_all id → IsInsertable d id p.steps e
+      → Holds d bytes (λ s. IsStorable (inserted s p.steps e))
+  can_store bytes law same insertable =
+      holds_at d (encode_utf8_all id) bytes (λ s. IsStorable (inserted s p.steps e)) same
+      (accepted.storable d (InsertElement id p e) id (insert_causes p.steps e) (λ s. inserted s p.steps e) edits law insertable)
+
+  pub no_room : IsInsertable d id p.steps e → IsDecision false d (InsertElement id p e) d (decision.Refused StorageFull)
+  no_room insertable = accepted.no_room d (InsertElement id p e) id (insert_causes p.steps e) (λ s. inserted s p.steps e) edits insertable
+
+  pub made : (new : Documents) (bytes : List ℕ) → AreValid d → IsInsertable d id p.steps e → bytes ≡ encode_utf8_all id
+      → new ≡ with_changed d bytes (λ s. inserted s p.steps e) → IsDecision true d (InsertElement id p e) new decision.Made
+  made new bytes valid insertable same is =
+      accepted.made d (InsertElement id p e) id (insert_causes p.steps e) (λ s. inserted s p.steps e) edits new valid
+      (λ s. (insert_keeps_attributes s p.steps e).head) insertable
+      (is ∙ ap (λ (b : List ℕ). with_changed d b (λ s. inserted s p.steps e)) same)

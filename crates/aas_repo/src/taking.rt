@@ -1,0 +1,61 @@
+// A command is taken, before the keeper is called.
+ghost use Rattle.std.specs.Prelude.{◌≡◌, ◌^◌, ◌≤◌, ℕ, List, IsTrue, length, false};
+ghost use Rattle.aas_command.specs.Commands.{IsWellFormed, payload_of};
+ghost use Rattle.aas_repo.specs.Decisions.{IsDecision, IsTaken};
+ghost use Rattle.aas_step.specs.Valid.{AreValid};
+
+use crate::deciding::decide;
+use crate::decision::{Decision, Taken};
+use aas_command::{Command, EncodeFault, encode};
+use aas_outside::Keeper;
+use aas_step::documents_stay_valid;
+use aas_store::Store;
+use std::alloc::Global;
+
+/// Refuses the command, or makes its change in the store and its frame for the keeper. The causes are tried from the left;
+/// whether there is room is asked before, and the answer is used last.
+pub(crate) fn take<S: Store, K: Keeper>(
+    alloc: Global,
+    store: &mut S,
+    keeper: &K,
+    command: Command,
+) -> Taken
+    requires valid { AreValid (S.documents store.old) }
+    requires well_formed { IsWellFormed command }
+    ensures taken { IsTaken (K.has_room keeper.now) (K.kept keeper.now) (K.room_behind keeper.now)
+        (S.documents store.old) command (S.documents store.new) result }
+    ensures valid { AreValid (S.documents store.new) }
+{
+    match encode(alloc, &command) {
+        Ok(frame) => {
+            let has_room = keeper.room(frame.len());
+            match change(alloc, store, command, has_room) {
+                Decision::Made => Taken::Made(frame),
+                Decision::Refused(refusal) => Taken::Refused(refusal),
+                Decision::NoMemory => Taken::NoMemory,
+            }
+        }
+        Err(EncodeFault::TooLong) => match change(alloc, store, command, false) {
+            Decision::Made => unreachable!(),
+            Decision::Refused(refusal) => Taken::Refused(refusal),
+            Decision::NoMemory => Taken::NoMemory,
+        },
+        Err(EncodeFault::NoMemory) => {
+            drop(command);
+            Taken::NoMemory
+        }
+    }
+}
+
+/// Refuses the command, or makes its change in the store, which stays one of valid documents. The causes are tried from the
+/// left, and the last is that there is no room to keep the command.
+#[tactic(auto, using(crate::proofs::Taken::decided_valid))]
+pub fn change<S: Store>(alloc: Global, store: &mut S, command: Command, has_room: bool) -> Decision
+    requires valid { AreValid (S.documents store.old) }
+    requires well_formed { IsWellFormed command }
+    ensures decision { IsDecision has_room (S.documents store.old) command (S.documents store.new) result }
+    ensures valid { AreValid (S.documents store.new) }
+{
+    documents_stay_valid();
+    decide(alloc, store, command, has_room)
+}
