@@ -1,8 +1,8 @@
 mod Above
 mod Blamed
 mod Payload
+mod Poured
 mod Put
 mod Settled
-mod Utf8
 pub mod WellFormed
 mod Written

@@ -1,6 +1,6 @@
--- The text of an environment, as far as it is written.
-use Rattle.std.proofs.Common.{◌≡◌, ◌≢◌, ℕ, Bool, true, false, List, [], ◌∷◌, ◌++◌, map, length, Option, Some, None, refl, sym, ap, ap₂, ◌∙◌, append_assoc}
-use Rattle.std.specs.Prelude.{codes, get_or}
+-- The text of an environment, as far as it is put.
+use Rattle.std.proofs.Common.{◌≡◌, ◌≢◌, ℕ, Bool, true, false, ◌||◌, List, [], ◌∷◌, ◌++◌, map, length, Option, Some, None, refl, sym, ap, ap₂, ◌∙◌, append_assoc}
+use Rattle.std.specs.Prelude.{codes, get_or, is_some}
 use Rattle.std.specs.FinMap as fin
 use Rattle.std.specs.FinMap.{entries_sorted, get-entries, len-entries}
 use Rattle.std.specs.List.{All}
@@ -9,17 +9,24 @@ use Rattle.std.proofs.lemmas.List.{nil_from_length}
 use Rattle.std.proofs.lemmas.List.Elements.{All-head, All-tail}
 use Rattle.std.proofs.lemmas.Option.{slice_get-get_or}
 use Rattle.std.proofs.lemmas.Simd.{map-map}
-use Rattle.serde_json.specs.Data.{Data, Members, array, member, no_items, string}
+use Rattle.json.specs.Print.{escape_byte}
+use Rattle.serde_json.specs.Data.{Data, Members, array, no_items, no_members}
 use Rattle.serde_json.specs.Written.{comma_if, compact_text, items_text, members_text}
 use Rattle.aas_json_mapping.specs.Documents.{spell_concept, spell_shell, spell_submodel}
+use Rattle.aas_json_mapping.specs.Trees.{environments}
+use Rattle.aas_json_spelling.specs.Spells.{canonical_text}
 use Rattle.aas_json_table.specs.Canonical.{add, listed}
 use Rattle.aas_json_table.specs.Spelled.{onto}
 use Rattle.aas_model_names.specs.declared.collection.Collection.{Collection}
 use Rattle.aas_model_names.specs.declared.collection.Collection.TheVariants.{Concepts, Shells, Submodels}
+use Rattle.aas_model_names.specs.declared.modifiers.Extent.TheVariants.{WithBlobValue}
+use Rattle.aas_model_names.specs.declared.modifiers.Level.TheVariants.{Deep}
+use Rattle.aas_model.specs.declared.documents.Environment.{Environment}
 use Rattle.aas_store.proofs.Ordered.{found_at}
 use Rattle.aas_store.specs.Documents.{Documents, Identifier, Map, count, first_above, ids}
 use Rattle.aas_environment.specs.Environments.{environment_of}
-use Rattle.aas_environment.specs.Members.{document_text, name_of, spellings, with_member}
+use Rattle.aas_answer.specs.Shown.{document_shown}
+use Rattle.aas_environment.specs.Members.{has_member, member_text, name_of, name_text, spellings}
 use Rattle.aas_environment.proofs.Above.{above, all_above_none, ids_rise, next, none_above}
 
 -- ---- the array of a collection
@@ -52,6 +59,10 @@ module _ {X : Type 0} (m : Map X) (text : X → List ℕ) where
   unfolding found
   all_found = map-map _ _ (fin.entries m) ∙ same_texts (λ (e : Identifier × X). found e.0) (λ (e : Identifier × X). text e.1) (fin.entries m) each_found ∙ sym (map-map _ _ (fin.entries m))
 
+-- all of a document
+abbrev pub document_text : Collection → Documents → Identifier → List ℕ
+document_text c d id = document_shown c Deep WithBlobValue id d
+
 whole : (c : Collection) (d : Documents) → items_text false (spellings c (environment_of d)) ≡ rest_of false (map (document_text c d) (ids c d))
 whole Shells d = of_items spell_shell false (fin.values d.shells) ∙ ap (rest_of false) (sym (all_found d.shells (λ s. compact_text (spell_shell s))))
 whole Submodels d = of_items spell_submodel false (fin.values d.submodels) ∙ ap (rest_of false) (sym (all_found d.submodels (λ s. compact_text (spell_submodel s))))
@@ -82,7 +93,7 @@ all_done c d old start now new later after is begun closed so_far =
     closed ∙ ap (λ all. now ++ rest_of later (map (document_text c d) all)) (sym (none_above after (ids c d) is)) ∙ sym so_far
     ∙ ap (λ t. t ++ items) begun ∙ append_assoc old (codes "[") items
 
--- ---- the member of a collection
+-- ---- the members
 
 none_listed : {X : Type 0} (spell : X → Data) (m : Map X) → fin.len m ≡ 0 → listed (onto (map spell (fin.values m)) no_items) ≡ None
 none_listed spell m none = ap (λ (es : List (Identifier × _)). listed (onto (map spell (map (λ e. e.1) es)) no_items)) (nil_from_length (fin.entries m) (sym (len-entries m) ∙ none))
@@ -94,25 +105,57 @@ some_listed {X = X} spell m some = by (fin.entries m) (λ none. some (len-entrie
     by [] some = absurd (some refl)
     by (e ∷ es) some = refl
 
-pub no_member : (c : Collection) (d : Documents) (others : Members) → count c d ≡ 0 → with_member c (environment_of d) others ≡ others
-no_member Shells d others none = ap (λ o. add (name_of Shells) o others) (none_listed spell_shell d.shells none)
-no_member Submodels d others none = ap (λ o. add (name_of Submodels) o others) (none_listed spell_submodel d.submodels none)
-no_member Concepts d others none = ap (λ o. add (name_of Concepts) o others) (none_listed spell_concept d.concepts none)
+pub not_there : (c : Collection) (d : Documents) → count c d ≡ 0 → listed (spellings c (environment_of d)) ≡ None
+not_there Shells d none = none_listed spell_shell d.shells none
+not_there Submodels d none = none_listed spell_submodel d.submodels none
+not_there Concepts d none = none_listed spell_concept d.concepts none
 
-a_member : (c : Collection) (d : Documents) (others : Members) → count c d ≢ 0
-    → with_member c (environment_of d) others ≡ member (name_of c) (array (spellings c (environment_of d))) others
-a_member Shells d others some = ap (λ o. add (name_of Shells) o others) (some_listed spell_shell d.shells some)
-a_member Submodels d others some = ap (λ o. add (name_of Submodels) o others) (some_listed spell_submodel d.submodels some)
-a_member Concepts d others some = ap (λ o. add (name_of Concepts) o others) (some_listed spell_concept d.concepts some)
+pub there : (c : Collection) (d : Documents) → count c d ≢ 0 → listed (spellings c (environment_of d)) ≡ Some (array (spellings c (environment_of d)))
+there Shells d some = some_listed spell_shell d.shells some
+there Submodels d some = some_listed spell_submodel d.submodels some
+there Concepts d some = some_listed spell_concept d.concepts some
 
-regrouped : (old comma name text others : List ℕ) → old ++ (comma ++ (name ++ 58 ∷ (text ++ others))) ≡ ((((old ++ comma) ++ name) ++ 58 ∷ []) ++ text) ++ others
-regrouped old comma name text others = simp append_assoc
+-- whether a member stands before what follows
+pub still : (later : Bool) (c : Collection) (d : Documents) → count c d ≡ 0 → later ≡ (later || has_member c (environment_of d))
+still true c d none = refl
+still false c d none = ap is_some (sym (not_there c d none))
 
-pub member_told : (c : Collection) (d : Documents) (others : Members) (later : Bool) (old comma named new : List ℕ) → count c d ≢ 0
-    → comma ≡ old ++ comma_if later → named ≡ comma ++ compact_text (string (name_of c)) ++ 58 ∷ [] → new ≡ named ++ compact_text (array (spellings c (environment_of d)))
-    → old ++ members_text later (with_member c (environment_of d) others) ≡ new ++ members_text true others
-member_told c d others later old comma named new some separated begun told =
-    let text = compact_text (array (spellings c (environment_of d))) in
-    let rest = members_text true others in
-    ap (λ ms. old ++ members_text later ms) (a_member c d others some) ∙ regrouped old (comma_if later) (compact_text (string (name_of c))) text rest
-    ∙ ap (λ t. ((t ++ compact_text (string (name_of c)) ++ 58 ∷ []) ++ text) ++ rest) (sym separated) ∙ ap (λ t. (t ++ text) ++ rest) (sym begun) ∙ ap (λ t. t ++ rest) (sym told)
+pub from_now : (later : Bool) (c : Collection) (d : Documents) → count c d ≢ 0 → true ≡ (later || has_member c (environment_of d))
+from_now true c d some = refl
+from_now false c d some = ap is_some (sym (there c d some))
+
+-- the names have nothing to escape
+pub plain_name : (c : Collection) (name : List ℕ) → name ≡ name_of c → codes "\"" ++ (name ++ codes "\":") ≡ name_text c
+unfolding escape_byte
+plain_name Shells name is = ap (λ name. codes "\"" ++ (name ++ codes "\":")) is
+plain_name Submodels name is = ap (λ name. codes "\"" ++ (name ++ codes "\":")) is
+plain_name Concepts name is = ap (λ name. codes "\"" ++ (name ++ codes "\":")) is
+
+-- the member of a collection before others
+abbrev with_member : Collection → Environment → Members → Members
+with_member c e others = add (name_of c) (listed (spellings c e)) others
+
+before : (later : Bool) (c : Collection) (e : Environment) (others : Members)
+    → members_text later (with_member c e others) ≡ member_text later c e ++ members_text (later || has_member c e) others
+before later c e others = by later (listed (spellings c e))
+  where
+    by : (later : Bool) (o : Option Data) → members_text later (add (name_of c) o others)
+        ≡ option_map_or (λ list. comma_if later ++ (name_text c ++ compact_text list)) o [] ++ members_text (later || is_some o) others
+    by true None = refl
+    by false None = refl
+    by true (Some list) = sym (simp append_assoc)
+    by false (Some list) = sym (simp append_assoc)
+
+-- the text of the members, one after another
+pub text_whole : (e : Environment) (shells concepts : Bool) → shells ≡ has_member Shells e → concepts ≡ (shells || has_member Concepts e)
+    → codes "{" ++ (member_text false Shells e ++ (member_text shells Concepts e ++ (member_text concepts Submodels e ++ codes "}"))) ≡ canonical_text environments e
+text_whole e shells concepts is then =
+    let last = with_member Submodels e no_members in
+    let later = with_member Concepts e last in
+    sym (ap (λ t. codes "{" ++ t)
+    (before false Shells e later
+    ∙ ap (λ (b : Bool). member_text false Shells e ++ members_text b later) (sym is)
+    ∙ ap (λ t. member_text false Shells e ++ t)
+    (before shells Concepts e last
+    ∙ ap (λ (b : Bool). member_text shells Concepts e ++ members_text b last) (sym then)
+    ∙ ap (λ t. member_text shells Concepts e ++ t) (before concepts Submodels e no_members))))

@@ -1,5 +1,8 @@
--- The environment of what a store holds (IDTA-01001-3-0, class Environment).
+-- The environment of what a store holds (IDTA-01001-3-0, class Environment), and its text.
+use Rattle.std.specs.Prelude.{ℕ, List, [], ◌∷◌, ◌++◌}
 use Rattle.std.specs.FinMap as map
+use Rattle.aas_json_mapping.specs.Trees.{environments}
+use Rattle.aas_json_spelling.specs.Spells.{canonical_text}
 use Rattle.aas_model.specs.declared.documents.Environment.{Environment}
 use Rattle.aas_store.specs.Documents.{Documents}
 
@@ -10,3 +13,7 @@ environment_of d = record {
   submodels = map.values d.submodels;
   concepts = map.values d.concepts;
 }
+
+-- what is exported: its text, and a line feed
+abbrev pub export_text : Documents → List ℕ
+export_text d = canonical_text environments (environment_of d) ++ 10 ∷ []

@@ -1,17 +1,15 @@
--- The text of an environment, member by member and document by document (IDTA-01001-3-0, class Environment, JSON mapping).
-use Rattle.std.specs.Prelude.{ℕ, List, [], codes, map}
-use Rattle.std.specs.FinMap as fin
+-- The text of an environment, member by member (IDTA-01001-3-0, class Environment, JSON mapping).
+use Rattle.std.specs.Prelude.{ℕ, Bool, List, [], ◌∷◌, ◌++◌, codes, is_some, map}
 use Rattle.std.specs.Option.{option_map_or}
-use Rattle.serde_json.specs.Data.{Items, Members, no_items}
+use Rattle.json.specs.Print.{quoted}
+use Rattle.serde_json.specs.Data.{Items, no_items}
+use Rattle.serde_json.specs.Written.{comma_if, compact_text}
 use Rattle.aas_json_mapping.specs.Documents.{spell_concept, spell_shell, spell_submodel}
-use Rattle.aas_json_mapping.specs.Trees.{concepts, shells, submodels}
-use Rattle.aas_json_spelling.specs.Spells.{canonical_text}
-use Rattle.aas_json_table.specs.Canonical.{add, listed}
+use Rattle.aas_json_table.specs.Canonical.{listed}
 use Rattle.aas_json_table.specs.Spelled.{onto}
 use Rattle.aas_model.specs.declared.documents.Environment.{Environment}
 use Rattle.aas_model_names.specs.declared.collection.Collection.{Collection}
 use Rattle.aas_model_names.specs.declared.collection.Collection.TheVariants.{Concepts, Shells, Submodels}
-use Rattle.aas_store.specs.Documents.{Documents, Identifier}
 
 -- the member that lists a collection
 abbrev pub name_of : Collection → List ℕ
@@ -25,12 +23,14 @@ spellings Shells e = onto (map spell_shell e.shells) no_items
 spellings Submodels e = onto (map spell_submodel e.submodels) no_items
 spellings Concepts e = onto (map spell_concept e.concepts) no_items
 
--- the member of a collection before others, unless the collection is empty
-abbrev pub with_member : Collection → Environment → Members → Members
-with_member c e others = add (name_of c) (listed (spellings c e)) others
+-- whether a collection has its member, which it hasn't where it is empty
+abbrev pub has_member : Collection → Environment → Bool
+has_member c e = is_some (listed (spellings c e))
 
--- the text of the document of an identifier; nothing where there is none
-abbrev pub document_text : Collection → Documents → Identifier → List ℕ
-document_text Shells d id = option_map_or (canonical_text shells) (fin.get d.shells id) []
-document_text Submodels d id = option_map_or (canonical_text submodels) (fin.get d.submodels id) []
-document_text Concepts d id = option_map_or (canonical_text concepts) (fin.get d.concepts id) []
+-- the name of that member, with its colon
+abbrev pub name_text : Collection → List ℕ
+name_text c = quoted (name_of c) ++ 58 ∷ []
+
+-- the text of that member, behind a comma where another stands before it
+abbrev pub member_text : Bool → Collection → Environment → List ℕ
+member_text later c e = option_map_or (λ list. comma_if later ++ (name_text c ++ compact_text list)) (listed (spellings c e)) []

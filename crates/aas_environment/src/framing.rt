@@ -6,7 +6,7 @@ ghost use Rattle.aas_command.specs.declared.command.Command.TheVariants.{Import}
 ghost use Rattle.aas_step.specs.Valid.{AreValid};
 ghost use Rattle.aas_environment.specs.Environments.{environment_of};
 
-use crate::export_text;
+use crate::pouring::export_text;
 use aas_command::EncodeFault;
 use aas_outside::Frame;
 use aas_store::Store;
@@ -15,8 +15,8 @@ use std::alloc::Global;
 /// The tag of the payload of an import.
 const TAG: u8 = 17;
 
-/// The frame of the import of all documents of the store, which are valid. Besides the frame itself it takes the memory of the
-/// payload and of one document.
+/// The frame of the import of all documents of the store, which are valid. Besides the frame itself it takes the memory of its
+/// payload and of the text in that.
 pub fn import_frame<S: Store>(alloc: Global, store: &S) -> Result<Frame, EncodeFault>
     requires { AreValid (S.documents store.now) }
     ensures payload { MatchResult result

@@ -4,15 +4,19 @@
 #![tactic(auto)]
 
 mod blame;
-mod export;
+mod exported;
+mod exporting;
 mod framing;
 mod import_fault;
 mod importing;
 mod laws;
 mod members;
+mod pouring;
 
-pub use export::export_text;
+pub use exported::Export;
+pub use exporting::{ExportFault, export, measure_export};
 pub use framing::import_frame;
 pub use import_fault::ImportFault;
 pub use importing::import;
 pub use laws::{exports_come_back, twice_is_once};
+pub use pouring::pour_environment;

@@ -8,6 +8,7 @@ use Rattle.aas_outside.specs.Faults.{Rose}
 use Rattle.aas_outside.specs.Link.{GivesFront}
 use Rattle.aas_server.specs.Answer.{Answer, GivesFrontOf, Says, damage, refused}
 use Rattle.aas_server.specs.Ends.{ConsoleState}
+use Rattle.aas_server.specs.Telling.{statuses_with}
 
 -- after a call that gave nothing, of a text that is another's
 pub front_moved : (old mid new : Option (List ℕ)) (text items : List ℕ) → mid ≡ old → text ≡ items → GivesFront mid new text → GivesFront old new items
@@ -102,6 +103,15 @@ there_status n (inl is) = (1, lit< tt, sym is)
 there_status n (inr is) = (3, lit< tt, sym is)
 
 -- where no repository is begun
+pub telling_status : (others : List ℕ) (n : ℕ) → Contains (statuses_with []) n → Contains (statuses_with others) n
+telling_status others n (zero, low, is) = (0, omega arith, is)
+telling_status others n (suc zero, low, is) = (1, omega arith, is)
+telling_status others n (suc (suc zero), low, is) = (2, omega arith, is)
+telling_status others n (suc (suc (suc zero)), low, is) = (3, omega arith, is)
+telling_status others n (suc (suc (suc (suc zero))), low, is) = (4, omega arith, is)
+telling_status others n (suc (suc (suc (suc (suc zero)))), low, is) = (5, omega arith, is)
+telling_status others n (suc (suc (suc (suc (suc (suc k))))), low, is) = absurd (omega (arith, low))
+
 pub early_status : (n : ℕ) → Contains (0 ∷ 3 ∷ 4 ∷ 5 ∷ 6 ∷ 10 ∷ []) n → Contains (0 ∷ 3 ∷ 4 ∷ 5 ∷ 6 ∷ 9 ∷ 10 ∷ []) n
 early_status n (zero, low, is) = (0, lit< tt, is)
 early_status n (suc zero, low, is) = (1, lit< tt, is)

@@ -1,6 +1,7 @@
 mod Checkpointed
 mod DemoTaken
 mod Early
+mod Exported
 mod Few
 mod Given
 mod Held

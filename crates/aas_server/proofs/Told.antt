@@ -1,5 +1,5 @@
 -- What the repository that was opened on a disk comes to where the disk was only read.
-use Rattle.std.proofs.Common.{◌≡◌, ℕ, List, subst}
+use Rattle.std.proofs.Common.{◌≡◌, ℕ, subst}
 use Rattle.std.specs.Prelude.{IfSome}
 use Rattle.aas_journal.specs.Laws.{HaveOneList}
 use Rattle.aas_outside_disk.specs.Files.{Files}
@@ -7,19 +7,19 @@ use Rattle.aas_repo_replay.specs.Laws.{OneReplay}
 use Rattle.aas_rule.specs.Rule.{Repository}
 use Rattle.aas_rule.specs.State.{State}
 use Rattle.aas_store.specs.Documents.{Documents}
-use Rattle.aas_server.specs.Answer.{Says, done}
+use Rattle.aas_server.specs.Answer.{Answer, Says}
 use Rattle.aas_server.specs.Ends.{ConsoleState, DiskState, IsUnwritten}
 use Rattle.aas_server.specs.Telling.{IsTold}
 use Rattle.aas_server.proofs.Held.{IsOpened, has_begun, same}
 
--- of a text that is that of the documents
-pub told : HaveOneList → OneReplay → (text : Documents → List ℕ) (status : ℕ) (old new : ConsoleState) (start last : DiskState)
+-- of an answer about the documents
+pub told : HaveOneList → OneReplay → (answer : Documents → Answer) (status : ℕ) (old new : ConsoleState) (start last : DiskState)
     (opened : State Documents Files) → IfSome start.seen (IsOpened opened)
-    → Says (λ answer. answer ≡ done (text opened.documents)) status old new → new.left ≡ old.left → (status ≡ 10 → new ≡ old)
-    → IsUnwritten start last → IsTold text status old new start last
-told one_list one_replay text status old new start last opened is_opened says unread silent unwritten = record {
+    → Says (λ said. said ≡ answer opened.documents) status old new → new.left ≡ old.left → (status ≡ 10 → new ≡ old)
+    → IsUnwritten start last → IsTold answer status old new start last
+told one_list one_replay answer status old new start last opened is_opened says unread silent unwritten = record {
   has_begun = has_begun start opened is_opened;
-  says = λ r opens. subst (λ (x : Repository Documents). Says (λ answer. answer ≡ done (text x.documents)) status old new)
+  says = λ r opens. subst (λ (x : Repository Documents). Says (λ said. said ≡ answer x.documents) status old new)
       (same one_list one_replay start opened is_opened r opens) says;
   unread = unread;
   silent = silent;

@@ -1,5 +1,5 @@
 -- What a command answers. This profile's own rule.
-use Rattle.std.specs.Prelude.{◌≡◌, ◌≢◌, ◌⊎◌, ℕ, List, [], ◌∷◌, ◌++◌, codes, decimal, Option}
+use Rattle.std.specs.Prelude.{◌≡◌, ◌≢◌, ◌⊎◌, ◌^◌, ℕ, List, [], ◌∷◌, ◌++◌, codes, decimal, length, nat_lt, Option, if◌then◌else◌}
 use Rattle.std.specs.Io.KnownBytes.{append_known}
 use Rattle.aas_command.specs.Refusals.{code_of, text_of}
 use Rattle.aas_command.specs.declared.refusal.Refusal.{Refusal}
@@ -46,6 +46,14 @@ already_there = record { status = 8; text = line (codes "aasd: already there") }
 -- there is no room in the journal
 abbrev pub journal_full : Answer
 journal_full = record { status = 9; text = line (codes "aasd: journal full") }
+
+-- what is exported has 2^64 bytes or more
+abbrev pub too_long : Answer
+too_long = record { status = 11; text = [] }
+
+-- a text, unless it is too long
+abbrev pub exported : List ℕ → Answer
+exported text = if nat_lt (length text) (2 ^ 64) then done text else too_long
 
 -- the status and what was given are those of an answer with P
 abbrev pub GivesAnswer : (Answer → Type 0) → ℕ → Option (List ℕ) → Option (List ℕ) → Type 0

@@ -3,11 +3,11 @@ use Rattle.std.specs.Prelude.{◌≡◌, ◌≤◌, ℕ, List, [], ◌∷◌, �
 use Rattle.std.specs.List.{list_any}
 use Rattle.aas_server.specs.declared.command_line.CommandLine.{CommandLine}
 use Rattle.aas_server.specs.declared.command_line.CommandLine.TheVariants.{Value, Init, Pipe, Serve, Check, Export, Import, Demo, Checkpoint}
-use Rattle.aas_server.specs.Answer.{Says, not_a_command}
+use Rattle.aas_environment.specs.Environments.{export_text}
+use Rattle.aas_server.specs.Answer.{Says, done, exported, not_a_command}
 use Rattle.aas_server.specs.CheckText.{check_text}
 use Rattle.aas_server.specs.Checkpointing.{Checkpoints}
 use Rattle.aas_server.specs.Ends.{ConsoleState, DiskState, WireState}
-use Rattle.aas_server.specs.ExportText.{export_text}
 use Rattle.aas_server.specs.Importing.{ImportsDemo, ImportsInput}
 use Rattle.aas_server.specs.Init.{Inits}
 use Rattle.aas_server.specs.Pipe.{Pipes}
@@ -53,9 +53,9 @@ Does view (Some Init) status old new wire_old wire_new disk_old disk_new =
 Does view (Some Pipe) status old new wire_old wire_new disk_old disk_new =
     Pipes status old new (view disk_old) (view disk_new) × (wire_new ≡ wire_old)
 Does view (Some Check) status old new wire_old wire_new disk_old disk_new =
-    Tells check_text status old new (view disk_old) (view disk_new) × (wire_new ≡ wire_old)
+    Tells (λ d. done (check_text d)) status old new (view disk_old) (view disk_new) × (wire_new ≡ wire_old)
 Does view (Some Export) status old new wire_old wire_new disk_old disk_new =
-    Tells export_text status old new (view disk_old) (view disk_new) × (wire_new ≡ wire_old)
+    Tells (λ d. exported (export_text d)) status old new (view disk_old) (view disk_new) × (wire_new ≡ wire_old)
 Does view (Some Import) status old new wire_old wire_new disk_old disk_new =
     ImportsInput status old new (view disk_old) (view disk_new) × (wire_new ≡ wire_old)
 Does view (Some (Demo count)) status old new wire_old wire_new disk_old disk_new =
@@ -72,7 +72,7 @@ statuses_of (Some Value) = 0 ∷ 3 ∷ 7 ∷ 10 ∷ []
 statuses_of (Some Init) = 0 ∷ 3 ∷ 4 ∷ 8 ∷ []
 statuses_of (Some Pipe) = 0 ∷ 3 ∷ 4 ∷ 5 ∷ 6 ∷ 10 ∷ []
 statuses_of (Some Check) = 0 ∷ 3 ∷ 4 ∷ 5 ∷ 6 ∷ 10 ∷ []
-statuses_of (Some Export) = 0 ∷ 3 ∷ 4 ∷ 5 ∷ 6 ∷ 10 ∷ []
+statuses_of (Some Export) = 0 ∷ 3 ∷ 4 ∷ 5 ∷ 6 ∷ 10 ∷ 11 ∷ []
 statuses_of (Some Import) = 0 ∷ 3 ∷ 4 ∷ 5 ∷ 6 ∷ 7 ∷ 9 ∷ 10 ∷ []
 statuses_of (Some (Demo count)) = 0 ∷ 3 ∷ 4 ∷ 5 ∷ 6 ∷ 9 ∷ 10 ∷ []
 statuses_of (Some Checkpoint) = 0 ∷ 3 ∷ 4 ∷ 5 ∷ 6 ∷ 9 ∷ 10 ∷ []

@@ -6,7 +6,6 @@ pub mod CommandLine
 pub mod Console
 pub mod Early
 pub mod Ends
-pub mod ExportText
 pub mod Importing
 pub mod Init
 pub mod Laws

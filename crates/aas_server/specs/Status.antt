@@ -2,7 +2,7 @@
 use Rattle.std.specs.Prelude.{ℕ}
 use Rattle.aas_server.specs.declared.status.Status.{Status}
 use Rattle.aas_server.specs.declared.status.Status.TheVariants.{Done, NotACommand, LinkFault, DiskFault, NotInitialised, Damaged}
-use Rattle.aas_server.specs.declared.status.Status.TheVariants.{Refused, AlreadyThere, JournalFull, NoMemory}
+use Rattle.aas_server.specs.declared.status.Status.TheVariants.{Refused, AlreadyThere, JournalFull, NoMemory, TooLong}
 
 abbrev pub exit_code : Status → ℕ
 exit_code Done = 0
@@ -15,3 +15,4 @@ exit_code Refused = 7
 exit_code AlreadyThere = 8
 exit_code JournalFull = 9
 exit_code NoMemory = 10
+exit_code TooLong = 11

@@ -1,21 +1,25 @@
 -- What a command does that tells something of the documents on the disk. This profile's own rule.
-use Rattle.std.specs.Prelude.{◌≡◌, ◌⊎◌, ℕ, List}
+use Rattle.std.specs.Prelude.{◌≡◌, ◌⊎◌, ℕ, List, ◌∷◌}
 use Rattle.aas_rule.specs.Rule.{Repository}
 use Rattle.aas_store.specs.Documents.{Documents}
-use Rattle.aas_server.specs.Answer.{Says, done}
+use Rattle.aas_server.specs.Answer.{Answer, Says}
 use Rattle.aas_server.specs.Early.{EndsEarly}
 use Rattle.aas_server.specs.Ends.{ConsoleState, DiskState, IsUnwritten}
 use Rattle.aas_server.specs.Opening.{HasBegun, OpensAs}
 
--- The text of the documents was given. The console wasn't read, and the disk only was.
-pub record IsTold (text : Documents → List ℕ) (status : ℕ) (old new : ConsoleState) (disk_old disk_new : DiskState) : Type 0 where
+-- The answer about the documents was given. The console wasn't read, and the disk only was.
+pub record IsTold (answer : Documents → Answer) (status : ℕ) (old new : ConsoleState) (disk_old disk_new : DiskState) : Type 0 where
   pub has_begun : HasBegun disk_old
-  pub says : (r : Repository Documents) → OpensAs disk_old r → Says (λ answer. answer ≡ done (text r.documents)) status old new
+  pub says : (r : Repository Documents) → OpensAs disk_old r → Says (λ said. said ≡ answer r.documents) status old new
   pub unread : new.left ≡ old.left
   pub silent : status ≡ 10 → new ≡ old
   pub unwritten : IsUnwritten disk_old disk_new
 
--- no repository was begun, or the text was given
-abbrev pub Tells : (Documents → List ℕ) → ℕ → ConsoleState → ConsoleState → DiskState → DiskState → Type 0
-Tells text status old new disk_old disk_new =
-    EndsEarly status old new disk_old disk_new ⊎ IsTold text status old new disk_old disk_new
+-- no repository was begun, or the answer was given
+abbrev pub Tells : (Documents → Answer) → ℕ → ConsoleState → ConsoleState → DiskState → DiskState → Type 0
+Tells answer status old new disk_old disk_new =
+    EndsEarly status old new disk_old disk_new ⊎ IsTold answer status old new disk_old disk_new
+
+-- the statuses of each command that opens a journal, and others
+abbrev pub statuses_with : List ℕ → List ℕ
+statuses_with others = 0 ∷ 3 ∷ 4 ∷ 5 ∷ 6 ∷ 10 ∷ others

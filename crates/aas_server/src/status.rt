@@ -26,6 +26,8 @@ pub enum Status {
     JournalFull = 9,
     /// Memory was refused.
     NoMemory = 10,
+    /// What is exported has 2^64 bytes or more.
+    TooLong = 11,
 }
 
 impl Status {

@@ -1,71 +1,98 @@
 // The commands that tell something of the documents on a disk.
-ghost use Rattle.std.specs.Prelude.{◌≡◌, ◌≤◌, List, ℕ, Contains, IfOk};
+ghost use Rattle.std.specs.Prelude.{◌≡◌, ◌≤◌, List, ℕ, [], ◌∷◌, Contains};
 ghost use Rattle.aas_outside.specs.Moments.{Passes};
 ghost use Rattle.aas_store.specs.Documents.{Documents};
-ghost use Rattle.aas_step.specs.Valid.{AreValid};
-ghost use Rattle.aas_server.specs.Answer.{Says, done};
+ghost use Rattle.aas_environment.specs.Environments.{export_text};
+ghost use Rattle.aas_server.specs.Answer.{Answer, Says, done, exported};
 ghost use Rattle.aas_server.specs.CheckText.{check_text};
-ghost use Rattle.aas_server.specs.CommandLine.{statuses_of};
-ghost use Rattle.aas_server.specs.ExportText.{export_text};
 ghost use Rattle.aas_server.specs.Ends.{console_of, disk_of};
 ghost use Rattle.aas_server.specs.Status.{exit_code};
-ghost use Rattle.aas_server.specs.Telling.{Tells};
+ghost use Rattle.aas_server.specs.Telling.{Tells, statuses_with};
 
 use crate::check_text::check_text;
-use crate::command_line::CommandLine;
 use crate::commands::Ran;
 use crate::console::end_with;
 use crate::opening::open;
 use crate::serving::say_why;
 use crate::status::Status;
-use aas_environment::export_text;
+use aas_environment::{ExportFault, export};
 use aas_journal::{NotOpened, have_one_list};
 use aas_model::NoMemory;
-use aas_outside::Link;
+use aas_outside::{Keeper, Link};
 use aas_outside_disk::Disk;
+use aas_repo::Repo;
 use aas_repo_replay::payloads_replay_to_one_state;
 use aas_store::Store;
 use std::alloc::Global;
 
-/// A text about documents.
+/// What is answered about documents.
 pub(crate) trait Report {
-    ghost text: { Documents → List ℕ };
+    ghost answer: { Documents → Answer };
 
-    fn text<S: Store>(alloc: Global, store: &S) -> Result<Vec<u8>, NoMemory>
-        requires { AreValid (S.documents store.now) }
-        ensures { IfOk result (λ bytes. bytes.items ≡ text (S.documents store.now)) };
+    /// The statuses that it has besides those of each command that opens a journal.
+    ghost others: { List ℕ };
+
+    /// Gives the answer about the repository's documents to the console, or nothing for want of memory.
+    fn give<S: Store, K: Keeper, C: Link>(
+        alloc: Global,
+        repo: &Repo<S, K>,
+        console: &mut C,
+    ) -> Status
+        ensures says { Says (λ said. said ≡ answer repo.now.documents) (exit_code result)
+            (console_of C.left C.sent C.faults console.old) (console_of C.left C.sent C.faults console.new) }
+        ensures unread { C.left console.new ≡ C.left console.old }
+        ensures silent { exit_code result ≡ 10 →
+            console_of C.left C.sent C.faults console.new ≡ console_of C.left C.sent C.faults console.old }
+        ensures statuses { Contains (statuses_with others) (exit_code result) };
 }
 
 /// The references that lead nowhere.
 pub(crate) struct DanglingReferences;
 
 impl Report for DanglingReferences {
-    ghost text = { check_text };
+    ghost answer = { λ d. done (check_text d) };
 
-    fn text<S: Store>(alloc: Global, store: &S) -> Result<Vec<u8>, NoMemory> {
-        check_text(alloc, store)
+    ghost others = { [] };
+
+    fn give<S: Store, K: Keeper, C: Link>(
+        alloc: Global,
+        repo: &Repo<S, K>,
+        console: &mut C,
+    ) -> Status {
+        match check_text(alloc, repo.store()) {
+            Ok(text) => end_with(console, &text, Status::Done),
+            Err(NoMemory) => Status::NoMemory,
+        }
     }
 }
 
-/// All documents as one environment.
+/// All documents as one environment. It takes no memory.
 pub(crate) struct Export;
 
 impl Report for Export {
-    ghost text = { export_text };
+    ghost answer = { λ d. exported (export_text d) };
 
-    fn text<S: Store>(alloc: Global, store: &S) -> Result<Vec<u8>, NoMemory> {
-        let mut text = export_text(alloc, store)?;
-        text.extend_from_slice(b"\n")?;
-        Ok(text)
+    ghost others = { 11 ∷ [] };
+
+    fn give<S: Store, K: Keeper, C: Link>(
+        _alloc: Global,
+        repo: &Repo<S, K>,
+        console: &mut C,
+    ) -> Status {
+        match export(repo, console) {
+            Ok(_) => Status::Done,
+            Err(ExportFault::Failed) => Status::LinkFault,
+            Err(ExportFault::TooLong) => Status::TooLong,
+        }
     }
 }
 
-/// Gives the text of the documents on the disk to the console.
+/// Gives the answer about the documents on the disk to the console.
 pub(crate) fn tell<R: Report, C: Link, D: Disk>(alloc: Global, console: &mut C, disk: D) -> Ran<D>
-    ensures does { Tells R.text result.status
+    ensures does { Tells R.answer result.status
         (console_of C.left C.sent C.faults console.old) (console_of C.left C.sent C.faults console.new)
         (disk_of D.seen D.moment D.left_at D.faults disk) (disk_of D.seen D.moment D.left_at D.faults result.disk) }
-    ensures statuses { Contains (statuses_of (Some CommandLine.Check)) result.status }
+    ensures statuses { Contains (statuses_with R.others) result.status }
     ensures past { Passes (D.moment disk) (D.left_at disk) (D.moment result.disk) (D.left_at result.disk) }
     ensures later { D.faults disk ≤ D.faults result.disk }
 {
@@ -73,7 +100,7 @@ pub(crate) fn tell<R: Report, C: Link, D: Disk>(alloc: Global, console: &mut C, 
     payloads_replay_to_one_state();
     match open(alloc, disk) {
         Ok(repo) => {
-            let status = give(console, R::text(alloc, repo.store()));
+            let status = R::give(alloc, &repo, console);
             Ran {
                 status: status.exit_code(),
                 disk: repo.into_keeper().into_disk(),
@@ -83,21 +110,5 @@ pub(crate) fn tell<R: Report, C: Link, D: Disk>(alloc: Global, console: &mut C, 
             status: say_why(alloc, console, fault).exit_code(),
             disk,
         },
-    }
-}
-
-/// Gives the text, unless there was no memory for it.
-fn give<C: Link>(console: &mut C, text: Result<Vec<u8>, NoMemory>) -> Status
-    ensures says { (bytes : List ℕ) → IfOk text (λ text. text.items ≡ bytes) →
-        Says (λ answer. answer ≡ done bytes) (exit_code result)
-        (console_of C.left C.sent C.faults console.old) (console_of C.left C.sent C.faults console.new) }
-    ensures unread { C.left console.new ≡ C.left console.old }
-    ensures silent { exit_code result ≡ 10 →
-        console_of C.left C.sent C.faults console.new ≡ console_of C.left C.sent C.faults console.old }
-    ensures statuses { Contains (statuses_of (Some CommandLine.Check)) (exit_code result) }
-{
-    match text {
-        Ok(text) => end_with(console, &text, Status::Done),
-        Err(NoMemory) => Status::NoMemory,
     }
 }

@@ -3,6 +3,7 @@ use Rattle.aas_journal.specs.Shown.{disk_of as disk_in, kept_by}
 use Rattle.aas_server.specs.Ends.{console_of, disk_of}
 use Rattle.aas_server.specs.Status.{exit_code}
 use Rattle.aas_server.proofs.Early.{early}
+use Rattle.aas_server.proofs.Given.{telling_status}
 use Rattle.aas_server.proofs.Told.{told}
 use Rattle.aas_server.proofs.telling.tell.Goals as goal
 
@@ -14,7 +15,7 @@ returns-in-Ok-clause-does g c =
     rw c.into_disk.ensures
     (rw c.into_keeper.ensures
     (rw c.exit_code.ensures
-    (inr (told c.have_one_list.ensures c.payloads_replay_to_one_state.ensures g.R.Report.text (exit_code c.give-status.result)
+    (inr (told c.have_one_list.ensures c.payloads_replay_to_one_state.ensures g.R.Report.answer (exit_code c.give-status.result)
     (console_of C.left C.sent C.faults c.args.console.now) (console_of C.left C.sent C.faults c.give-status.new.console)
     (disk_of D.seen D.moment D.left_at D.faults c.args.disk) (disk_of D.seen D.moment D.left_at D.faults (disk_in opened.keeper))
     (record {
@@ -24,8 +25,7 @@ returns-in-Ok-clause-does g c =
       left_at = D.left_at opened.keeper.disk;
     })
     c.in-Ok.ensures.begun
-    (c.give-status.ensures.says (g.R.Report.text opened.documents) (rw c.store.ensures.documents at c.text.ensures))
-    c.give-status.ensures.unread c.give-status.ensures.silent
+    c.give-status.ensures.says c.give-status.ensures.unread c.give-status.ensures.silent
     (record { seen = c.in-Ok.ensures.reads.same; images = c.in-Ok.ensures.reads.images; past = c.in-Ok.ensures.reads.past })))))
 
 pub returns-in-Err-clause-does : goal.returns-in-Err-clause-does
@@ -38,3 +38,6 @@ returns-in-Err-clause-does g c =
     (disk_of D.seen D.moment D.left_at D.faults c.args.disk) (disk_of D.seen D.moment D.left_at D.faults c.in-Err.field-0.disk)
     c.in-Err.ensures.cause c.in-Err.ensures.failed c.say_why.ensures.says c.say_why.ensures.unread c.say_why.ensures.silent
     (record { seen = c.in-Err.ensures.reads.same; images = c.in-Err.ensures.reads.images; past = c.in-Err.ensures.reads.past })))
+
+pub returns-in-Err-clause-statuses : goal.returns-in-Err-clause-statuses
+returns-in-Err-clause-statuses g c = rw c.exit_code-in-Err.ensures (telling_status g.R.Report.others (exit_code c.say_why.result) c.say_why.ensures.statuses)

@@ -1,0 +1,57 @@
+// Exports.
+ghost use Rattle.std.specs.Prelude.{◌≡◌, ◌^◌, ◌↔◌, ◌≤◌, length, nat_lt, Some, None, Err, IfOk, if◌then◌else◌};
+ghost use Rattle.std.specs.Io.KnownBytes.{append_known};
+ghost use Rattle.aas_outside.specs.Faults.{Rose};
+ghost use Rattle.aas_outside.specs.Link.{GivesFront};
+ghost use Rattle.aas_environment.specs.Environments.{export_text};
+
+use crate::exported::Export;
+use aas_out::{Failed, Link, give_poured, measure};
+use aas_outside::Keeper;
+use aas_repo::Repo;
+use aas_store::Store;
+
+/// Why an export has no end.
+#[derive(Debug, Drop)]
+pub enum ExportFault {
+    /// The link failed.
+    Failed,
+    /// The text has 2^64 bytes or more.
+    TooLong,
+}
+
+/// How many bytes an export of the repository gives, or `None` where they are 2^64 or more.
+pub fn measure_export<S: Store, K: Keeper>(repo: &Repo<S, K>) -> Option<u64>
+    ensures { let bytes = length (export_text repo.now.documents) in result ≡ (if nat_lt bytes (2 ^ 64) then Some bytes else None) }
+{
+    measure(&Export::new(repo.store()))
+}
+
+/// Gives the link all documents of the repository as one environment, and a line feed; it answers how many bytes that was.
+///
+/// # Errors
+///
+/// `TooLong` exactly where the text has 2^64 bytes or more: nothing is given then. At `Failed` the link failed, and a front of
+/// the text was given.
+pub fn export<S: Store, K: Keeper, L: Link>(
+    repo: &Repo<S, K>,
+    link: &mut L,
+) -> Result<u64, ExportFault>
+    ensures given { IfOk result (λ count. (count ≡ length (export_text repo.now.documents))
+        × (L.sent link.new ≡ append_known (L.sent link.old) (export_text repo.now.documents))) }
+    ensures too_long { (result ≡ Err ExportFault.TooLong) ↔ (2 ^ 64 ≤ length (export_text repo.now.documents)) }
+    ensures untouched { result ≡ Err ExportFault.TooLong → link.new ≡ link.old }
+    ensures front { result ≡ Err ExportFault.Failed → GivesFront (L.sent link.old) (L.sent link.new) (export_text repo.now.documents) }
+    ensures fault { result ≡ Err ExportFault.Failed → Rose (L.faults link.old) (L.faults link.new) }
+    ensures later { L.faults link.old ≤ L.faults link.new }
+    ensures surroundings { L.surroundings link.new ≡ L.surroundings link.old }
+    ensures left { L.left link.new ≡ L.left link.old }
+{
+    let Some(count) = measure_export(repo) else {
+        return Err(ExportFault::TooLong);
+    };
+    match give_poured(&Export::new(repo.store()), link) {
+        Ok(()) => Ok(count),
+        Err(Failed) => Err(ExportFault::Failed),
+    }
+}

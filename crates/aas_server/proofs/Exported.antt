@@ -1,0 +1,45 @@
+-- What is said of an export.
+use Rattle.std.proofs.Common.{◌≡◌, ◌≤◌, ◌^◌, ℕ, Bool, true, false, List, [], length, nat_lt, if◌then◌else◌, refl, sym, ap, ◌∙◌, subst, inl, inr}
+use Rattle.std.specs.Io.KnownBytes.{append_known}
+use Rattle.std.proofs.lemmas.Bool.{le-ltb, ltb-false}
+use Rattle.aas_out.proofs.Adding.{append_known-nil}
+use Rattle.aas_outside.specs.Faults.{Rose}
+use Rattle.aas_outside.specs.Link.{GivesFront}
+use Rattle.aas_server.specs.Answer.{Answer, Says, done, exported, too_long}
+use Rattle.aas_server.specs.Ends.{ConsoleState}
+use Rattle.aas_server.proofs.Given.{says_line}
+
+-- not too long
+abbrev IsShort : List ℕ → Type 0
+IsShort text = ¬ (2 ^ 64 ≤ length text)
+
+short : (text : List ℕ) → IsShort text → exported text ≡ done text
+short text is_short = by (nat_lt (length text) (2 ^ 64)) refl
+  where
+    by : (b : Bool) → nat_lt (length text) (2 ^ 64) ≡ b → (if b then done text else too_long) ≡ done text
+    by true is = refl
+    by false is = absurd (is_short (ltb-false (length text) (2 ^ 64) is))
+
+long : (text : List ℕ) → 2 ^ 64 ≤ length text → exported text ≡ too_long
+long text is_long = ap (λ (b : Bool). if b then done text else too_long) (le-ltb (length text) (2 ^ 64) is_long)
+
+abbrev SaysExported : List ℕ → ℕ → ConsoleState → ConsoleState → Type 0
+SaysExported text = Says (λ said. said ≡ exported text)
+
+says_answer : (text : List ℕ) (answer : Answer) (status : ℕ) (old new : ConsoleState) → exported text ≡ answer → Says (λ said. said ≡ answer) status old new → SaysExported text status old new
+says_answer text answer status old new is says = subst (λ (answer : Answer). Says (λ said. said ≡ answer) status old new) (sym is) says
+
+pub says_exported : (text : List ℕ) (old new : ConsoleState) → IsShort text → new.sent ≡ append_known old.sent text → SaysExported text 0 old new
+says_exported text old new is_short given =
+    says_answer text (done text) 0 old new (short text is_short)
+    (says_line (done text) 0 old new (λ e. cc) (λ not3. (refl, given)) (λ is. absurd (cc)) (λ is. absurd (cc)) (inr refl))
+
+pub says_cut : (text : List ℕ) (old new : ConsoleState) → IsShort text → GivesFront old.sent new.sent text → Rose old.faults new.faults → SaysExported text 3 old new
+says_cut text old new is_short front rose =
+    says_answer text (done text) 3 old new (short text is_short)
+    (says_line (done text) 3 old new (λ e. cc) (λ not3. absurd (not3 refl)) (λ is. front) (λ is. rose) (inl refl))
+
+pub says_too_long : (text : List ℕ) (old new : ConsoleState) → 2 ^ 64 ≤ length text → new ≡ old → SaysExported text 11 old new
+says_too_long text old new is_long same =
+    says_answer text too_long 11 old new (long text is_long)
+    (says_line too_long 11 old new (λ e. cc) (λ not3. (refl, ap (λ (c : ConsoleState). c.sent) same ∙ append_known-nil old.sent)) (λ is. absurd (cc)) (λ is. absurd (cc)) (inr refl))
