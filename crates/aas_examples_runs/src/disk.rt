@@ -56,6 +56,11 @@ fn disk_over(alloc: Global, columns: &str, files: &MemDisk) -> Result<MemDisk, N
     Ok(MemDisk::new(alloc, &main, &spare, &selector, CAPACITY, &fails, stop)?)
 }
 
+/// Whether the run begins with what `init` leaves, and no call of the disk fails.
+pub(crate) fn begins_empty(columns: &str) -> bool {
+    NAMES.iter().all(|name| *name == "leaves" || column(columns, name).is_none())
+}
+
 /// Whether examples behind this one begin with what the one before it left.
 pub(crate) fn is_after_crash(columns: &str) -> bool {
     matches!(column(columns, "files"), Some("old" | "new" | "ones"))

@@ -1,7 +1,7 @@
 //! Worked examples of whole runs. Each line of the input is an example: the words of the command line, the status, what the console gets and what
 //! it is given, with tabs between them; the last two are JSON strings. Further columns say what its disk begins with, which of its calls fail and
-//! what the run leaves (`disk.rt`). Each is run with its bytes in pieces of three sizes. Printed are the examples that give something else, and how
-//! many there are in all.
+//! what the run leaves (`disk.rt`). Each is run with its bytes in pieces of three sizes. Those that serve the console from no documents are also run
+//! over the other store (`trees.rt`). Printed are the examples that give something else, and how many there are in all.
 
 #![tactic(auto)]
 
@@ -9,6 +9,7 @@ mod disk;
 mod example;
 mod not_run;
 mod runs;
+mod trees;
 
 use crate::example::Example;
 use crate::not_run::NotRun;
@@ -57,5 +58,5 @@ fn failure(alloc: Global, line: &str, runs: &mut [Runs]) -> Result<Option<String
             return Ok(Some(given));
         }
     }
-    Ok(None)
+    trees::failure(alloc, &example)
 }
