@@ -8,7 +8,8 @@ next. So the program keeps between so many submodels and 100 more while it is ti
 All these submodels are also listed, in pages of 100, each of which begins behind the last submodel of the one before.
 
 Then so many elements are put into one submodel, right below it or in the innermost of ten collections, and the last of them is read and updated through
-its value form, and another one is added behind it and deleted again. Those right below it are listed, too.
+its value form, and another one is added behind it and deleted again. Those right below it are listed, too. At last it is printed how much memory a
+property takes that is stored.
 
 Printed are the microseconds for a request with 10, 100, 1,000 and 10,000 submodels, and with 10, 1,000 and 65,536 elements, those that passed and those
 that the program itself ran, each the median over all batches of some runs, and how much the latter grew from the first to the last; of pages those for
@@ -41,6 +42,8 @@ DEPTHS = (0, 10)
 # The most elements of a submodel.
 MOST = 65_536
 OWNER = 'https://example.com/submodels/elements'
+# How many submodels with a thousand properties are there before memory is measured; four times as many come then.
+OWNERS = 20
 # A batch and its replies fit a pipe of this size, so that neither side waits for the other.
 PIPE_SIZE = 1 << 20
 # How long a reply may take, in seconds.
@@ -201,6 +204,11 @@ class Pipe:
             sys.exit(difference(b''.join(pieces), wanted))
         return took, self.ran() - ran
 
+    def resident(self):
+        """The bytes of memory that the program holds."""
+        with open(f'/proc/{self.process.pid}/status', encoding='ascii') as file:
+            return next(int(line.split()[1]) for line in file if line.startswith('VmRSS:')) * 1024
+
     def end(self):
         self.process.stdin.close()
         if self.process.wait(PATIENCE) != 0:
@@ -262,6 +270,25 @@ def element_run(program, count, depth):
     return {name: [(passed / (size if '$' in name else 1), ran / (size if '$' in name else 1)) for passed, ran in of] for name, of in times.items()}
 
 
+def stored_property(program):
+    """The bytes of memory for each property that is stored, by many submodels with a thousand of them."""
+    def create(owner):
+        elements = ','.join(Elements.element(number) for number in range(1_000))
+        text = f'{{"id":"{OWNER}/{owner}","modelType":"Submodel","submodelElements":[{elements}]}}'
+        return request('POST /submodels', text), reply('201 Created', text)
+
+    with tempfile.TemporaryDirectory(dir=FOLDER) as folder:
+        pipe = Pipe(program, folder)
+        for owner in range(OWNERS):
+            pipe.exchange([create(owner)])
+        before = pipe.resident()
+        for owner in range(OWNERS, 5 * OWNERS):
+            pipe.exchange([create(owner)])
+        grown = pipe.resident() - before
+        pipe.end()
+    return grown / (4 * OWNERS * 1_000)
+
+
 def print_elements(program, runs, depth):
     took = {count: [element_run(program, count, depth) for _ in range(runs)] for count in ELEMENTS}
     for name in took[10][0]:
@@ -299,6 +326,8 @@ def main():
         print(f'  grew {growth:.2f} times')
     for depth in DEPTHS:
         print_elements(program, options.runs, depth)
+    print('property without a value that is stored')
+    print(f'  {stored_property(program):6.0f} bytes of memory')
     sys.exit(0 if good else 1)
 
 
