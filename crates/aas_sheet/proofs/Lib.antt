@@ -1,4 +1,5 @@
 mod Edited
+mod Fixture
 mod LaidOut
 mod Lent
 mod Walked

@@ -9,3 +9,6 @@ mod reading;
 mod sheet_store;
 
 pub use sheet_store::SheetStore;
+
+#[cfg(test)]
+mod tests;
