@@ -2,7 +2,7 @@ ghost use Rattle.std.specs.Prelude.{◌≡◌, ◌↔◌, IsTrue};
 ghost use Rattle.std.specs.List.{list_all, zip};
 ghost use Rattle.aas_reference.specs.Same.{IsSame, same, same_keys, same_key};
 
-use aas_model::{Key, Reference};
+use aas_model::{Boxed, Key, Reference};
 
 /// Whether two references are the same: of one type, with equal lists of keys. `referredSemanticId` isn't compared. This
 /// profile's own rule.
@@ -30,4 +30,23 @@ fn same_key(a: &Key, b: &Key) -> bool
     ensures { result ≡ same_key a.now b.now }
 {
     a.key_type == b.key_type && a.value.same(&b.value)
+}
+
+/// Whether two references are equal, in their `referredSemanticId` too.
+#[cycle(equal)]
+pub fn equal(a: &Reference, b: &Reference) -> bool
+    ensures { IsTrue result ↔ (a.now ≡ b.now) }
+{
+    same(a, b) && equal_referred(&a.referred, &b.referred)
+}
+
+#[cycle(equal)]
+fn equal_referred(a: &Option<Boxed<Reference>>, b: &Option<Boxed<Reference>>) -> bool
+    ensures { IsTrue result ↔ (a.now ≡ b.now) }
+{
+    match (a, b) {
+        (Some(a), Some(b)) => equal(a.get(), b.get()),
+        (None, None) => true,
+        _ => false,
+    }
 }

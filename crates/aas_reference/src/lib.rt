@@ -1,5 +1,5 @@
 //! References of the Asset Administration Shell (IDTA-01001-3-0, class Reference): how they are read from JSON values and
-//! written, when two are the same, and the constraints AASd-121 to AASd-128 on their keys.
+//! written, when two are the same or equal, and the constraints AASd-121 to AASd-128 on their keys.
 //!
 //! A reference is whole where it and those within it have keys, and at most 4 stand in one another. What is read is
 //! whole. The laws of the mapping of references are the contract of `references_are_mapped`, which does nothing.
@@ -14,7 +14,7 @@ mod rules;
 mod sorts;
 mod write;
 
-pub use compare::same;
+pub use compare::{equal, same};
 pub use laws::references_are_mapped;
 pub use read::read_reference;
 pub use rules::{first_fault, least};
