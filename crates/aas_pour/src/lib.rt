@@ -17,7 +17,7 @@ mod tree;
 mod walk;
 
 pub use elements::pour_elements;
-pub use environment::{Environments, pour_environment};
+pub use environment::{Environments, pour_environment_tree};
 pub use laws::{rows_give_the_submodel, rows_give_the_texts};
 pub use rows::Rows;
 pub use submodel::pour_submodel;

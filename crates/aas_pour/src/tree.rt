@@ -65,7 +65,7 @@ pub fn pour_submodel_tree<O: Out>(so_far: Pouring, submodel: &Submodel, out: &mu
 pub fn pour_tree<O: Out>(so_far: Pouring, element: &Element, out: &mut O) -> Pouring
     ensures { Adds so_far result (O.told out.old) (O.told out.new) (compact_text (spell_element element.now)) }
 {
-    let row = row_of(element);
+    let row = RowView::of_element(element, 0);
     let mut pen = Pen {
         state: add(so_far, b"{", out),
         later: false,
@@ -151,22 +151,5 @@ fn put_before<O: Out>(so_far: Pouring, stop: u8, later: bool, any: bool, out: &m
         add(so_far, b",", out)
     } else {
         put_name(so_far, stop, later, out)
-    }
-}
-
-/// The row of an element that stands at the level 0.
-fn row_of(element: &Element) -> RowView<'_>
-    ensures { line_of result ≡ line_at 0 element.now }
-{
-    let id_short = match &element.common.id_short {
-        Some(id_short) => Some(id_short.as_str()),
-        None => None,
-    };
-    RowView {
-        common: &element.common,
-        id_short,
-        payload: &element.payload,
-        role: element.role,
-        level: 0,
     }
 }

@@ -23,7 +23,6 @@ use aas_json_input::read_value;
 use aas_json_read::{
     read_asset_information, read_concept, read_element, read_environment, read_shell, read_submodel,
 };
-use aas_json_write::whole_trees_are_in_order;
 use aas_model::{
     AssetInformation, Concept, Element, Environment, Many, NoMemory, Path, ReadFault, Reference,
     Shell, Submodel, Text,
@@ -285,7 +284,6 @@ impl Tree for Element {
     }
 
     fn text(&self, alloc: Global) -> Result<Vec<u8>, NoMemory> {
-        whole_trees_are_in_order();
         element_text(alloc, self)
     }
 }

@@ -19,7 +19,24 @@ pub struct RowView<'a> {
     pub level: u32,
 }
 
-impl RowView<'_> {
+impl<'a> RowView<'a> {
+    /// The row of an element that stands at the level.
+    pub fn of_element(element: &'a Element, level: u32) -> RowView<'a>
+        ensures { line_of result ≡ line_at level element.now }
+    {
+        let id_short = match &element.common.id_short {
+            Some(id_short) => Some(id_short.as_str()),
+            None => None,
+        };
+        RowView {
+            common: &element.common,
+            id_short,
+            payload: &element.payload,
+            role: element.role,
+            level,
+        }
+    }
+
     /// A copy of the row's element, without its children.
     pub fn copy(self, alloc: Global) -> Result<Element, NoMemory>
         ensures line { IfOk result (λ e. line_at self.entry.level e ≡ line_of self.entry) }

@@ -14,16 +14,16 @@ use Rattle.aas_pour.proofs.tree.+tree.Goals as goal
 use Rattle.aas_pour.proofs.tree.+tree.Goals.{put_children-then-role_fits, put_children-else-role_fits}
 
 pub pour_tree-loop-next-init : goal.pour_tree-loop-next-init
-pour_tree-loop-next-init g t c = parts_start c.args.so_far c.add.result (g.O.Out.told c.args.out.now) (g.O.Out.told c.add.new.out) (line_of c.row_of-row.result) (out-Element c.args.element.now).kids c.add.ensures
+pour_tree-loop-next-init g t c = parts_start c.args.so_far c.add.result (g.O.Out.told c.args.out.now) (g.O.Out.told c.add.new.out) (line_of c.of_element-row.result) (out-Element c.args.element.now).kids c.add.ensures
 
 pub pour_tree-loop-next-preserved : goal.pour_tree-loop-next-preserved
 pour_tree-loop-next-preserved g t c =
-    parts_more c.put_to_stop-pen.result.state (g.O.Out.told c.put_to_stop-pen.new.out) (c.loop-next.next - 1) c.put_to_stop-pen.result.later c.loop-next.invariant (ap (λ (l : Line). l.level) c.row_of-row.ensures)
+    parts_more c.put_to_stop-pen.result.state (g.O.Out.told c.put_to_stop-pen.new.out) (c.loop-next.next - 1) c.put_to_stop-pen.result.later c.loop-next.invariant (ap (λ (l : Line). l.level) c.of_element-row.ensures)
     (omega (arith, c.loop-next-test.true)) c.put_to_stop-pen.ensures.text c.put_to_stop-pen.ensures.later
 
 pub pour_tree-returns : goal.pour_tree-returns
 pour_tree-returns g t c =
-    parts_end c.args.element.now c.put_part-last.result.state c.add-2.result (g.O.Out.told c.put_part-last.new.out) (g.O.Out.told c.add-2.new.out) c.loop-next.invariant c.row_of-row.ensures (omega (arith, c.loop-next-test.false))
+    parts_end c.args.element.now c.put_part-last.result.state c.add-2.result (g.O.Out.told c.put_part-last.new.out) (g.O.Out.told c.add-2.new.out) c.loop-next.invariant c.of_element-row.ensures (omega (arith, c.loop-next-test.false))
     c.put_part-last.ensures.text c.add-2.ensures
 
 pub put_child-returns : goal.put_child-returns

@@ -3,7 +3,7 @@ use Rattle.aas_json_table.specs.Spelled.{list_of}
 use Rattle.aas_json_table.specs.Table.{environment, parts}
 use Rattle.aas_json_mapping.specs.Documents.{spell_concept, spell_shell, spell_submodel}
 use Rattle.aas_members_text.proofs.Putting.{object_more, object_ended}
-use Rattle.aas_pour.proofs.environment.pour_environment.Goals as goal
+use Rattle.aas_pour.proofs.environment.pour_environment_tree.Goals as goal
 
 pub returns : goal.returns
 returns g c =
