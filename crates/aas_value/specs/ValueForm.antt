@@ -1,6 +1,6 @@
 -- The value form of elements and submodels (IDTA-01001-3-0, the value-only serialisation in JSON). Which members are always there, what is written as null, and which values
 -- are written natively are this profile's own rules: all named members are there, also where the attribute is absent.
-use Rattle.std.specs.Prelude.{ℕ, List, [], ◌∷◌, codes, map, Option, Some, None, option_map}
+use Rattle.std.specs.Prelude.{ℕ, Bool, true, false, List, [], ◌∷◌, codes, map, Option, Some, None, option_map}
 use Rattle.std.specs.Str.{encode_utf8_all}
 use Rattle.std.specs.List.{filter_map}
 use Rattle.serde_json.specs.Data.{Data, null, string, array, object, no_items, Members, no_members, member, put}
@@ -99,6 +99,14 @@ value_over x p.Capability kids = None
 value_over x p.Operation kids = None
 value_over x p.SubmodelElementCollection kids = Some (named kids)
 value_over x (p.SubmodelElementList o s t v) kids = Some (in_order kids)
+
+-- only these kinds show their children
+abbrev pub shows_children : Payload → Bool
+shows_children (p.AnnotatedRelationshipElement first second) = true
+shows_children (p.Entity t g ids) = true
+shows_children p.SubmodelElementCollection = true
+shows_children (p.SubmodelElementList o s t v) = true
+shows_children own = false
 
 abbrev pub as_child : Extent → Element-F Child → Child
 as_child x e = record { name = e.common.id_short; form = value_over x e.payload e.kids }

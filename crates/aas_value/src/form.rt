@@ -1,11 +1,11 @@
-ghost use Rattle.std.specs.Prelude.{◌≡◌, false, map, IfOk, IfSome, OnOk, option_map};
+ghost use Rattle.std.specs.Prelude.{◌≡◌, [], false, map, IfOk, IfSome, OnOk, option_map};
 ghost use Rattle.serde_json.specs.View.{view};
 ghost use Rattle.serde_json.specs.Written.{has_float};
 ghost use Rattle.aas_json_members.specs.Exact.{data_of};
 ghost use Rattle.aas_json_members.specs.Object.{members_of};
 ghost use Rattle.aas_model_names.specs.declared.modifiers.Extent.{Extent};
 ghost use Rattle.aas_model.specs.declared.element.Element.{out-Element};
-ghost use Rattle.aas_value.specs.ValueForm.{child_of, value_form, submodel_value, named, in_order, put_child, annotation_value};
+ghost use Rattle.aas_value.specs.ValueForm.{child_of, value_form, value_over, shows_children, submodel_value, named, in_order, put_child, annotation_value};
 
 use crate::kinds::{
     annotated_value, blob_value, entity_members, event_value, file_value, languages_value,
@@ -13,7 +13,7 @@ use crate::kinds::{
 };
 use crate::single::single_value;
 use aas_json_members::{Array, Exact, Object};
-use aas_model::{Element, Extent, Many, NoMemory, Payload, Submodel, Text};
+use aas_model::{Element, Extent, NoMemory, Payload, Submodel, Text};
 use serde_json::Value;
 use std::alloc::Global;
 
@@ -37,7 +37,7 @@ pub fn value_of_submodel(
     ensures form { IfOk result (λ value. view value ≡ submodel_value extent submodel.now) }
     ensures no_float { IfOk result (λ value. has_float (view value) ≡ false) }
 {
-    Ok(named_values(alloc, &submodel.kids, extent)?.into_value())
+    Ok(named_values(alloc, submodel.kids.as_slice(), extent)?.into_value())
 }
 
 /// The value form of an element, as a value whose text is known.
@@ -50,7 +50,50 @@ pub fn value_form(
 ) -> Result<Option<Exact>, NoMemory>
     ensures { IfOk result (λ found. option_map data_of found ≡ value_form extent element.now) }
 {
-    match &element.payload {
+    value_of_parts(alloc, &element.payload, element.kids.as_slice(), extent)
+}
+
+/// The value form of an element that has these attributes of its kind and these children, as a value whose text is known.
+#[cycle(value)]
+pub fn value_of_parts(
+    alloc: Global,
+    payload: &Payload,
+    kids: &[Element],
+    extent: Extent,
+) -> Result<Option<Exact>, NoMemory>
+    ensures { IfOk result (λ found. option_map data_of found ≡ value_over extent payload.now (map (child_of extent) kids.now)) }
+{
+    match payload {
+        Payload::AnnotatedRelationshipElement { first, second } => {
+            let annotations = annotation_values(alloc, kids, extent)?;
+            Ok(Some(annotated_value(alloc, annotations, first, second)?))
+        }
+        Payload::Entity {
+            entity_type,
+            global_asset_id,
+            specific_asset_ids,
+        } => {
+            let statements = named_values(alloc, kids, extent)?;
+            Ok(Some(entity_members(
+                alloc,
+                *entity_type,
+                global_asset_id,
+                specific_asset_ids,
+                statements,
+            )?))
+        }
+        Payload::SubmodelElementCollection => Ok(Some(named_values(alloc, kids, extent)?)),
+        Payload::SubmodelElementList { .. } => Ok(Some(ordered_values(alloc, kids, extent)?)),
+        _ => own_value(alloc, payload, extent),
+    }
+}
+
+/// The value form of an element of these attributes, where that shows no children.
+fn own_value(alloc: Global, payload: &Payload, extent: Extent) -> Result<Option<Exact>, NoMemory>
+    requires { shows_children payload.now ≡ false }
+    ensures { IfOk result (λ found. option_map data_of found ≡ value_over extent payload.now []) }
+{
+    match payload {
         Payload::Property {
             value_type,
             value,
@@ -74,33 +117,8 @@ pub fn value_form(
         Payload::RelationshipElement { first, second } => Ok(Some(relationship_value(
             alloc, first, second,
         )?)),
-        Payload::AnnotatedRelationshipElement { first, second } => {
-            let annotations = annotation_values(alloc, &element.kids, extent)?;
-            Ok(Some(annotated_value(alloc, annotations, first, second)?))
-        }
-        Payload::Entity {
-            entity_type,
-            global_asset_id,
-            specific_asset_ids,
-        } => {
-            let statements = named_values(alloc, &element.kids, extent)?;
-            Ok(Some(entity_members(
-                alloc,
-                *entity_type,
-                global_asset_id,
-                specific_asset_ids,
-                statements,
-            )?))
-        }
         Payload::BasicEventElement { observed, .. } => Ok(Some(event_value(alloc, observed)?)),
-        Payload::Capability => Ok(None),
-        Payload::Operation => Ok(None),
-        Payload::SubmodelElementCollection => Ok(Some(named_values(alloc, &element.kids, extent)?)),
-        Payload::SubmodelElementList { .. } => Ok(Some(ordered_values(
-            alloc,
-            &element.kids,
-            extent,
-        )?)),
+        _ => Ok(None),
     }
 }
 
@@ -123,11 +141,11 @@ fn annotation(alloc: Global, kid: &Element, extent: Extent) -> Result<Option<Exa
 /// The object of the children under their names.
 #[cycle(value)]
 #[tactic(auto, using(crate::proofs::Forms::name_out))]
-fn named_values(alloc: Global, kids: &Many<Element>, extent: Extent) -> Result<Exact, NoMemory>
+fn named_values(alloc: Global, kids: &[Element], extent: Extent) -> Result<Exact, NoMemory>
     ensures { IfOk result (λ exact. data_of exact ≡ named (map (child_of extent) kids.now)) }
 {
     let mut object = Object::new(alloc);
-    for kid in kids.as_slice() {
+    for kid in kids {
         let value = value_form(alloc, kid, extent)?;
         put_child(&mut object, alloc, &kid.common.id_short, value)?;
     }
@@ -136,11 +154,11 @@ fn named_values(alloc: Global, kids: &Many<Element>, extent: Extent) -> Result<E
 
 /// The array of the children in order.
 #[cycle(value)]
-fn ordered_values(alloc: Global, kids: &Many<Element>, extent: Extent) -> Result<Exact, NoMemory>
+fn ordered_values(alloc: Global, kids: &[Element], extent: Extent) -> Result<Exact, NoMemory>
     ensures { IfOk result (λ exact. data_of exact ≡ in_order (map (child_of extent) kids.now)) }
 {
     let mut array = Array::new(alloc);
-    for kid in kids.as_slice() {
+    for kid in kids {
         array.push_some(value_form(alloc, kid, extent)?)?;
     }
     Ok(array.close())
@@ -148,11 +166,11 @@ fn ordered_values(alloc: Global, kids: &Many<Element>, extent: Extent) -> Result
 
 /// The array of the annotations in order, each an object with its name.
 #[cycle(value)]
-fn annotation_values(alloc: Global, kids: &Many<Element>, extent: Extent) -> Result<Exact, NoMemory>
+fn annotation_values(alloc: Global, kids: &[Element], extent: Extent) -> Result<Exact, NoMemory>
     ensures { IfOk result (λ exact. data_of exact ≡ in_order (map annotation_value (map (child_of extent) kids.now))) }
 {
     let mut array = Array::new(alloc);
-    for kid in kids.as_slice() {
+    for kid in kids {
         array.push_some(annotation(alloc, kid, extent)?)?;
     }
     Ok(array.close())

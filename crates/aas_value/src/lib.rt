@@ -9,5 +9,5 @@ mod kind;
 mod kinds;
 mod single;
 
-pub use form::{value_form, value_of, value_of_submodel};
-pub use kind::has_value_form;
+pub use form::{value_form, value_of, value_of_parts, value_of_submodel};
+pub use kind::{has_value_form, shows_children};

@@ -9,12 +9,12 @@ use Rattle.aas_value.proofs.form.+value.Given as goal
 
 abbrev pub invariant-named_values-loop-kid : goal.invariant-named_values-loop-kid
 invariant-named_values-loop-kid l =
-    put_children (map (child_of l.extent) (drop l.kid-index l.kid-items)) (members_of l.object) ≡ put_children (map (child_of l.extent) l.kid-items) no_members
+    put_children (map (child_of l.extent) (drop l.kid-index l.kids)) (members_of l.object) ≡ put_children (map (child_of l.extent) l.kids) no_members
 
 abbrev pub invariant-ordered_values-loop-kid : goal.invariant-ordered_values-loop-kid
 invariant-ordered_values-loop-kid l =
-    items_of l.array ++ forms_of (map (child_of l.extent) (drop l.kid-index l.kid-items)) ≡ forms_of (map (child_of l.extent) l.kid-items)
+    items_of l.array ++ forms_of (map (child_of l.extent) (drop l.kid-index l.kids)) ≡ forms_of (map (child_of l.extent) l.kids)
 
 abbrev pub invariant-annotation_values-loop-kid : goal.invariant-annotation_values-loop-kid
 invariant-annotation_values-loop-kid l =
-    items_of l.array ++ forms_of (map annotation_value (map (child_of l.extent) (drop l.kid-index l.kid-items))) ≡ forms_of (map annotation_value (map (child_of l.extent) l.kid-items))
+    items_of l.array ++ forms_of (map annotation_value (map (child_of l.extent) (drop l.kid-index l.kids))) ≡ forms_of (map annotation_value (map (child_of l.extent) l.kids))

@@ -1,4 +1,4 @@
-use Rattle.std.proofs.Common.{◌≡◌, ◌∙◌, ap, refl, ⊎_elim}
+use Rattle.std.proofs.Common.{◌∙◌, ap, ⊎_elim}
 use Rattle.aas_value.proofs.Formless.{has_form, by_kind, other_kinds}
 use Rattle.aas_value.proofs.kind.has_value_form.Goals as goal
 
