@@ -1,5 +1,3 @@
 mod Edited
-mod Fixture
 mod LaidOut
 mod Lent
-mod Walked

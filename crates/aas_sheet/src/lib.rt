@@ -9,6 +9,3 @@ mod reading;
 mod sheet_store;
 
 pub use sheet_store::SheetStore;
-
-#[cfg(test)]
-mod tests;

@@ -3,6 +3,7 @@ ghost use Rattle.aas_model.specs.declared.path.Missing.{Missing};
 ghost use Rattle.aas_path_trees.specs.ElementAt.{element_at};
 ghost use Rattle.aas_store.specs.Edited.{LeadsNowhere};
 ghost use Rattle.aas_store.specs.Reads.{IsRowOf};
+ghost use Rattle.aas_store.specs.Spots.{rank_at};
 
 use aas_model::{Element, Missing, NoMemory, Path};
 use aas_sheet_rows::Sheet;
@@ -21,6 +22,21 @@ pub(crate) fn copy_at(sheet: &Sheet, path: &Path) -> Result<Element, Lack>
     match sheet.element_of_rank(rank) {
         Ok(Some(element)) => Ok(element),
         Ok(None) | Err(NoMemory) => Err(Lack::NoMemory),
+    }
+}
+
+/// The rank of the element at the path.
+pub(crate) fn find(sheet: &Sheet, path: &Path) -> Result<u64, Lack>
+    ensures found { IfOk result (λ rank. rank_at sheet.now path.now.steps ≡ Some rank) }
+    ensures there { result ≢ Err Lack.NoSubmodel }
+    ensures no_element { (m : Missing) → (result ≡ Err (Lack.NoElement m)) ↔ LeadsNowhere sheet.now path.now.steps m }
+{
+    match sheet.find(path) {
+        Some(rank) => Ok(rank as u64),
+        None => {
+            let steps = sheet.depth(path);
+            Err(Lack::NoElement(Missing { steps }))
+        },
     }
 }
 

@@ -7,7 +7,7 @@ ghost use Rattle.aas_sheet_rows.specs.Lent.{row_type};
 ghost use Rattle.aas_store.specs.Documents.{empty};
 
 use crate::laying::lay_out;
-use crate::reading::{copy_at, row_at};
+use crate::reading::{copy_at, find, row_at};
 use aas_model::{
     Collection, Concept, Duplicate, Element, Environment, NoMemory, Patch, Path, Reference, Shell,
     Submodel, Text,
@@ -125,13 +125,6 @@ impl Store for SheetStore {
         }
     }
 
-    fn child_at(&self, id: &str, place: u64) -> Result<Option<Element>, NoMemory> {
-        match self.submodels.get(id) {
-            Some(sheet) => sheet.child_at(place),
-            None => Ok(None),
-        }
-    }
-
     fn element(&self, id: &str, path: &Path) -> Result<Element, Lack> {
         match self.submodels.get(id) {
             Some(sheet) => copy_at(sheet, path),
@@ -165,10 +158,24 @@ impl Store for SheetStore {
         table.row(rank as usize)
     }
 
+    fn child_rank(table: &Sheet, place: u64) -> Option<u64> {
+        match table.child_rank(place) {
+            Some(rank) => Some(rank as u64),
+            None => None,
+        }
+    }
+
     fn element_count(&self, id: &str) -> Option<u64> {
         match self.submodels.get(id) {
             Some(sheet) => Some(sheet.element_count() as u64),
             None => None,
+        }
+    }
+
+    fn find(&self, id: &str, path: &Path) -> Result<u64, Lack> {
+        match self.submodels.get(id) {
+            Some(sheet) => find(sheet, path),
+            None => Err(Lack::NoSubmodel),
         }
     }
 

@@ -19,14 +19,15 @@ use Rattle.aas_rows.specs.Views as shown
 use Rattle.aas_rows.specs.declared.view.RowView.{RowView}
 use Rattle.aas_sheet_index.specs.Sides.{sizes_of}
 use Rattle.aas_sheet_index.specs.declared.side.Side.{Side}
-use Rattle.aas_sheet_rows.proofs.Edits.{no_element, reached}
+use Rattle.aas_sheet_rows.proofs.Edits.{reached}
 use Rattle.aas_sheet_rows.proofs.Found.{at_seam, own_row, own_size, stood}
-use Rattle.aas_sheet_rows.proofs.Standing.{no_side, own_side, spot_of, zero_on}
-use Rattle.aas_sheet_rows.specs.Found.{Among, rank_at}
+use Rattle.aas_sheet_rows.proofs.Standing.{no_side, own_side, spot_of}
+use Rattle.aas_sheet_rows.specs.Found.{Among}
 use Rattle.aas_sheet_rows.specs.Table.{line_of, lines_of, IsTable}
 use Rattle.aas_sheet_rows.specs.declared.row.Row.{Row}
 use Rattle.aas_store.specs.Reads.{IsRowOf, children_at, first_semantic_id, semantic_id_of}
-use Rattle.aas_store.specs.Spots.{spot_among}
+use Rattle.aas_store.specs.Spots.{rank_at, spot_among}
+use Rattle.aas_store.proofs.Paths.{from_zero, no_element}
 
 -- ---- the row of what a path leads to
 
@@ -161,7 +162,7 @@ found_stands : (rs : List Row) (ss : List Side) (end : ℕ) (s : PathStep) (p : 
 found_stands rs ss end s p rank ks a is = by (element_among false s p ks) refl
   where
     found : Some rank ≡ rank_among false s p ks
-    found = is ∙ zero_on (rank_among false s p ks)
+    found = is ∙ from_zero (rank_among false s p ks)
 
     by : (o : Option Element) → element_among false s p ks ≡ o → (e : Element) × (element_among false s p ks ≡ Some e) × StandsAt (lines_of rs ss) 1 rank e
     by None none = let lost : Some rank ≡ None = found ∙ no_rank_among false s p ks none in absurd (cc)
@@ -189,4 +190,4 @@ found_below rs ss d p q s rank next side t a path is lt side_is size above =
 
 pub nothing_below : (d : Submodel) (p q : List PathStep) (s : PathStep) → p ≡ s ∷ q → None ≡ option_map (λ r. 0 + r) (rank_among false s q d.kids) → children_at d p ≡ []
 nothing_below d p q s path none =
-    ap (children_at d) path ∙ ap (λ o. option_map_or kids_of o []) (no_element d (s ∷ q) (none ∙ zero_on (rank_among false s q d.kids)))
+    ap (children_at d) path ∙ ap (λ o. option_map_or kids_of o []) (no_element d (s ∷ q) (none ∙ from_zero (rank_among false s q d.kids)))

@@ -21,7 +21,8 @@ use Rattle.aas_rows.specs.Rows.{Line, line_at, rows, rows_of_all, sizes}
 use Rattle.aas_rows.proofs.Edited.{count_at, have_edited_rows, no_rank_among, row_of_with_kids}
 use Rattle.aas_rows.proofs.Ranked.{StandsAt}
 use Rattle.aas_rows.proofs.Trees.{rows_out}
-use Rattle.aas_sheet_rows.specs.Found.{rank_at}
+use Rattle.aas_store.specs.Spots.{rank_at}
+use Rattle.aas_store.proofs.Paths.{no_element}
 use Rattle.aas_sheet_rows.specs.Table.{line_of, lines_of, submodel_of, IsTable}
 use Rattle.aas_sheet_index.specs.Sides.{levels, sizes_of}
 use Rattle.aas_sheet_rows.specs.declared.row.Row.{Row}
@@ -31,7 +32,7 @@ use Rattle.aas_sheet_rows.proofs.Loans.{lines_long}
 use Rattle.aas_sheet_rows.proofs.Laid.{level_low}
 use Rattle.aas_sheet_rows.proofs.Made.{made_table, made_submodel}
 use Rattle.aas_sheet_index.proofs.Spliced.{take_seam, drop_seam}
-use Rattle.aas_sheet_rows.proofs.Standing.{lines_are, element_of_path, stands_inside}
+use Rattle.aas_sheet_rows.proofs.Standing.{lines_are, stands_inside}
 
 -- a part in the middle of rows, and others in its place
 pub replaced_mid : (ls b m a w : List Line) (first end : ℕ) → ls ≡ b ++ (m ++ a) → length b ≡ first → end ≡ first + length m → replace_range ls first end w ≡ (b ++ w) ++ a
@@ -177,9 +178,6 @@ edit_bounds d new ls first end k w m few =
     (omega (arith, low, many), omega (arith, size, more, own, kids, many), omega (arith, rows_all, many))
 
 -- where a path leads nowhere, nothing is removed or replaced
-pub no_element : (d : Submodel) (p : List PathStep) → None ≡ rank_at d p → element_at d p ≡ None
-no_element d p none = element_of_path d p None none
-
 pub nothing_removed : (d : Submodel) (p : List PathStep) → None ≡ rank_at d p → d ≡ removed d p
 nothing_removed d [] none = refl
 nothing_removed d (s ∷ p) none = ap (λ ks. record d { kids = ks }) (sym (removed_among-none p false s d.kids (no_element d (s ∷ p) none)))

@@ -1,17 +1,15 @@
 -- Where elements stand in a table.
-use Rattle.std.proofs.Common.{◌≡◌, ℕ, zero, suc, ◌+◌, ◌-◌, ◌<◌, ◌≤◌, Bool, true, false, cond, List, [], ◌∷◌, ◌++◌, length, take, drop, get_or, Option, Some, None, option_and_then, option_map, slice_get, refl, sym, ap, ap₂, ◌∙◌, subst, append_assoc, arith, length-append, if◌then◌else◌, nat_lt}
-use Rattle.std.proofs.lemmas.Bool.{ltb-false}
-use Rattle.std.proofs.lemmas.Option.{slice_get_past}
+use Rattle.std.proofs.Common.{◌≡◌, ℕ, zero, suc, ◌+◌, ◌-◌, ◌<◌, ◌≤◌, Bool, true, false, cond, List, [], ◌∷◌, ◌++◌, length, take, drop, get_or, Option, Some, None, option_map, slice_get, refl, sym, ap, ap₂, ◌∙◌, subst, append_assoc, arith, length-append, if◌then◌else◌}
 use Rattle.std.proofs.lemmas.List.{length-take, length-map}
 use Rattle.aas_model.specs.declared.element.Element.{Element}
 use Rattle.aas_model.specs.declared.path.PathStep.{PathStep}
 use Rattle.aas_model.specs.declared.path.PathStep.TheVariants.{Name, Place}
 use Rattle.aas_path_trees.specs.Children.{kids_of, is_list, is_list_payload}
 use Rattle.std.specs.Option.{option_map_or, IfSome}
-use Rattle.aas_path_trees.specs.ElementAt.{child_by, place_of, depth_below, depth_among}
+use Rattle.aas_path_trees.specs.ElementAt.{child_by, depth_below, depth_among}
 use Rattle.aas_path_trees.proofs.Paths.{child_by-there}
 use Rattle.aas_rows.specs.Children.{nth_where, is_at, is_named, row_of_step}
-use Rattle.aas_rows.specs.Edits.{count, rank_below, rank_among}
+use Rattle.aas_rows.specs.Edits.{count, rank_among}
 use Rattle.aas_rows.specs.Rows.{Line, line_at, rows, rows_of_all, levels_of, sizes, BeginsRows}
 use Rattle.aas_rows.proofs.Trees.{rows_out, rows_begin}
 use Rattle.aas_rows.proofs.Edited.{child_rows, count_at}
@@ -21,6 +19,7 @@ use Rattle.std.proofs.lemmas.List.Sums.{sum_by-cons}
 use Rattle.aas_rows.proofs.Counting.{have_child_count}
 use Rattle.aas_rows.proofs.Ranked.{StandsAt}
 use Rattle.aas_rows.proofs.Stepping.{first_where, have_child_rows, map_twice, position_first, position_inside, nth_inside}
+use Rattle.aas_store.proofs.Paths.{no_steps, rank_ends, rank_goes_on, rank_lost}
 use Rattle.aas_sheet_rows.specs.Found.{side_of_step, Among}
 use Rattle.aas_sheet_index.specs.Sides.{is_below, is_named_below}
 use Rattle.aas_sheet_rows.specs.Table.{line_of, lines_of, IsTable}
@@ -271,33 +270,14 @@ size_facts rs ss rank side t lt is =
 
 -- ---- paths
 
-pub no_steps : (p : List PathStep) → length p ≡ 0 → p ≡ []
-no_steps [] e = refl
-no_steps (s ∷ p) e = absurd (omega arith)
-
-rank_here : (first rank : ℕ) (ks : List Element) (c : Child) → rank ≡ first + count (take c.0 ks) → Some rank ≡ option_map (λ r. first + r) (option_map (λ r. count (take c.0 ks) + r) (rank_below [] c.1))
-unfolding rank_below
-rank_here first rank ks c at = ap (λ n. Some n) (omega arith)
-
 pub path_ends : (rs : List Row) (ss : List Side) (first k rank : ℕ) (ks : List Element) (l : Bool) (s : PathStep) (p : List PathStep) → length p ≡ 0 → (st : Stepped rs ss first k rank ks l s)
     → (Some rank ≡ option_map (λ r. first + r) (rank_among l s p ks)) × (1 ≡ depth_among l s p ks)
 unfolding depth_below
 path_ends rs ss first k rank ks l s p none st =
     let end = no_steps p none in (
-      rank_here first rank ks st.child st.at
-          ∙ ap (λ p. option_map (λ r. first + r) (option_map (λ r. count (take st.child.0 ks) + r) (rank_below p st.child.1))) (sym end)
-          ∙ ap (λ o. option_map (λ r. first + r) (option_and_then (λ (c : Child). option_map (λ r. count (take c.0 ks) + r) (rank_below p c.1)) o)) (sym st.by_step),
+      rank_ends l s p ks st.child first rank st.by_step st.at end,
       ap (λ p. depth_below p st.child.1 + 1) (sym end) ∙ ap (λ o. option_map_or (λ (c : Child). depth_below p c.1 + 1) o 0) (sym st.by_step),
     )
-
-moved : (first n rank : ℕ) (o : Option ℕ) → rank ≡ first + n → option_map (λ r. rank + 1 + r) o ≡ option_map (λ r. first + r) (option_map (λ r. n + r) (option_map (λ r. 1 + r) o))
-moved first n rank None e = refl
-moved first n rank (Some r) e = ap (λ n. Some n) (omega arith)
-
-rank_goes_on : (first rank : ℕ) (ks : List Element) (c : Child) (t : PathStep) (q : List PathStep) → rank ≡ first + count (take c.0 ks)
-    → option_map (λ r. rank + 1 + r) (rank_among (is_list c.1) t q (kids_of c.1)) ≡ option_map (λ r. first + r) (option_map (λ r. count (take c.0 ks) + r) (rank_below (t ∷ q) c.1))
-unfolding rank_below
-rank_goes_on first rank ks c t q at = moved first (count (take c.0 ks)) rank (rank_among (is_list c.1) t q (kids_of c.1)) at
 
 -- a path that goes on leads on from the child to which its first step leads
 pub path_goes_on : (rs : List Row) (ss : List Side) (first k rank : ℕ) (ks : List Element) (l : Bool) (s t : PathStep) (p q : List PathStep) → p ≡ t ∷ q → (st : Stepped rs ss first k rank ks l s)
@@ -305,9 +285,7 @@ pub path_goes_on : (rs : List Row) (ss : List Side) (first k rank : ℕ) (ks : L
     × (depth_among (is_list st.child.1) t q (kids_of st.child.1) + 1 ≡ depth_among l s p ks)
 unfolding depth_below
 path_goes_on rs ss first k rank ks l s t p q path st = (
-  rank_goes_on first rank ks st.child t q st.at
-      ∙ ap (λ p. option_map (λ r. first + r) (option_map (λ r. count (take st.child.0 ks) + r) (rank_below p st.child.1))) (sym path)
-      ∙ ap (λ o. option_map (λ r. first + r) (option_and_then (λ (c : Child). option_map (λ r. count (take c.0 ks) + r) (rank_below p c.1)) o)) (sym st.by_step),
+  rank_goes_on l s t p q ks st.child first rank st.by_step st.at path,
   ap (λ p. depth_below p st.child.1 + 1) (sym path) ∙ ap (λ o. option_map_or (λ (c : Child). depth_below p c.1 + 1) o 0) (sym st.by_step),
 )
 
@@ -315,29 +293,6 @@ pub path_lost : (rs : List Row) (ss : List Side) (first end k : ℕ) (ks : List 
     → None ≡ option_map (λ i. first + i) (side_of_step l s k (take (end - first) (drop first ss))) → (None ≡ option_map (λ r. first + r) (rank_among l s p ks)) × (0 ≡ depth_among l s p ks)
 path_lost rs ss first end k ks l s p t a is =
     let none = no_child rs ss first end k ks l s t a is in (
-      ap (λ o. option_map (λ r. first + r) (option_and_then (λ (c : Child). option_map (λ r. count (take c.0 ks) + r) (rank_below p c.1)) o)) (sym none),
+      rank_lost l s p ks first none,
       ap (λ o. option_map_or (λ (c : Child). depth_below p c.1 + 1) o 0) (sym none),
     )
-
--- a step by place from a list
-pub by_place : (i : ℕ) (ks : List Element) → child_by true (Place i) ks ≡ option_map (λ e. (i, e)) (slice_get ks i)
-unfolding child_by place_of
-by_place i ks = by (nat_lt i (length ks)) refl
-  where
-    by : (b : Bool) → nat_lt i (length ks) ≡ b → option_and_then {U = Child} (λ (i : ℕ). option_map (λ (k : Element). (i, k)) (slice_get ks i)) (if b then Some i else None) ≡ option_map (λ e. (i, e)) (slice_get ks i)
-    by true e = refl
-    by false e = sym (ap (option_map (λ (e : Element). (i, e))) (slice_get_past ks i (ltb-false i (length ks) e)))
-
-pub none_in_place : (i : ℕ) (ks : List Element) → child_by true (Place i) ks ≡ None → slice_get ks i ≡ None
-none_in_place i ks none = by (slice_get ks i) (sym (by_place i ks) ∙ none)
-  where
-    by : (o : Option Element) → option_map {U = Child} (λ e. (i, e)) o ≡ None → o ≡ None
-    by None e = refl
-    by (Some e) is = absurd (cc)
-
-pub some_in_place : (i : ℕ) (ks : List Element) (c : Child) → child_by true (Place i) ks ≡ Some c → slice_get ks i ≡ Some c.1
-some_in_place i ks c some = by (slice_get ks i) (sym (by_place i ks) ∙ some)
-  where
-    by : (o : Option Element) → option_map {U = Child} (λ e. (i, e)) o ≡ Some c → o ≡ Some c.1
-    by None e = absurd (cc)
-    by (Some e) is = let same : ◌≡◌ {A = Child} (i, e) c = cc in ap (λ (x : Child). Some x.1) same

@@ -12,20 +12,23 @@ use Rattle.aas_model.specs.declared.path.PathStep.TheVariants.{Place}
 use Rattle.aas_model_names.specs.declared.kind.Kind.{Kind}
 use Rattle.aas_path_trees.specs.Children.{kids_of, is_list, is_list_payload}
 use Rattle.aas_path_trees.specs.ElementAt.{child_by, element_among, element_at}
+use Rattle.aas_rows.specs.Children.{is_at, nth_where}
+use Rattle.aas_rows.specs.Edits.{count}
 use Rattle.aas_rows.specs.Rows.{Line, line_at, rows, rows_of_all}
 use Rattle.aas_rows.proofs.Edited.{count_at, no_rank_among}
 use Rattle.aas_rows.proofs.Ranked.{StandsAt, followed, led, stands_once, stands_at_path}
+use Rattle.aas_rows.proofs.Stepping.{have_child_rows, map_same}
 use Rattle.aas_rows.proofs.Trees.{rows_out, Every, by_kids, every, begins_all}
-use Rattle.aas_store.specs.Spots.{elements, elements_of_all, spot_among, spot_below}
+use Rattle.aas_store.specs.Spots.{elements, elements_of_all, rank_at, spot_among, spot_below}
 use Rattle.aas_store.specs.declared.spot.Spot.{Spot}
 use Rattle.aas_store.proofs.Listed.{elements_out, as_many_of_all}
-use Rattle.aas_sheet_rows.specs.Found.{Among, rank_at, side_of_step}
+use Rattle.aas_sheet_rows.specs.Found.{Among, side_of_step}
 use Rattle.aas_sheet_index.specs.Sides.{is_below}
 use Rattle.aas_sheet_rows.specs.Table.{line_of, lines_of, submodel_of, IsTable}
 use Rattle.aas_sheet_index.specs.Sides.{sizes_of}
 use Rattle.aas_sheet_rows.specs.declared.row.Row.{Row}
 use Rattle.aas_sheet_index.specs.declared.side.Side.{Side}
-use Rattle.aas_sheet_rows.proofs.Found.{Stood, Stepped, own_row, stood, stepped, no_child, siblings_counted, some_in_place, none_in_place}
+use Rattle.aas_sheet_rows.proofs.Found.{Stood, Stepped, own_row, stood, siblings_counted, step_found}
 use Rattle.aas_sheet_rows.proofs.Loans.{rows_same, lines_long}
 
 -- ---- the elements in preorder, and their rows
@@ -143,15 +146,12 @@ module _ (head : Submodel) (rs : List Row) (ss : List Side) (d : Submodel) (t : 
   pub children_counted : count_by (is_below 0) ss ≡ length d.kids
   children_counted = siblings_counted 0 rs ss d.kids t.long lines_are
 
-  -- the child in a place is the element of its rank
-  pub child_in_place : (rank place : ℕ) → Some rank ≡ option_map (λ i. 0 + i) (side_of_step true (Place place) 0 (take (length ss - 0) (drop 0 ss)))
-      → slice_get (elements_of_all d.kids) rank ≡ slice_get d.kids place
-  child_in_place rank place is =
-      let st = stepped rs ss 0 (length ss) 0 rank d.kids true (Place place) t all_among is in
-      element_ranked d.kids 1 (0 + 1) rank st.child.1 (subst (λ ls. StandsAt ls (0 + 1) rank st.child.1) (sym lines_are) st.stands) ∙ sym (some_in_place place d.kids st.child st.by_step)
-
-  pub no_child_in_place : (place : ℕ) → None ≡ option_map (λ i. 0 + i) (side_of_step true (Place place) 0 (take (length ss - 0) (drop 0 ss))) → None ≡ slice_get d.kids place
-  no_child_in_place place is = sym (none_in_place place d.kids (no_child rs ss 0 (length ss) 0 d.kids true (Place place) t all_among is))
+  -- the rank of the child in a place
+  pub rank_in_place : (place : ℕ) → option_map (λ i. 0 + i) (side_of_step true (Place place) 0 (take (length ss - 0) (drop 0 ss))) ≡ nth_where (is_at 1) place (rows_of_all d.kids 1)
+  rank_in_place place =
+      step_found rs ss 0 (length ss) 0 d.kids true (Place place) t all_among
+      ∙ map_same (λ (c : ℕ × Element). 0 + count (take c.0 d.kids)) (λ c. count (take c.0 d.kids)) (child_by true (Place place) d.kids) (λ c. omega arith)
+      ∙ sym (have_child_rows true (Place place) d.kids 1)
 
   -- the children of the element of a rank, by a step
   pub spot_of_rank : (rank end : ℕ) (row : Row) (side : Side) (s : PathStep) (in_list : Bool) (result : Option Spot) → rank < length ss → row ≡ get_or rs rank row → side ≡ get_or ss rank side
@@ -169,10 +169,6 @@ module _ (head : Submodel) (rs : List Row) (ss : List Side) (d : Submodel) (t : 
 pub viewed : (head : Submodel) (rs rs' : List Row) (ss ss' : List Side) (d : Submodel) → IsTable rs ss → submodel_of head rs ss ≡ d → rs' ≡ rs → ss' ≡ ss → IsTable rs' ss' × (submodel_of head rs' ss' ≡ d)
 viewed head rs rs' ss ss' d t view rows_are sides_are =
     (subst (λ rs. IsTable rs ss') (sym rows_are) (subst (λ ss. IsTable rs ss) (sym sides_are) t), ap₂ (submodel_of head) rows_are sides_are ∙ view)
-
-pub zero_on : (o : Option ℕ) → option_map (λ r. 0 + r) o ≡ o
-zero_on None = refl
-zero_on (Some r) = ap (λ n. Some n) (omega arith)
 
 -- ---- spots of children
 

@@ -11,7 +11,7 @@ use Rattle.aas_path_trees.specs.WithElement.{with_element}
 use Rattle.aas_rows.specs.Edits.{StandsIn}
 use Rattle.aas_rows.proofs.Edited.{have_edited_rows}
 use Rattle.aas_store.specs.Edited.{FitsAt, patched_at}
-use Rattle.aas_sheet_rows.specs.Found.{rank_at}
+use Rattle.aas_store.specs.Spots.{rank_at}
 use Rattle.aas_sheet_rows.specs.Table.{submodel_of, IsTable}
 use Rattle.aas_sheet_rows.specs.Written.{InRange, written}
 use Rattle.aas_sheet_rows.specs.declared.row.Row.{Row}

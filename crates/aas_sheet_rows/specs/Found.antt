@@ -1,12 +1,10 @@
 -- Where elements stand in a table.
-use Rattle.std.specs.Prelude.{◌≡◌, ℕ, ◌+◌, Bool, false, List, [], ◌∷◌, ◌++◌, length, Option, Some, None, if◌then◌else◌}
-use Rattle.aas_model.specs.declared.documents.Submodel.{Submodel}
+use Rattle.std.specs.Prelude.{◌≡◌, ℕ, ◌+◌, Bool, List, [], ◌++◌, length, Option, Some, None, if◌then◌else◌}
 use Rattle.aas_model.specs.declared.element.Element.{Element}
 use Rattle.aas_model.specs.declared.path.PathStep.{PathStep}
 use Rattle.aas_model.specs.declared.path.PathStep.TheVariants.{Name, Place}
 use Rattle.std.specs.List.{position}
 use Rattle.aas_rows.specs.Children.{nth_where}
-use Rattle.aas_rows.specs.Edits.{rank_among}
 use Rattle.aas_rows.specs.Rows.{Line, rows_of_all, BeginsRows}
 use Rattle.aas_sheet_index.specs.Sides.{is_below, is_named_below}
 use Rattle.aas_sheet_rows.specs.Table.{lines_of}
@@ -32,8 +30,3 @@ pub record Among (rs : List Row) (ss : List Side) (first end k : ℕ) (ks : List
 abbrev pub AreBelow : List Row → List Side → List Element → Option Span → Type 0
 AreBelow rs ss ks None = ks ≡ []
 AreBelow rs ss ks (Some b) = Among rs ss b.first b.end b.level ks
-
--- the rank of what a path leads to
-abbrev pub rank_at : Submodel → List PathStep → Option ℕ
-rank_at d [] = None
-rank_at d (s ∷ p) = rank_among false s p d.kids

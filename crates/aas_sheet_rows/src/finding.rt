@@ -14,17 +14,7 @@ ghost use Rattle.aas_store.specs.Spots.{spot_among, step_of};
 use crate::row::Kept;
 use aas_model::{PathStep, Payload};
 use aas_sheet_index::{Side, Sides};
-use aas_store::{Spot, StepRef};
-
-/// The step as one by a text that is not owned.
-pub(crate) fn step_ref(step: &PathStep) -> StepRef<'_>
-    ensures { step_of result ≡ step.now }
-{
-    match step {
-        PathStep::Name(name) => StepRef::Name(name.as_str()),
-        PathStep::Place(place) => StepRef::Place(*place),
-    }
-}
+use aas_store::{Spot, StepRef, step_ref};
 
 pub(crate) fn is_list(payload: &Payload) -> bool
     ensures { result ≡ is_list_payload payload.now }

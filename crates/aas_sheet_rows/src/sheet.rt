@@ -50,15 +50,15 @@ impl Sheet {
     ghost use Rattle.std.specs.Borrow.{LendsIf, sem};
     ghost use Rattle.aas_path_trees.specs.Edits.{inserted, removed, replaced, role_at};
     ghost use Rattle.aas_path_trees.specs.ElementAt.{depth_found, element_at, place_named};
+    ghost use Rattle.aas_rows.specs.Children.{is_at, nth_where};
     ghost use Rattle.aas_rows.specs.Rows.{rows_of_all};
     ghost use Rattle.aas_rows.specs.Views.{line_of};
     ghost use Rattle.aas_sheet_rows.specs.Changed.{with_row, IsRow};
-    ghost use Rattle.aas_sheet_rows.specs.Found.{rank_at};
     ghost use Rattle.aas_sheet_rows.specs.Lent.{sheet_type, row_type};
     ghost use Rattle.aas_store.specs.Documents.{without_children};
     ghost use Rattle.aas_store.specs.Edited.{FitsAt, patched_at};
     ghost use Rattle.aas_store.specs.Reads.{IsRowOf, children_at, first_semantic_id};
-    ghost use Rattle.aas_store.specs.Spots.{elements_of_all, spot_below, step_of};
+    ghost use Rattle.aas_store.specs.Spots.{elements_of_all, rank_at, spot_below, step_of};
     ghost use Rattle.aas_store.specs.Storable.{element_count};
 
     /// The submodel as a table. Its elements are moved, not copied. That there are at most 65,536 bounds the levels.
@@ -205,15 +205,12 @@ impl Sheet {
         count_below(self.sides.as_slice(), 0)
     }
 
-    /// A copy of the child in a place, counted from 0, with all below it, or `None` past the end.
-    pub fn child_at(&self, place: u64) -> Result<Option<Element>, NoMemory>
-        ensures { IfOk result (λ child. child ≡ slice_get self.now.kids place) }
+    /// The rank of the child in a place, counted from 0, or `None` past the last child.
+    pub fn child_rank(&self, place: u64) -> Option<usize>
+        ensures { result ≡ nth_where (is_at 1) place (rows_of_all self.now.kids 1) }
     {
         let step = StepRef::Place(place);
-        match rank_of_step(&self.sides, 0, self.sides.len(), 0, true, step) {
-            Some(rank) => self.element_of_rank(rank),
-            None => Ok(None),
-        }
+        rank_of_step(&self.sides, 0, self.sides.len(), 0, true, step)
     }
 
     /// The child to which the step leads from the element of the rank, or from the submodel.

@@ -100,6 +100,20 @@ size_front (k ∷ ks) (suc i) =
     let fewer = size_front ks i in
     omega (arith, whole, part, fewer)
 
+-- what stands before a child, and the child with all below it
+pub size_at : (ks : List Element) (i : ℕ) (k : Element) → slice_get ks i ≡ Some k → length (elements_of_all (take i ks)) + length (elements k) ≤ length (elements_of_all ks)
+size_at [] i k is = absurd (cc)
+size_at (x ∷ ks) zero k is =
+    let same : x ≡ k = cc in
+    let own = ap (λ x. length (elements x)) same in
+    let whole = length-append (elements x) (elements_of_all ks) in
+    omega (arith, own, whole)
+size_at (x ∷ ks) (suc i) k is =
+    let whole = length-append (elements x) (elements_of_all ks) in
+    let part = length-append (elements x) (elements_of_all (take i ks)) in
+    let fewer = size_at ks i k is in
+    omega (arith, whole, part, fewer)
+
 -- ---- what stands at a rank
 
 get_front : (xs ys : List Element) (i : ℕ) (x : Element) → slice_get xs i ≡ Some x → slice_get (xs ++ ys) i ≡ Some x

@@ -1,6 +1,6 @@
 -- Where elements stand in preorder, an element before those below it, counted from the first child of a submodel on. This
 -- profile's own rule.
-use Rattle.std.specs.Prelude.{ℕ, ◌+◌, Bool, false, List, ◌∷◌, length, map, take, slice_get, Option, Some, None, option_map, option_and_then}
+use Rattle.std.specs.Prelude.{ℕ, ◌+◌, Bool, false, List, [], ◌∷◌, length, map, take, slice_get, Option, Some, None, option_map, option_and_then}
 use Rattle.std.specs.List.{flat_map}
 use Rattle.std.specs.Str.{chars}
 use Rattle.aas_model.specs.Element.{kind_of}
@@ -10,6 +10,7 @@ use Rattle.aas_model.specs.declared.path.PathStep.{PathStep}
 use Rattle.aas_model.specs.declared.path.PathStep.TheVariants as path
 use Rattle.aas_path_trees.specs.Children.{kids_of, is_list}
 use Rattle.aas_path_trees.specs.ElementAt.{child_by}
+use Rattle.aas_rows.specs.Edits.{rank_among}
 use Rattle.aas_store.specs.declared.spot.Spot.{Spot}
 use Rattle.aas_store.specs.declared.spot.StepRef.{StepRef}
 use Rattle.aas_store.specs.declared.spot.StepRef.TheVariants as step
@@ -42,3 +43,8 @@ spot_among l ks n s = option_map (λ c. record { rank = n + length (elements_of_
 abbrev pub spot_below : Submodel → Option ℕ → PathStep → Option Spot
 spot_below d None s = spot_among false d.kids 0 s
 spot_below d (Some n) s = option_and_then (λ e. spot_among (is_list e) (kids_of e) (n + 1) s) (slice_get (elements_of_all d.kids) n)
+
+-- the rank of the element to which a path leads; the empty path leads to none
+abbrev pub rank_at : Submodel → List PathStep → Option ℕ
+rank_at d [] = None
+rank_at d (s ∷ p) = rank_among false s p d.kids

@@ -1,4 +1,4 @@
-ghost use Rattle.std.specs.Prelude.{◌≡◌, ◌≢◌, ◌↔◌, Some, Err, slice_get, IfOk, IsSome, OnErr, OnOk};
+ghost use Rattle.std.specs.Prelude.{◌≡◌, ◌≢◌, ◌↔◌, Some, Err, IfOk, IsSome, OnErr, OnOk};
 ghost use Rattle.aas_model.specs.declared.path.Missing.{Missing};
 ghost use Rattle.aas_path_trees.specs.Edits.{inserted, removed, replaced};
 ghost use Rattle.aas_path_trees.specs.ElementAt.{element_at};
@@ -23,16 +23,6 @@ pub(crate) fn copy_at(submodel: &Submodel, path: &Path) -> Result<Element, Lack>
             Err(NoMemory) => Err(Lack::NoMemory),
         },
         Err(missing) => Err(Lack::NoElement(missing)),
-    }
-}
-
-/// A copy of the child at the place.
-pub(crate) fn copy_child(submodel: &Submodel, place: u64) -> Result<Option<Element>, NoMemory>
-    ensures { IfOk result (λ child. child ≡ slice_get submodel.now.kids place) }
-{
-    match submodel.kids.get(place as usize) {
-        Some(child) => Ok(Some(child.copy()?)),
-        None => Ok(None),
     }
 }
 

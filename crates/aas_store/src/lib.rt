@@ -23,6 +23,7 @@ pub use lack::Lack;
 pub use overlay::{Identified, Overlay};
 pub use shelf::Shelf;
 pub use spot::{Spot, StepRef};
+pub use spots::step_ref;
 pub use store::Store;
 pub use tree_store::TreeStore;
 

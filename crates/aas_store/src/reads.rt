@@ -1,15 +1,17 @@
 // What is read of a submodel before an edit.
-ghost use Rattle.std.specs.Prelude.{◌≡◌, ◌≢◌, ◌↔◌, ◌≤◌, Err, IfOk, MatchOption, Some};
+ghost use Rattle.std.specs.Prelude.{◌≡◌, ◌≢◌, ◌↔◌, ◌≤◌, Err, IfOk, MatchOption, None, Some};
 ghost use Rattle.std.specs.Option.{option_copied};
 ghost use Rattle.aas_model.specs.declared.path.Missing.{Missing};
-ghost use Rattle.aas_path_trees.specs.ElementAt.{element_at};
+ghost use Rattle.aas_path_trees.specs.ElementAt.{depth_found, element_at};
+ghost use Rattle.aas_rows.specs.Children.{is_at, nth_where};
+ghost use Rattle.aas_rows.specs.Rows.{rows_of_all};
 ghost use Rattle.aas_store.specs.Edited.{LeadsNowhere};
 ghost use Rattle.aas_store.specs.Reads.{IsRowOf, children_at, first_semantic_id};
+ghost use Rattle.aas_store.specs.Spots.{rank_at};
 ghost use Rattle.aas_store.specs.Storable.{element_count};
 
 use crate::lack::Lack;
-use crate::rows::row_of;
-use crate::spots::{MOST, behind_all};
+use crate::spots::{MOST, behind_all, find_among};
 use aas_model::{Element, Missing, Path, Reference, Submodel};
 use aas_path::at;
 use aas_rows::RowView;
@@ -20,6 +22,53 @@ pub(crate) fn element_count(submodel: &Submodel) -> Option<u64>
     ensures { result ≡ Some (element_count submodel.now) }
 {
     behind_all(submodel.kids.as_slice(), 0)
+}
+
+/// The rank of the child in the place, counted from 0, or `None` past the last child.
+pub(crate) fn child_rank(submodel: &Submodel, place: u64) -> Option<u64>
+    requires { element_count submodel.now ≤ 65536 }
+    ensures { result ≡ nth_where (is_at 1) place (rows_of_all submodel.now.kids 1) }
+{
+    let kids = submodel.kids.as_slice();
+    if place >= kids.len() as u64 {
+        return None;
+    }
+    behind_all(&kids[..place as usize], 0)
+}
+
+/// The rank of the element at the path.
+pub(crate) fn find(submodel: &Submodel, path: &Path) -> Result<u64, Lack>
+    requires { element_count submodel.now ≤ 65536 }
+    ensures found { IfOk result (λ rank. rank_at submodel.now path.now.steps ≡ Some rank) }
+    ensures there { result ≢ Err Lack.NoSubmodel }
+    ensures no_element { (m : Missing) → (result ≡ Err (Lack.NoElement m)) ↔ LeadsNowhere submodel.now path.now.steps m }
+{
+    match rank_of(submodel, path) {
+        Some(rank) => Ok(rank),
+        None => Err(Lack::NoElement(missing_at(submodel, path))),
+    }
+}
+
+fn rank_of(submodel: &Submodel, path: &Path) -> Option<u64>
+    requires { element_count submodel.now ≤ 65536 }
+    ensures { result ≡ rank_at submodel.now path.now.steps }
+{
+    let (step, rest) = path.steps.as_slice().split_first()?;
+    find_among(false, submodel.kids.as_slice(), 0, step, rest)
+}
+
+/// How far a path leads that leads to no element.
+fn missing_at(submodel: &Submodel, path: &Path) -> Missing
+    requires { element_at submodel.now path.now.steps ≡ None }
+    ensures { result.steps ≡ depth_found submodel.now path.now.steps }
+{
+    if path.steps.is_empty() {
+        return Missing { steps: 0 };
+    }
+    match at(submodel, path) {
+        Ok(_) => unreachable!(),
+        Err(missing) => missing,
+    }
 }
 
 /// The row of the element at the path.
@@ -34,7 +83,7 @@ pub(crate) fn row_at<'a>(submodel: &'a Submodel, path: &Path) -> Result<RowView<
     match at(submodel, path) {
         Ok(element) => {
             let level = (path.steps.len() as u64).min(MOST) as u32;
-            Ok(row_of(element, level))
+            Ok(RowView::of_element(element, level))
         }
         Err(missing) => Err(Lack::NoElement(missing)),
     }

@@ -8,23 +8,6 @@ use crate::spots::MOST;
 use aas_model::{Element, Submodel};
 use aas_rows::RowView;
 
-/// The row of an element that stands at the level.
-pub(crate) fn row_of(element: &Element, level: u32) -> RowView<'_>
-    ensures { line_of result ≡ line_at level element.now }
-{
-    let id_short = match &element.common.id_short {
-        Some(id_short) => Some(id_short.as_str()),
-        None => None,
-    };
-    RowView {
-        common: &element.common,
-        id_short,
-        payload: &element.payload,
-        role: element.role,
-        level,
-    }
-}
-
 /// The row of a rank, `element` itself having rank 0 and standing at the level, or what is left of the rank behind all below it.
 #[cycle(row)]
 fn row_below(element: &Element, rank: u64, level: u32) -> Result<RowView<'_>, u64>
@@ -32,7 +15,7 @@ fn row_below(element: &Element, rank: u64, level: u32) -> Result<RowView<'_>, u6
     ensures { MatchResult result (λ row. slice_get (rows element.now level) rank ≡ Some (line_of row)) (λ left. left + length (rows element.now level) ≡ rank) }
 {
     if rank == 0 {
-        return Ok(row_of(element, level));
+        return Ok(RowView::of_element(element, level));
     }
     row_among(element.kids.as_slice(), rank - 1, level + 1)
 }

@@ -1,16 +1,27 @@
-ghost use Rattle.std.specs.Prelude.{◌≡◌, ◌+◌, ◌<◌, ◌≤◌, length, MatchOption, MatchResult};
+ghost use Rattle.std.specs.Prelude.{◌≡◌, ◌+◌, ◌<◌, ◌≤◌, length, option_map, MatchOption, MatchResult};
 ghost use Rattle.aas_path_trees.specs.Children.{id_short_of, is_list};
 ghost use Rattle.aas_path_trees.specs.ElementAt.{is_text, place_named, place_of, place_within};
 ghost use Rattle.std.specs.Str.{chars};
+ghost use Rattle.aas_rows.specs.Edits.{rank_among};
 ghost use Rattle.aas_store.specs.Ranked.{IsRanked};
 ghost use Rattle.aas_store.specs.Spots.{elements, elements_of_all, spot_among, spot_below, step_of};
 ghost use Rattle.aas_store.specs.Storable.{element_count};
 
 use crate::spot::{Spot, StepRef};
-use aas_model::{Element, Payload, Submodel, same_text};
+use aas_model::{Element, PathStep, Payload, Submodel, same_text};
 
 /// The most elements that a store takes in a submodel.
 pub(crate) const MOST: u64 = 65_536;
+
+/// The step as one by a text that is not owned.
+pub fn step_ref(step: &PathStep) -> StepRef<'_>
+    ensures { step_of result ≡ step.now }
+{
+    match step {
+        PathStep::Name(name) => StepRef::Name(name.as_str()),
+        PathStep::Place(place) => StepRef::Place(*place),
+    }
+}
 
 /// The rank behind an element of a rank and all below it, or `None` if these are more than a store takes.
 #[cycle(behind)]
@@ -145,5 +156,27 @@ pub(crate) fn spot_below(
             Ok(element) => spot_among(is_list(element), element.kids.as_slice(), rank + 1, step),
             Err(_) => None,
         },
+    }
+}
+
+/// The rank of the element to which a step and then a path lead among the children of a list or of something else, the
+/// first of which has a rank.
+#[tactic(auto, unfolding(aas_path_trees::specs::ElementAt::child_by))]
+pub(crate) fn find_among(
+    in_list: bool,
+    kids: &[Element],
+    first: u64,
+    step: &PathStep,
+    path: &[PathStep],
+) -> Option<u64>
+    requires { first + length (elements_of_all kids.now) ≤ 65536 }
+    ensures { result ≡ option_map (λ r. first + r) (rank_among in_list step.now path.now kids.now) }
+{
+    let place = place_of(in_list, step_ref(step), kids)?;
+    let kid = kids.get(place)?;
+    let rank = behind_all(&kids[..place], first)?;
+    match path.split_first() {
+        None => Some(rank),
+        Some((next, rest)) => find_among(is_list(kid), kid.kids.as_slice(), rank + 1, next, rest),
     }
 }

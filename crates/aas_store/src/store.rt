@@ -5,13 +5,14 @@ ghost use Rattle.std.specs.Option.{option_copied, option_map_or};
 ghost use Rattle.aas_model.specs.declared.path.Missing.{Missing};
 ghost use Rattle.aas_path_trees.specs.Edits.{inserted, removed, replaced, role_at};
 ghost use Rattle.aas_path_trees.specs.ElementAt.{element_at, place_named};
+ghost use Rattle.aas_rows.specs.Children.{is_at, nth_where};
 ghost use Rattle.aas_rows.specs.Rows.{Line, rows_of_all};
 ghost use Rattle.aas_rows.specs.Views.{line_of};
 ghost use Rattle.aas_store.specs.Documents.{Documents, count, first_above, has, ids, without_children};
 ghost use Rattle.aas_store.specs.Documents.{with_all, with_concept, with_shell, with_submodel, without};
 ghost use Rattle.aas_store.specs.Edited.{CanReplace, FitsAt, Holds, LeadsNowhere, patched_at, with_changed};
 ghost use Rattle.aas_store.specs.Reads.{IsRowOf, children_at, first_semantic_id};
-ghost use Rattle.aas_store.specs.Spots.{spot_below, step_of};
+ghost use Rattle.aas_store.specs.Spots.{rank_at, spot_below, step_of};
 ghost use Rattle.aas_store.specs.Storable.{IsStorable, element_count};
 
 use crate::lack::Lack;
@@ -63,11 +64,6 @@ pub trait Store {
     fn child_count(&self, id: &str) -> Option<u64>
         ensures { result ≡ option_map (λ s. length s.kids) (map.get (documents self.now).submodels id.now) };
 
-    /// A copy of the child at the place, counted from 0, in the submodel of the identifier.
-    fn child_at(&self, id: &str, place: u64) -> Result<Option<Element>, NoMemory>
-        ensures { IfOk result
-            (λ child. child ≡ option_and_then (λ s. slice_get s.kids place) (map.get (documents self.now).submodels id.now)) };
-
     /// A copy of the element to which the path leads in the submodel of the identifier; the empty path leads to none.
     fn element(&self, id: &str, path: &Path) -> Result<Element, Lack>
         ensures found { IfOk result (λ e. Holds (documents self.now) id.now (λ s. element_at s path.now.steps ≡ Some e)) }
@@ -103,10 +99,24 @@ pub trait Store {
         requires { length (rows table.now) ≤ 65536 }
         ensures { option_map line_of result ≡ slice_get (rows table.now) rank };
 
+    /// The rank of the child in the place, counted from 0, of a stored submodel, or `None` past the last child. That there
+    /// are at most 65,536 elements bounds the ranks.
+    fn child_rank(table: &Self::Table, place: u64) -> Option<u64>
+        requires { length (rows table.now) ≤ 65536 }
+        ensures { result ≡ nth_where (is_at 1) place (rows table.now) };
+
     /// How many elements the submodel of the identifier has, at all levels. That these are at most 65,536 bounds the count.
     fn element_count(&self, id: &str) -> Option<u64>
         requires { IfSome (map.get (documents self.now).submodels id.now) (λ s. element_count s ≤ 65536) }
         ensures { result ≡ option_map element_count (map.get (documents self.now).submodels id.now) };
+
+    /// The rank of the element to which the path leads in the submodel of the identifier; the empty path leads to none. That
+    /// the submodel has at most 65,536 elements bounds the ranks.
+    fn find(&self, id: &str, path: &Path) -> Result<u64, Lack>
+        requires { IfSome (map.get (documents self.now).submodels id.now) (λ s. element_count s ≤ 65536) }
+        ensures found { IfOk result (λ rank. Holds (documents self.now) id.now (λ s. rank_at s path.now.steps ≡ Some rank)) }
+        ensures no_submodel { (result ≡ Err Lack.NoSubmodel) ↔ (map.get (documents self.now).submodels id.now ≡ None) }
+        ensures no_element { (m : Missing) → (result ≡ Err (Lack.NoElement m)) ↔ Holds (documents self.now) id.now (λ s. LeadsNowhere s path.now.steps m) };
 
     /// The row of the element to which the path leads in the submodel of the identifier; the empty path leads to none.
     fn row_at(&self, id: &str, path: &Path) -> Result<RowView<'_>, Lack>

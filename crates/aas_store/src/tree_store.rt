@@ -3,7 +3,7 @@ ghost use Rattle.aas_rows.specs.Rows.{rows_of_all};
 ghost use Rattle.aas_store.specs.Documents.{empty};
 ghost use Rattle.aas_store.specs.TreeStore.{documents};
 
-use crate::elements::{copy_at, copy_child, insert_at, patch_at, remove_at, replace_at};
+use crate::elements::{copy_at, insert_at, patch_at, remove_at, replace_at};
 use crate::lack::Lack;
 use crate::shelf::Shelf;
 use crate::spot::{Spot, StepRef};
@@ -22,8 +22,8 @@ use std::alloc::Global;
 ///
 /// A look-up costs the logarithm of the collection's size. A put and a delete also move 32 bytes for each document
 /// behind the one that they meet; `put_all` moves each document once for all that it puts in. A step of a path by name
-/// costs the siblings that it passes, `child`, `row` and `row_of` the elements before the one that they look for, and
-/// `element_count` all. Only puts, `insert_element` and copies take memory.
+/// costs the siblings that it passes, `child`, `child_rank`, `find`, `row` and `row_of` the elements before the one that
+/// they look for, and `element_count` all. Only puts, `insert_element` and copies take memory.
 #[derive(Drop)]
 pub struct TreeStore {
     shells: Shelf<Shell>,
@@ -98,13 +98,6 @@ impl Store for TreeStore {
         }
     }
 
-    fn child_at(&self, id: &str, place: u64) -> Result<Option<Element>, NoMemory> {
-        match self.submodels.get(id) {
-            Some(submodel) => copy_child(submodel, place),
-            None => Ok(None),
-        }
-    }
-
     fn element(&self, id: &str, path: &Path) -> Result<Element, Lack> {
         match self.submodels.get(id) {
             Some(submodel) => copy_at(submodel, path),
@@ -138,10 +131,21 @@ impl Store for TreeStore {
         rows::row_at(table, rank)
     }
 
+    fn child_rank(table: &Submodel, place: u64) -> Option<u64> {
+        reads::child_rank(table, place)
+    }
+
     fn element_count(&self, id: &str) -> Option<u64> {
         match self.submodels.get(id) {
             Some(submodel) => reads::element_count(submodel),
             None => None,
+        }
+    }
+
+    fn find(&self, id: &str, path: &Path) -> Result<u64, Lack> {
+        match self.submodels.get(id) {
+            Some(submodel) => reads::find(submodel, path),
+            None => Err(Lack::NoSubmodel),
         }
     }
 

@@ -1,7 +1,6 @@
 use Rattle.std.proofs.Common.{◌∙◌, Ok, Err, Some, sym}
-use Rattle.aas_sheet.proofs.Walked.{is_not_missing, leads_nowhere}
-use Rattle.aas_sheet_rows.proofs.Edits.{no_element}
 use Rattle.aas_sheet_rows.proofs.Standing.{element_of_path}
+use Rattle.aas_store.proofs.Paths.{is_not_missing, leads_nowhere, no_element}
 use Rattle.aas_store.specs.declared.lack.Lack.TheVariants.{NoMemory}
 use Rattle.aas_sheet.proofs.reading.copy_at.Goals as goal
 

@@ -1,6 +1,6 @@
 use Rattle.std.proofs.Common.{Ok}
 use Rattle.aas_store.specs.Reads.{IsRowOf}
-use Rattle.aas_sheet.proofs.Walked.{is_there, leads_nowhere}
+use Rattle.aas_store.proofs.Paths.{is_there, leads_nowhere}
 use Rattle.aas_sheet.proofs.reading.row_at.Goals as goal
 
 pub returns-in-Some-clause-no_element : goal.returns-in-Some-clause-no_element

@@ -4,7 +4,7 @@ use Rattle.aas_sheet_index.specs.Sides.{sizes_of}
 use Rattle.aas_sheet_index.specs.declared.side.Side.{Side}
 use Rattle.aas_sheet_rows.specs.Found.{Among, AreBelow}
 use Rattle.aas_sheet_rows.specs.declared.row.Row.{Row}
-use Rattle.aas_sheet_rows.proofs.Found.{no_steps}
+use Rattle.aas_store.proofs.Paths.{no_steps}
 use Rattle.aas_sheet_rows.proofs.Below.{found_below, nothing_below}
 use Rattle.aas_store.specs.Reads.{children_at}
 use Rattle.aas_sheet_rows.proofs.reading.below.Goals as goal

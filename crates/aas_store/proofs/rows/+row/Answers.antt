@@ -2,7 +2,7 @@ use Rattle.aas_store.proofs.Rowed as rowed
 use Rattle.aas_store.proofs.rows.+row.Goals as goal
 
 pub row_below-returns-then-rank-eq0 : goal.row_below-returns-then-rank-eq0
-row_below-returns-then-rank-eq0 t c = rowed.first_row c.args.element.now c.args.level c.args.rank c.row_of.result c.if-rank-eq0.true c.row_of.ensures
+row_below-returns-then-rank-eq0 t c = rowed.first_row c.args.element.now c.args.level c.args.rank c.of_element.result c.if-rank-eq0.true c.of_element.ensures
 
 pub row_below-returns : goal.row_below-returns
 row_below-returns t c =

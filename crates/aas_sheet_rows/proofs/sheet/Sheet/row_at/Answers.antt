@@ -1,4 +1,4 @@
-use Rattle.aas_sheet_rows.proofs.Edits.{no_element}
+use Rattle.aas_store.proofs.Paths.{no_element}
 use Rattle.aas_sheet_rows.proofs.Below.{row_of_path}
 use Rattle.aas_sheet_rows.proofs.sheet.Sheet.row_at.Goals as goal
 
