@@ -1,4 +1,5 @@
 mod Coded
+mod Long
 mod Methods
 mod Numbers
 mod Once

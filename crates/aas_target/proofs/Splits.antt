@@ -1,5 +1,5 @@
 -- A separator splits bytes at its first place, if it stands in them.
-use Rattle.std.proofs.Common.{◌≡◌, ℕ, zero, suc, ◌<◌, true, false, ◌==◌, List, [], ◌∷◌, length, take, drop, get_or, refl, ap, ◌∙◌, arith}
+use Rattle.std.proofs.Common.{◌≡◌, ℕ, zero, suc, ◌<◌, true, false, cond, ◌==◌, List, [], ◌∷◌, length, take, drop, get_or, refl, ap, ◌∙◌, arith, lit<}
 use Rattle.std.proofs.lemmas.Bool.{cond-true, cond-false}
 use Rattle.form_urlencoded.specs.Form.{onto_first, split}
 
@@ -19,3 +19,16 @@ unfolding split
 split_nowhere s [] none = refl
 split_nowhere s (b ∷ bs) none =
     cond-false _ _ _ (none zero (omega arith)) ∙ ap (onto_first b) (split_nowhere s bs (λ k l. none (suc k) (omega arith)))
+
+onto_some : (b : ℕ) (pieces : List (List ℕ)) → 0 < length (onto_first b pieces)
+onto_some b [] = lit< tt
+onto_some b (piece ∷ pieces) = omega arith
+
+-- there is a piece
+pub some_piece : (s : ℕ) (bs : List ℕ) → 0 < length (split s bs)
+unfolding split
+some_piece s [] = lit< tt
+some_piece s (b ∷ bs) = elim (b == s) as (λ t. 0 < length (cond t ([] ∷ split s bs) (onto_first b (split s bs)))) [
+  | true ↦ omega arith
+  | false ↦ onto_some b (split s bs)
+]

@@ -1,5 +1,5 @@
 // Which resource a path names.
-ghost use Rattle.std.specs.Prelude.{◌≡◌, ◌∷◌, [], map, option_map, ◌&&◌, nat_lt, length};
+ghost use Rattle.std.specs.Prelude.{◌≡◌, ◌<◌, ◌∷◌, [], map, option_map, IfSome, IfNone, length};
 ghost use Rattle.std.specs.Option.{option_map_or};
 ghost use Rattle.form_urlencoded.specs.Form.{split};
 ghost use Rattle.aas_target.specs.Routes.{first_with, first_within_shell, path_in, query_in, resource_at, resource_with, texts_of};
@@ -7,6 +7,10 @@ ghost use Rattle.aas_target.specs.Seen.{found_of, segment_of, texts_of as texts_
 
 use crate::method::Method;
 use crate::routes::{OTHER_RESOURCES, Resource, SUBMODEL_RESOURCES, Segment};
+use arrayvec::ArrayVec;
+
+/// How many segments the path of a resource has at most, as `shells/ID/submodels/ID/submodel-elements/PATH/$value`.
+const MOST_SEGMENTS: usize = 7;
 
 /// The segments of a path that are parameters, as they are sent; empty where it has none.
 #[derive(Clone, Copy)]
@@ -85,31 +89,49 @@ pub fn resource_at(path: &[u8]) -> Option<Found<'_>>
     ensures { option_map found_of result ≡ resource_at path.now }
 {
     match path {
-        [b'/', path @ ..] => resource_with(path),
+        [b'/', path @ ..] => resource_with(&segments_of(path)?),
         _ => None,
     }
 }
 
-/// The same, by what stands behind the first slash.
-#[tactic(auto, unfolding(crate::specs::Routes::resource_with))]
-fn resource_with(path: &[u8]) -> Option<Found<'_>>
-    ensures { option_map found_of result ≡ resource_with (split 47 path.now) }
+/// The segments of what stands behind the first slash, or nothing where they are more than the path of any resource has.
+fn segments_of(path: &[u8]) -> Option<ArrayVec<&[u8], MOST_SEGMENTS>>
+    ensures some { IfSome result (λ texts. map (λ text. text.now) texts.items ≡ split 47 path.now) }
+    ensures none { IfNone result (MOST_SEGMENTS < length (split 47 path.now)) }
 {
-    if let Some(found) = first_with(&OTHER_RESOURCES, path) {
-        return Some(found);
+    let mut texts = ArrayVec::new();
+    let mut left = Some(path);
+    while let Some(path) = left {
+        if texts.is_full() {
+            return None;
+        }
+        let (text, rest) = cut(path, b'/');
+        texts.push(text);
+        left = rest;
     }
-    if let Some(found) = first_with(&SUBMODEL_RESOURCES, path) {
-        return Some(found);
-    }
-    first_within_shell(path)
+    Some(texts)
 }
 
-/// The first of some resources that has the path.
-fn first_with<'a>(resources: &[Resource], path: &'a [u8]) -> Option<Found<'a>>
-    ensures { option_map found_of result ≡ first_with resources.now (split 47 path.now) }
+/// The resource whose path has segments with these texts.
+#[tactic(auto, unfolding(crate::specs::Routes::resource_with))]
+fn resource_with<'a>(texts: &[&'a [u8]]) -> Option<Found<'a>>
+    ensures { option_map found_of result ≡ resource_with (map (λ text. text.now) texts.now) }
+{
+    if let Some(found) = first_with(&OTHER_RESOURCES, texts) {
+        return Some(found);
+    }
+    if let Some(found) = first_with(&SUBMODEL_RESOURCES, texts) {
+        return Some(found);
+    }
+    first_within_shell(texts)
+}
+
+/// The first of some resources whose path has segments with these texts.
+fn first_with<'a>(resources: &[Resource], texts: &[&'a [u8]]) -> Option<Found<'a>>
+    ensures { option_map found_of result ≡ first_with resources.now (map (λ text. text.now) texts.now) }
 {
     for resource in resources {
-        if let Some(texts) = texts_of(resource.segments(), path) {
+        if let Some(texts) = texts_of(resource.segments(), texts) {
             return Some(Found {
                 resource: *resource,
                 through: None,
@@ -120,49 +142,37 @@ fn first_with<'a>(resources: &[Resource], path: &'a [u8]) -> Option<Found<'a>>
     None
 }
 
-/// The resource of one submodel that has the path behind `shells` and the segment of a shell.
-fn first_within_shell(path: &[u8]) -> Option<Found<'_>>
-    ensures { option_map found_of result ≡ first_within_shell (split 47 path.now) }
+/// The resource of one submodel whose path has them, behind `shells` and the segment of a shell.
+fn first_within_shell<'a>(texts: &[&'a [u8]]) -> Option<Found<'a>>
+    ensures { option_map found_of result ≡ first_within_shell (map (λ text. text.now) texts.now) }
 {
-    let (name, rest) = cut(path, b'/');
-    let (shell, rest) = cut(rest?, b'/');
+    let [name, shell, texts @ ..] = texts else {
+        return None;
+    };
     if !Segment::Shells.fits(name) || !Segment::Id.fits(shell) {
         return None;
     }
-    let found = first_with(&SUBMODEL_RESOURCES, rest?)?;
+    let found = first_with(&SUBMODEL_RESOURCES, texts)?;
     Some(Found {
         through: Some(shell),
         ..found
     })
 }
 
-/// The parameters of a path, if it has these segments.
-fn texts_of<'a>(segments: &[Segment], path: &'a [u8]) -> Option<Texts<'a>>
-    ensures { option_map texts_seen result ≡ texts_of (map segment_of segments.now) (split 47 path.now) }
+/// The parameters among the texts of a path, if it has these segments.
+fn texts_of<'a>(segments: &[Segment], texts: &[&'a [u8]]) -> Option<Texts<'a>>
+    ensures { option_map texts_seen result ≡ texts_of (map segment_of segments.now) (map (λ text. text.now) texts.now) }
 {
-    let (text, rest) = cut(path, b'/');
-    let [segment, others @ ..] = segments else {
+    if segments.len() != texts.len() {
         return None;
+    }
+    let ([segment, segments @ ..], [text, texts @ ..]) = (segments, texts) else {
+        return Some(Texts::none());
     };
     if !segment.fits(text) {
         return None;
     }
-    let texts = match rest {
-        Some(rest) => texts_of(others, rest)?,
-        None => no_more(others)?,
-    };
-    Some(texts.with(*segment, text))
-}
-
-/// No parameters, if there are no more segments.
-fn no_more<'a>(segments: &[Segment]) -> Option<Texts<'a>>
-    ensures { option_map texts_seen result ≡ texts_of (map segment_of segments.now) [] }
-{
-    if segments.is_empty() {
-        Some(Texts::none())
-    } else {
-        None
-    }
+    Some(texts_of(segments, texts)?.with(*segment, text))
 }
 
 /// The bytes before the first separator, and those behind it, if there is one.
