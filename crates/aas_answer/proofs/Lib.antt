@@ -1,7 +1,10 @@
+mod Children
 mod Entries
 mod Found
+mod InMemory
 mod Low
 mod Pages
 mod Planned
+mod Ranked
 mod Shown
 mod Stored

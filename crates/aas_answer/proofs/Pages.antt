@@ -1,17 +1,17 @@
 -- Pages, entry by entry.
-use Rattle.std.proofs.Common.{◌≡◌, ⊎_elim, ℕ, suc, ◌+◌, ◌-◌, ◌<◌, ◌≤◌, min, Bool, true, false, nat_lt, List, [], ◌∷◌, ◌++◌, length, map, take, drop, slice_get, decimal, Option, Some, None, option_and_then, option_map, Ok, refl, sym, ap, ap₂, ◌∙◌, arith}
+use Rattle.std.proofs.Common.{◌≡◌, ⊎_elim, ℕ, suc, ◌+◌, ◌-◌, ◌<◌, ◌≤◌, min, Bool, true, false, nat_lt, List, [], ◌∷◌, ◌++◌, length, map, take, drop, slice_get, decimal, Option, Some, None, option_map, Ok, refl, sym, ap, ap₂, ◌∙◌, arith}
 use Rattle.std.specs.Prelude.{codes, filter, get_or, if◌then◌else◌, ◌&&◌}
 use Rattle.std.specs.FinMap as fin
 use Rattle.std.specs.FinMap.{entries_sorted, get-entries}
 use Rattle.std.specs.List.{All, flat_map, join_by, last_or}
 use Rattle.std.specs.Option.{option_map_or}
 use Rattle.std.specs.Str.{encode_utf8_all}
-use Rattle.std.proofs.lemmas.Bool.{and_parts, cases_lt, lt-ltb, ltb_from_iff, ltb-true}
-use Rattle.std.proofs.lemmas.List.{append-nil, append_assoc, get_or-drop, length-drop, length-take-le, take_all, take_more}
+use Rattle.std.proofs.lemmas.Bool.{cases_lt, lt-ltb, ltb_from_iff, ltb-true}
+use Rattle.std.proofs.lemmas.List.{append-nil, append_assoc, drop_all, get_or-drop, length-drop, length-take-le, take_all, take_more}
 use Rattle.std.proofs.lemmas.List.Concat.{flat_map-append}
 use Rattle.std.proofs.lemmas.List.Elements.{All-head, All-tail, All-filter, All-take}
 use Rattle.std.proofs.lemmas.List.Folds.{flat_map-map}
-use Rattle.std.proofs.lemmas.Option.{get_or_from_slice_get, slice_get_cases, slice_get_within, slice_get-get_or}
+use Rattle.std.proofs.lemmas.Option.{get_or_from_slice_get, slice_get_within, slice_get-get_or}
 use Rattle.std.proofs.lemmas.Simd.{map-map}
 use Rattle.base64.specs.Engines.{url_safe_no_pad}
 use Rattle.base64.specs.GeneralPurpose.{encode_of}
@@ -21,17 +21,12 @@ use Rattle.aas_page.specs.Pages.{PageOf, ids_on, page_after, page_from, page_of}
 use Rattle.aas_page.specs.declared.filter.Selection.{Selection}
 use Rattle.aas_page.specs.declared.filter.Span.{Span}
 use Rattle.aas_model.specs.declared.documents.Submodel.{Submodel}
-use Rattle.aas_model.specs.declared.element.Element.{Element}
-use Rattle.aas_form.specs.ReferenceTo.{child_reference, shell_reference}
-use Rattle.aas_json_write.specs.Order.{element_in_order, elements_in_order, head_in_order, submodel_in_order}
+use Rattle.aas_form.specs.ReferenceTo.{shell_reference}
 use Rattle.aas_step.specs.Valid.{AreValid}
 use Rattle.aas_store.specs.Documents.{Documents, Identifier, Map, is_above, without_children}
 use Rattle.aas_store.proofs.Ordered.{found_at}
-use Rattle.aas_answer.specs.Answers.{Answer, documents_page, page_begin, page_text, places_page, reference_text}
-use Rattle.aas_answer.specs.Listed.{HasValidHead, child_text, collection_of, document_text, documents_in, submodel_text}
-use Rattle.aas_answer.proofs.Found.{kids_at}
-use Rattle.aas_answer.specs.declared.forms.ChildForm.{ChildForm}
-use Rattle.aas_answer.specs.declared.forms.ChildForm.TheVariants as child
+use Rattle.aas_answer.specs.Answers.{documents_page, page_begin, page_text, places_page, reference_text}
+use Rattle.aas_answer.specs.Listed.{HasValidHead, collection_of, document_text, documents_in, submodel_text}
 use Rattle.aas_answer.specs.declared.forms.DocumentForm.{DocumentForm}
 use Rattle.aas_answer.specs.declared.forms.DocumentForm.TheVariants as document
 
@@ -58,19 +53,13 @@ taken_more : {X : Type 0} (xs : List X) (k : ℕ) (x : X) → slice_get xs k ≡
 taken_more xs k x at = take_more xs k x (slice_get_within xs k x at) ∙ ap (λ y. take k xs ++ y ∷ []) (get_or_from_slice_get xs k x x at)
 
 -- one more entry, behind a comma where it isn't the first
-pub entry_more : {X : Type 0} (text : X → List ℕ) (xs : List X) (k : ℕ) (x : X) (later : Bool) (begin old comma new : List ℕ)
-    → slice_get xs k ≡ Some x → later ≡ nat_lt 0 k → old ≡ begin ++ joined text (take k xs)
-    → comma ≡ old ++ comma_if later → new ≡ comma ++ text x → new ≡ begin ++ joined text (take (k + 1) xs)
-entry_more text xs k x later begin old comma new at is_later so_far behind told =
+pub joined_next : {X : Type 0} (text : X → List ℕ) (xs : List X) (k : ℕ) (x : X) → slice_get xs k ≡ Some x
+    → joined text (take (k + 1) xs) ≡ (joined text (take k xs) ++ comma_if (nat_lt 0 k)) ++ text x
+joined_next text xs k x at =
     let within : k < length xs = slice_get_within xs k x at in
     let long : length (take k xs) ≡ k = length-take-le k xs (omega arith) in
-    let front = joined text (take k xs) in
-    let between = comma_if (nat_lt 0 (length (take k xs))) in
-    told
-    ∙ ap (λ t. t ++ text x) (behind ∙ ap₂ (λ t later. t ++ comma_if later) so_far (is_later ∙ ap (nat_lt 0) (sym long)))
-    ∙ ap (λ t. t ++ text x) (append_assoc begin front between)
-    ∙ append_assoc begin (front ++ between) (text x)
-    ∙ ap (λ t. begin ++ t) (sym (joined_more text (take k xs) x) ∙ ap (joined text) (sym (taken_more xs k x at)))
+    ap (joined text) (taken_more xs k x at) ∙ joined_more text (take k xs) x
+    ∙ ap (λ n. (joined text (take k xs) ++ comma_if (nat_lt 0 n)) ++ text x) long
 
 -- all entries, in another view of them
 pub page_ended : {X Y : Type 0} (f : X → List ℕ) (g : Y → List ℕ) (xs : List X) (p : PageOf Y) (found next : Option (List ℕ)) (text page : List ℕ)
@@ -84,30 +73,32 @@ page_ended f g xs p found next text page same cursor whole is =
 -- ---- entries by their places
 
 module _ {X : Type 0} (xs : List X) (from limit : ℕ) where
-  behind_front : (k : ℕ) (x : X) → slice_get xs (from + k) ≡ Some x → slice_get (drop from xs) k ≡ Some x
-  behind_front k x at =
+  pub entry_behind : (k : ℕ) (x : X) → slice_get xs (from + k) ≡ Some x → slice_get (drop from xs) k ≡ Some x
+  entry_behind k x at =
       let within : from + k < length xs = slice_get_within xs (from + k) x at in
       let long = length-drop from xs in
       slice_get-get_or (drop from xs) k x (omega (arith, long)) ∙ ap Some (get_or-drop from xs k x ∙ get_or_from_slice_get xs (from + k) x x at)
 
-  pub place_behind : (place : ℕ) (x : X) → from ≤ place → slice_get xs place ≡ Some x → slice_get (drop from xs) (place - from) ≡ Some x
-  place_behind place x le at = behind_front (place - from) x (let same : from + (place - from) ≡ place = omega arith in ap (slice_get xs) same ∙ at)
-
-  is_later : (place : ℕ) → nat_lt from place ≡ nat_lt 0 (place - from)
-  is_later place = ltb_from_iff (λ less. let lt = ltb-true from place less in omega arith, λ lt. lt-ltb from place (omega arith))
-
-  -- the entries up to the end of a page are all of it
-  pub entries_to_end : (place : ℕ) → min (from + limit) (length xs) ≤ place → (from ≤ min (from + limit) (length xs) → place ≤ min (from + limit) (length xs))
-      → take (place - from) (drop from xs) ≡ take limit (drop from xs)
-  entries_to_end place behind within = ⊎_elim all part (cases_lt (length xs) (from + limit))
+  -- what stands from the first entry of a page up to its end is all of it
+  pub entries_shown : (end first : ℕ) → end ≡ min (from + limit) (length xs) → first ≡ min from end → take (end - first) (drop first xs) ≡ take limit (drop from xs)
+  entries_shown end first is first_is = ⊎_elim beyond within (cases_lt end from)
     where
-      all : length xs < from + limit → take (place - from) (drop from xs) ≡ take limit (drop from xs)
-      all less =
+      beyond : end < from → take (end - first) (drop first xs) ≡ take limit (drop from xs)
+      beyond less =
+          let none : end - first ≡ 0 = omega arith in
+          let past : length xs ≤ from = omega arith in
           let long = length-drop from xs in
-          take_all (place - from) (drop from xs) (omega (arith, long)) ∙ sym (take_all limit (drop from xs) (omega (arith, long)))
+          ap (λ n. take n (drop first xs)) none ∙ sym (drop_all from xs past) ∙ sym (take_all limit (drop from xs) (omega (arith, long)))
 
-      part : from + limit ≤ length xs → take (place - from) (drop from xs) ≡ take limit (drop from xs)
-      part fits = let same : place - from ≡ limit = omega arith in ap (λ n. take n (drop from xs)) same
+      within : from ≤ end → take (end - first) (drop first xs) ≡ take limit (drop from xs)
+      within le =
+          let same : first ≡ from = omega arith in
+          let long = length-drop from xs in
+          ap (λ n. take (end - n) (drop n xs)) same
+          ∙ ⊎_elim
+          (λ less. take_all (end - from) (drop from xs) (omega (arith, long)) ∙ sym (take_all limit (drop from xs) (omega (arith, long))))
+          (λ fits. let many : end - from ≡ limit = omega arith in ap (λ n. take n (drop from xs)) many)
+          (cases_lt (length xs) (from + limit))
 
   further : (end : ℕ) → end ≡ min (from + limit) (length xs) → nat_lt end (length xs) ≡ nat_lt limit (length (drop from xs))
   further end is =
@@ -123,34 +114,14 @@ module _ {X : Type 0} (xs : List X) (from limit : ℕ) where
       by true less = let lt = ltb-true end (length xs) less in let same : end ≡ from + limit = omega arith in ap (λ n. Some (decimal n)) same
       by false more = refl
 
-  -- one more entry, at its place
-  pub place_more : (text : X → List ℕ) (place : ℕ) (x : X) (begin old comma new : List ℕ) → from ≤ place → slice_get xs place ≡ Some x
-      → old ≡ begin ++ joined text (take (place - from) (drop from xs)) → comma ≡ old ++ comma_if (nat_lt from place) → new ≡ comma ++ text x
-      → new ≡ begin ++ joined text (take (place + 1 - from) (drop from xs))
-  place_more text place x begin old comma new le at so_far behind told =
-      let next : place + 1 - from ≡ place - from + 1 = omega arith in
-      entry_more text (drop from xs) (place - from) x (nat_lt from place) begin old comma new (place_behind place x le at) (is_later place) so_far behind told
-      ∙ ap (λ n. begin ++ joined text (take n (drop from xs))) (sym next)
-
-  -- the same where the entry is looked up
-  pub place_told : (text : X → List ℕ) (place : ℕ) (begin old comma new : List ℕ) → from ≤ place → place < length xs
-      → old ≡ begin ++ joined text (take (place - from) (drop from xs)) → comma ≡ old ++ comma_if (nat_lt from place)
-      → new ≡ comma ++ option_map_or text (slice_get xs place) [] → new ≡ begin ++ joined text (take (place + 1 - from) (drop from xs))
-  place_told text place begin old comma new le within so_far behind told = ⊎_elim
-      (λ here. place_more text place here.0 begin old comma new le here.2 so_far behind (told ∙ ap (λ o. comma ++ option_map_or text o []) here.2))
-      (λ past. let beyond = past.0 in absurd (omega arith))
-      (slice_get_cases xs place).1
-
-pub places_told : {X : Type 0} (text : X → List ℕ) (xs : List X) (span : Span) (end place : ℕ) (cursor : Option (List ℕ)) (written page : List ℕ)
-    → end ≡ min (span.from + span.limit) (length xs) → end ≤ place → (span.from ≤ end → place ≤ end)
-    → cursor ≡ (if nat_lt end (length xs) then Some (decimal end) else None)
-    → written ≡ page_begin cursor ++ joined text (take (place - span.from) (drop span.from xs)) → page ≡ written ++ codes "]}"
+pub places_told : {X : Type 0} (text : X → List ℕ) (xs : List X) (span : Span) (end : ℕ) (cursor : Option (List ℕ)) (written page : List ℕ)
+    → end ≡ min (span.from + span.limit) (length xs) → cursor ≡ (if nat_lt end (length xs) then Some (decimal end) else None)
+    → written ≡ page_begin cursor ++ joined text (take span.limit (drop span.from xs)) → page ≡ written ++ codes "]}"
     → Ok page ≡ places_page text span xs
-places_told text xs span end place cursor written page is behind within next whole ended =
-    let entries = entries_to_end xs span.from span.limit place (omega (arith, is, behind)) (λ le. omega (arith, is, within)) in
+places_told text xs span end cursor written page is next whole ended =
     ap (λ t. Ok t)
-    (page_ended text text (take (place - span.from) (drop span.from xs)) (page_from span.from span.limit xs) cursor (Some (decimal (span.from + span.limit)))
-    written page (ap (map text) entries) (next ∙ next_place xs span.from span.limit end is) whole ended)
+    (page_ended text text (take span.limit (drop span.from xs)) (page_from span.from span.limit xs) cursor (Some (decimal (span.from + span.limit)))
+    written page refl (next ∙ next_place xs span.from span.limit end is) whole ended)
 
 -- ---- documents
 
@@ -259,22 +230,3 @@ pub told_of_head : {A : Type 0} (tell : Submodel → A) (none : A) (o : Option S
 told_of_head tell none o h is =
     let there = head_there o h is in
     ap tell there.2 ∙ ap (λ o. option_map_or (λ s. tell (without_children s)) o none) (sym there.1)
-
--- ---- children of a submodel, of which its head tells
-
-child_texts : (form : ChildForm) (h s : Submodel) → without_children h ≡ without_children s → child_text form h ≡ child_text form s
-child_texts (child.Whole level extent) h s same = refl
-child_texts child.Metadata h s same = refl
-child_texts child.Reference h s same = ap (λ s e. reference_text (child_reference s e)) same
-
-pub children_told : (form : ChildForm) (h : Submodel) (span : Span) (text : List ℕ) (none : Answer) (o : Option Submodel)
-    → Some (without_children h) ≡ option_map without_children o → places_page (child_text form h) span (option_map_or (λ s. s.kids) o []) ≡ Ok text
-    → Ok text ≡ option_map_or (λ s. places_page (child_text form s) span s.kids) o none
-children_told form h span text none None is told = absurd (cc)
-children_told form h span text none (Some s) is told =
-    sym told ∙ ap (λ t. places_page t span s.kids) (child_texts form h s (some_same (without_children h) (without_children s) is))
-
-pub child_in_order : (o : Option Submodel) (n : ℕ) (e : Element) → ((s : Submodel) → o ≡ Some s → submodel_in_order s ≡ true)
-    → Some e ≡ option_and_then (λ s. slice_get s.kids n) o → element_in_order e ≡ true
-child_in_order None n e order is = absurd (cc)
-child_in_order (Some s) n e order is = kids_at s.kids n e (and_parts (head_in_order s.head) (elements_in_order s.kids) (order s refl)).1 (sym is)

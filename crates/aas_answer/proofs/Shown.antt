@@ -90,12 +90,12 @@ last_all w k (e ∷ es) le = ap₂ (λ x xs. x ∷ xs) (shown_last w e k le) (la
 Whole : Show → Element → Type 0
 Whole w e = (k : ℕ) → 30 < w.cut → AreLow (rows e k) → shown w e k ≡ stripped w.blobs e
 
-low_left : (xs ys : List Line) → AreLow (xs ++ ys) → AreLow xs
+pub low_left : (xs ys : List Line) → AreLow (xs ++ ys) → AreLow xs
 low_left [] ys low n r is = absurd (cc)
 low_left (x ∷ xs) ys low Prim.Native.Nat.zero r is = low 0 r is
 low_left (x ∷ xs) ys low (suc n) r is = low_left xs ys (λ n. low (suc n)) n r is
 
-low_right : (xs ys : List Line) → AreLow (xs ++ ys) → AreLow ys
+pub low_right : (xs ys : List Line) → AreLow (xs ++ ys) → AreLow ys
 low_right [] ys low = low
 low_right (x ∷ xs) ys low = low_right xs ys (λ n. low (suc n))
 

@@ -1,21 +1,24 @@
 -- What a store tells of a submodel by its head and its rows.
-use Rattle.std.proofs.Common.{◌≡◌, ◌≤◌, List, [], length, Option, Some, None, refl, sym, ap, ◌∙◌, subst, arith}
-use Rattle.std.specs.Prelude.{MatchOption, option_map}
+use Rattle.std.proofs.Common.{◌≡◌, ℕ, ◌≤◌, List, [], length, Option, Some, None, refl, sym, ap, ◌∙◌, subst, arith}
+use Rattle.std.specs.Prelude.{IfSome, MatchOption, option_map}
 use Rattle.std.specs.FinMap as map
 use Rattle.std.specs.Option.{option_map_or}
 use Rattle.aas_json_mapping.specs.Documents.{spell_submodel}
 use Rattle.serde_json.specs.Written.{compact_text}
+use Rattle.aas_constraint_laws.specs.Values.{without_values}
+use Rattle.aas_form.specs.MetadataForm.{metadata_form}
 use Rattle.aas_model.specs.declared.documents.Submodel.{Submodel}
+use Rattle.aas_model.specs.declared.element.Element.{Element, roll-Element}
 use Rattle.aas_model_names.specs.declared.modifiers.Extent.{Extent}
 use Rattle.aas_model_names.specs.declared.modifiers.Level.{Level}
 use Rattle.aas_pour.specs.Poured.{AreLow}
 use Rattle.aas_pour.specs.Submodels.{shown_submodel}
-use Rattle.aas_rows.specs.Rows.{Line, rows_of_all}
+use Rattle.aas_rows.specs.Rows.{Line, line_at, rows_of_all}
 use Rattle.aas_rows.proofs.Edited.{count_at}
 use Rattle.aas_step.specs.Laws.{ValidIsStorable}
 use Rattle.aas_step.specs.Valid.{AreValid}
 use Rattle.aas_store.specs.Documents.{Documents, Identifier, without_children}
-use Rattle.aas_store.specs.Storable.{IsStorable}
+use Rattle.aas_store.specs.Storable.{IsStorable, element_count}
 use Rattle.aas_answer.specs.Answers.{submodel_shown}
 use Rattle.aas_answer.specs.Shown.{show_at}
 use Rattle.aas_answer.proofs.Low.{rows_are_low}
@@ -36,6 +39,10 @@ storable d id law valid s is = let there = valid.submodels id s is in law s ther
 pub few_lines : (found : Option Submodel) (lines : List Line) → HasValid found → HasLines found lines → length lines ≤ 65536
 few_lines None lines valid has = absurd has
 few_lines (Some s) lines valid has = let few = (valid s refl).few in omega (arith, few, ap length has ∙ count_at s.kids 1)
+
+pub few_elements : (found : Option Submodel) → HasValid found → IfSome found (λ s. element_count s ≤ 65536)
+few_elements None valid = tt
+few_elements (Some s) valid = (valid s refl).few
 
 pub low_lines : (found : Option Submodel) (lines : List Line) → HasValid found → HasLines found lines → AreLow lines
 low_lines None lines valid has = absurd has
@@ -60,3 +67,11 @@ shown_of_lines level extent (Some s) h lines valid has is =
 pub no_head : (found : Option Submodel) → None ≡ option_map without_children found → found ≡ None
 no_head None is = refl
 no_head (Some s) is = absurd (cc)
+
+-- the metadata of an element is told by its row
+metadata_of : Line → Element
+metadata_of r = roll-Element (record { common = r.common; payload = without_values r.payload; role = r.role; kids = [] })
+
+pub same_metadata : (k : ℕ) (a e : Element) → line_at k a ≡ line_at k e → metadata_form a ≡ metadata_form e
+unfolding metadata_of
+same_metadata k a e same = ap metadata_of same

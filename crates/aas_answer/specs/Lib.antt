@@ -1,4 +1,6 @@
 pub mod Answers
+pub mod Children
+pub mod Found
 pub mod Listed
 pub mod Plans
 pub mod Shown

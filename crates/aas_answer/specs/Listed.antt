@@ -38,10 +38,6 @@ child_text (child.Whole level extent) s e = element_shown level extent e
 child_text child.Metadata s e = canonical_text elements (metadata_form e)
 child_text child.Reference s e = reference_text (child_reference s e)
 
--- the children of the submodel of an identifier
-abbrev pub children_of : Documents → Identifier → List Element
-children_of d id = option_map_or (λ s. s.kids) (map.get d.submodels id) []
-
 -- ---- documents
 
 abbrev pub collection_of : DocumentForm → Collection

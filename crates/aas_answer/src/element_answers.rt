@@ -1,46 +1,28 @@
 // The bodies of replies to questions about elements.
-ghost use Rattle.std.specs.Prelude.{◌≡◌, ◌++◌, ◌⊎◌, true, Ok, Err, IfErr, IfOk, OnOk};
+ghost use Rattle.std.specs.Prelude.{◌≡◌, ◌⊎◌, Ok, Err, IfOk, option_map};
 ghost use Rattle.aas_command.specs.declared.refusal.Refusal.TheVariants as refused;
 ghost use Rattle.aas_form.specs.CoreForm.{core_form};
 ghost use Rattle.aas_form.specs.MetadataForm.{metadata_form};
 ghost use Rattle.aas_form.specs.PathsFrom.{element_paths};
 ghost use Rattle.aas_json_mapping.specs.Trees.{elements};
+ghost use Rattle.aas_json_members.specs.Exact.{data_of};
 ghost use Rattle.aas_json_spelling.specs.Spells.{canonical_text};
-ghost use Rattle.aas_json_write.specs.Order.{element_in_order};
-ghost use Rattle.aas_model.specs.declared.element.Element as trees;
 ghost use Rattle.aas_step.specs.Valid.{AreValid};
 ghost use Rattle.aas_value.specs.ValueForm.{value_form};
-ghost use Rattle.aas_answer.specs.Answers.{Answer, element_shown, of_element, paths_text, value_answer};
+ghost use Rattle.aas_answer.specs.Answers.{element_shown, of_element, paths_text, value_answer};
 
-use crate::lost::not_found;
-use crate::texts::{paths_text, value_text};
-use aas_command::{Absent, Refusal};
-use aas_form::{cut_element, forms_can_be_written, metadata, paths_of_element, strip_element};
-use aas_json_write::{whole_trees_are_in_order, write_element};
+use crate::pouring::row_in_memory;
+use crate::stored_elements::{stored_element, stored_rank, stored_row};
+use crate::stored_rows::StoredRows;
+use crate::texts::{element_text, paths_text, value_text};
+use aas_command::Refusal;
+use aas_form::{cut_element, metadata, paths_of_element};
+use aas_json_members::Exact;
 use aas_model::{Element, Extent, Level, Many, NoMemory, Path, Text};
-use aas_store::{Lack, Store};
-use aas_value::value_form;
+use aas_step::valid_submodels_are_storable;
+use aas_store::Store;
+use aas_value::{shows_children, value_form, value_of_parts};
 use std::alloc::Global;
-
-/// A copy of the element to which the path leads in the submodel of the identifier.
-fn stored<S: Store>(alloc: Global, store: &S, id: &Text, path: &Path) -> Result<Element, Refusal>
-    requires { AreValid (S.documents store.now) }
-    ensures found { IfOk result (λ e. (answer : trees.Element → Answer) →
-        of_element (S.documents store.now) id.now path.now.steps answer ≡ answer e) }
-    ensures in_order { IfOk result (λ e. element_in_order e ≡ true) }
-    ensures lost { IfErr result (λ refusal. (refusal ≡ refused.NoMemory) ⊎ ((answer : trees.Element → Answer) →
-        of_element (S.documents store.now) id.now path.now.steps answer ≡ Err refusal)) }
-{
-    whole_trees_are_in_order();
-    match store.element(id.as_str(), path) {
-        Ok(element) => Ok(element),
-        Err(Lack::NoSubmodel) => Err(Refusal::NotFound {
-            what: Absent::Submodel,
-        }),
-        Err(Lack::NoElement(missing)) => Err(not_found(alloc, path, missing)),
-        Err(Lack::NoMemory) => Err(Refusal::NoMemory),
-    }
-}
 
 /// The element, at a level and to an extent.
 pub(crate) fn element_answer<S: Store>(
@@ -55,26 +37,13 @@ pub(crate) fn element_answer<S: Store>(
     ensures { (result ≡ Err refused.NoMemory) ⊎ (result ≡ of_element (S.documents store.now) id.now path.now.steps
         (λ e. Ok (element_shown level extent e))) }
 {
-    let element = stored(alloc, store, id, path)?;
-    let mut text = Vec::new(alloc);
-    append_shown(alloc, element, level, extent, &mut text)?;
-    Ok(Many::from(text))
-}
-
-/// Appends the text of the element, at a level and to an extent.
-pub(crate) fn append_shown(
-    alloc: Global,
-    element: Element,
-    level: Level,
-    extent: Extent,
-    text: &mut Vec<u8>,
-) -> Result<(), NoMemory>
-    requires { element_in_order element ≡ true }
-    ensures { OnOk result (text.new.items ≡ text.old.items ++ element_shown level extent element) }
-{
-    forms_can_be_written();
-    let form = strip_element(cut_element(element, level), extent);
-    write_element(alloc, &form, text)
+    valid_submodels_are_storable();
+    let rank = stored_rank(alloc, store, id, path)?;
+    let Some(table) = store.table(id.as_str()) else {
+        unreachable!()
+    };
+    let rows = StoredRows::<S>::new(table);
+    Ok(row_in_memory(alloc, &rows, rank, level, extent)?)
 }
 
 /// The metadata of the element.
@@ -88,32 +57,17 @@ pub(crate) fn element_metadata_answer<S: Store>(
     ensures { (result ≡ Err refused.NoMemory) ⊎ (result ≡ of_element (S.documents store.now) id.now path.now.steps
         (λ e. Ok (canonical_text elements (metadata_form e)))) }
 {
-    let element = stored(alloc, store, id, path)?;
-    metadata_text(alloc, &element)
+    let row = stored_row(alloc, store, id, path)?;
+    let alone = row.copy(alloc)?;
+    Ok(metadata_text(alloc, &alone)?)
 }
 
 /// The text of the metadata of the element.
-fn metadata_text(alloc: Global, element: &Element) -> Result<Many<u8>, Refusal>
-    requires { element_in_order element.now ≡ true }
-    ensures { (result ≡ Err refused.NoMemory) ⊎ (result ≡ Ok (canonical_text elements (metadata_form element.now))) }
+fn metadata_text(alloc: Global, element: &Element) -> Result<Many<u8>, NoMemory>
+    ensures { IfOk result (λ text. text ≡ canonical_text elements (metadata_form element.now)) }
 {
-    let mut text = Vec::new(alloc);
-    append_metadata(alloc, element, &mut text)?;
-    Ok(Many::from(text))
-}
-
-/// Appends the text of the metadata of the element.
-pub(crate) fn append_metadata(
-    alloc: Global,
-    element: &Element,
-    text: &mut Vec<u8>,
-) -> Result<(), NoMemory>
-    requires { element_in_order element.now ≡ true }
-    ensures { OnOk result (text.new.items ≡ text.old.items ++ canonical_text elements (metadata_form element.now)) }
-{
-    forms_can_be_written();
     let form = metadata(alloc, element)?;
-    write_element(alloc, &form, text)
+    element_text(alloc, &form)
 }
 
 /// The value form of the element, at a level and to an extent.
@@ -129,7 +83,11 @@ pub(crate) fn element_value_answer<S: Store>(
     ensures { (result ≡ Err refused.NoMemory) ⊎ (result ≡ of_element (S.documents store.now) id.now path.now.steps
         (λ e. value_answer (value_form extent (core_form level e)))) }
 {
-    let element = stored(alloc, store, id, path)?;
+    let row = stored_row(alloc, store, id, path)?;
+    if !shows_children(row.payload) {
+        return value_told(alloc, value_of_parts(alloc, row.payload, &[], extent)?);
+    }
+    let element = stored_element(alloc, store, id, path)?;
     value_shown(alloc, element, level, extent)
 }
 
@@ -148,7 +106,14 @@ fn value_shown(
 fn value_of_form(alloc: Global, form: &Element, extent: Extent) -> Result<Many<u8>, Refusal>
     ensures { (result ≡ Err refused.NoMemory) ⊎ (result ≡ value_answer (value_form extent form.now)) }
 {
-    match value_form(alloc, form, extent)? {
+    value_told(alloc, value_form(alloc, form, extent)?)
+}
+
+/// The text of a value form, where there is one.
+fn value_told(alloc: Global, found: Option<Exact>) -> Result<Many<u8>, Refusal>
+    ensures { (result ≡ Err refused.NoMemory) ⊎ (result ≡ value_answer (option_map data_of found)) }
+{
+    match found {
         Some(value) => Ok(value_text(alloc, &value)?),
         None => Err(Refusal::NoValueForm),
     }
@@ -166,7 +131,7 @@ pub(crate) fn element_paths_answer<S: Store>(
     ensures { (result ≡ Err refused.NoMemory) ⊎ (result ≡ of_element (S.documents store.now) id.now path.now.steps
         (λ e. Ok (paths_text (element_paths path.now.steps (core_form level e))))) }
 {
-    let element = stored(alloc, store, id, path)?;
+    let element = stored_element(alloc, store, id, path)?;
     Ok(paths_shown(alloc, element, path, level)?)
 }
 

@@ -15,6 +15,7 @@ mod place_pages;
 mod planning;
 mod plans;
 mod pouring;
+mod stored_elements;
 mod stored_rows;
 mod submodel_answers;
 mod texts;

@@ -1,13 +1,16 @@
 // The texts of pages, but for their entries.
-ghost use Rattle.std.specs.Prelude.{◌≡◌, ◌+◌, ◌++◌, None, Some, codes, decimal, map, min, nat_lt, option_map, if◌then◌else◌, IfOk, OnOk};
+ghost use Rattle.std.specs.Prelude.{◌≡◌, ◌+◌, ◌++◌, None, Some, codes, decimal, map, min, nat_lt, option_map, if◌then◌else◌, IfOk};
 ghost use Rattle.std.specs.List.{last_or};
 ghost use Rattle.std.specs.Str.{encode_utf8_all};
 ghost use Rattle.base64.specs.Engines.{url_safe_no_pad};
 ghost use Rattle.base64.specs.GeneralPurpose.{encode_of};
 ghost use Rattle.serde_json.specs.Written.{comma_if};
+ghost use Rattle.aas_out.specs.Adds.{Adds};
+ghost use Rattle.aas_out.specs.declared.pouring.Pouring.TheVariants.{Going};
 ghost use Rattle.aas_answer.specs.Answers.{cursor_text, page_begin};
 
 use aas_model::{Many, NoMemory};
+use aas_out::{Out, Pouring, TextOut, add};
 use aas_page::{Page, Span, id_to_segment};
 use itoa::Buffer;
 use std::alloc::Global;
@@ -50,44 +53,49 @@ pub(crate) fn place_cursor(
     Ok(Some(Many::from(cursor)))
 }
 
-/// The text of a page up to its first entry, with the cursor of the page behind it.
-pub(crate) fn begin_page(alloc: Global, cursor: &Option<Many<u8>>) -> Result<Vec<u8>, NoMemory>
-    ensures { IfOk result (λ text. text.items ≡ page_begin cursor.now) }
+/// Puts the text of a page up to its first entry, with the cursor of the page behind it.
+pub(crate) fn pour_begin<O: Out>(so_far: Pouring, cursor: &Option<Many<u8>>, out: &mut O) -> Pouring
+    ensures { Adds so_far result (O.told out.old) (O.told out.new) (page_begin cursor.now) }
 {
-    let mut text = Vec::from_slice(alloc, b"{\"paging_metadata\":")?;
-    append_cursor(cursor, &mut text)?;
-    text.extend_from_slice(b",\"result\":[")?;
-    Ok(text)
+    let named = add(so_far, b"{\"paging_metadata\":", out);
+    let paged = pour_cursor(named, cursor, out);
+    add(paged, b",\"result\":[", out)
 }
 
-fn append_cursor(cursor: &Option<Many<u8>>, text: &mut Vec<u8>) -> Result<(), NoMemory>
-    ensures { OnOk result (text.new.items ≡ text.old.items ++ cursor_text cursor.now) }
+fn pour_cursor<O: Out>(so_far: Pouring, cursor: &Option<Many<u8>>, out: &mut O) -> Pouring
+    ensures { Adds so_far result (O.told out.old) (O.told out.new) (cursor_text cursor.now) }
 {
     match cursor {
-        None => text.extend_from_slice(b"{}")?,
+        None => add(so_far, b"{}", out),
         Some(cursor) => {
-            text.extend_from_slice(b"{\"cursor\":\"")?;
-            text.extend_from_slice(cursor.as_slice())?;
-            text.extend_from_slice(b"\"}")?;
+            let named = add(so_far, b"{\"cursor\":\"", out);
+            let told = add(named, cursor.as_slice(), out);
+            add(told, b"\"}", out)
         }
     }
-    Ok(())
 }
 
-/// Appends the comma before an entry that isn't the first.
-pub(crate) fn append_comma(is_later: bool, text: &mut Vec<u8>) -> Result<(), NoMemory>
-    ensures { OnOk result (text.new.items ≡ text.old.items ++ comma_if is_later) }
+/// A comma, before an entry that isn't the first.
+pub(crate) fn comma_of(is_later: bool) -> &'static [u8]
+    ensures { result.now ≡ comma_if is_later }
 {
-    if is_later {
-        text.extend_from_slice(b",")?;
+    if is_later { b"," } else { b"" }
+}
+
+/// The text of a page in memory, whose entries were put.
+pub(crate) fn end_page(told: Pouring, mut out: TextOut) -> Result<Many<u8>, NoMemory>
+    ensures { IfOk result (λ page. (told ≡ Going) × (page ≡ out.text.items ++ codes "]}")) }
+{
+    let ended = add(told, b"]}", &mut out);
+    text_of(ended, out)
+}
+
+/// The text that was poured into memory, if none was refused.
+pub(crate) fn text_of(state: Pouring, out: TextOut) -> Result<Many<u8>, NoMemory>
+    ensures { IfOk result (λ text. (state ≡ Going) × (text ≡ out.text.items)) }
+{
+    match state {
+        Pouring::Going => Ok(Many::from(out.into_text())),
+        Pouring::Stopped => Err(NoMemory),
     }
-    Ok(())
-}
-
-/// The text of a page whose entries stand there.
-pub(crate) fn end_page(mut text: Vec<u8>) -> Result<Many<u8>, NoMemory>
-    ensures { IfOk result (λ page. page ≡ text.items ++ codes "]}") }
-{
-    text.extend_from_slice(b"]}")?;
-    Ok(Many::from(text))
 }

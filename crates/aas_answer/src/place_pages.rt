@@ -1,21 +1,30 @@
 // The bodies of replies to questions about pages of children and of references to submodels, which are listed by their places.
-ghost use Rattle.std.specs.Prelude.{◌≡◌, ◌++◌, ◌⊎◌, [], true, length, slice_get, Ok, Err, IfOk, OnOk};
-ghost use Rattle.std.specs.Option.{option_map_or};
+ghost use Rattle.std.specs.Prelude.{◌≡◌, ◌⊎◌, List, codes, length, Ok, Err, IfOk};
+ghost use Rattle.std.specs.List.{join_by};
 ghost use Rattle.aas_command.specs.declared.refusal.Refusal.TheVariants as refused;
-ghost use Rattle.aas_json_write.specs.Order.{element_in_order};
+ghost use Rattle.aas_model.specs.declared.element.Element.{Element};
+ghost use Rattle.aas_out.specs.Adds.{Adds};
+ghost use Rattle.aas_page.specs.Pages.{page_from};
+ghost use Rattle.aas_pour.specs.Poured.{AreLow, HasRow};
+ghost use Rattle.aas_rows.specs.Rows.{line_at, rows_of_all};
 ghost use Rattle.aas_step.specs.Valid.{AreValid};
 ghost use Rattle.aas_answer.specs.Answers.{of_children, of_shell, places_page, reference_text};
-ghost use Rattle.aas_answer.specs.Listed.{child_text, children_of};
+ghost use Rattle.aas_answer.specs.Children.{IsChildAt};
+ghost use Rattle.aas_answer.specs.Listed.{child_text};
 
-use crate::element_answers::{append_metadata, append_shown};
 use crate::forms::ChildForm;
-use crate::page_text::{append_comma, begin_page, end_of, end_page, place_cursor};
+use crate::page_text::{comma_of, end_of, end_page, place_cursor, pour_begin};
+use crate::pouring::show_at;
+use crate::stored_rows::StoredRows;
 use aas_command::{Absent, Refusal};
-use aas_form::reference_of_child;
-use aas_json_write::whole_trees_are_in_order;
+use aas_form::{metadata, reference_of_child};
+use aas_members_text::{CanonicalMembers, Poured};
 use aas_model::{Element, Many, NoMemory, Reference, Submodel, Text};
+use aas_out::{Out, Pouring, TextOut, add};
 use aas_page::Span;
-use aas_reference::write_reference;
+use aas_pour::{Rows, pour_element, pour_tree};
+use aas_reference::References;
+use aas_step::valid_submodels_are_storable;
 use aas_store::Store;
 use std::alloc::Global;
 
@@ -46,12 +55,24 @@ fn references_page(
 {
     let count = references.len() as u64;
     let end = end_of(span, count);
-    let mut text = begin_page(alloc, &place_cursor(alloc, end, count)?)?;
-    for place in span.from..end {
-        append_comma(place > span.from, &mut text)?;
-        write_reference(alloc, &references[place as usize], &mut text)?;
+    let cursor = place_cursor(alloc, end, count)?;
+    let mut out = TextOut::new(alloc);
+    let begun = pour_begin(Pouring::Going, &cursor, &mut out);
+    let shown = &references[span.from.min(end) as usize..end as usize];
+    let told = pour_references(begun, shown, &mut out);
+    end_page(told, out)
+}
+
+/// Puts the references, with commas between them.
+fn pour_references<O: Out>(so_far: Pouring, references: &[Reference], out: &mut O) -> Pouring
+    ensures { Adds so_far result (O.told out.old) (O.told out.new) (join_by reference_text (codes ",") references.now) }
+{
+    let mut state = so_far;
+    for (place, reference) in references.iter().enumerate() {
+        let comma = add(state, comma_of(place > 0), out);
+        state = References::pour(comma, reference, out);
     }
-    end_page(text)
+    state
 }
 
 /// A page of the submodel's children, with what it tells of each.
@@ -67,76 +88,114 @@ pub(crate) fn children_answer<S: Store>(
         ⊎ (result ≡ of_children (S.documents store.now) id.now span (child_text form)) }
 {
     let id = id.as_str();
-    let (Some(head), Some(count)) = (store.submodel_head(id), store.child_count(id)) else {
+    let (Some(head), Some(count), Some(table)) = (
+        store.submodel_head(id),
+        store.child_count(id),
+        store.table(id),
+    ) else {
         return Err(Refusal::NotFound {
             what: Absent::Submodel,
         });
     };
-    Ok(children_page(alloc, store, id, head, count, span, form)?)
+    valid_submodels_are_storable();
+    let rows = StoredRows::<S>::new(table);
+    Ok(children_page(alloc, &rows, head, count, span, form)?)
 }
 
-/// The page where the submodel of the identifier has so many children.
+/// The page of the children that stand among the rows, so many of a submodel that is `head` but for them.
 fn children_page<S: Store>(
     alloc: Global,
-    store: &S,
-    id: &str,
+    rows: &StoredRows<'_, S>,
     head: &Submodel,
     count: u64,
     span: Span,
     form: ChildForm,
 ) -> Result<Many<u8>, NoMemory>
-    requires valid { AreValid (S.documents store.now) }
-    requires count { count ≡ length (children_of (S.documents store.now) id.now) }
-    ensures { IfOk result (λ text.
-        places_page (child_text form head.now) span (children_of (S.documents store.now) id.now) ≡ Ok text) }
+    requires { AreLow rows.now }
+    ensures { IfOk result (λ text. (kids : List Element) → rows.now ≡ rows_of_all kids 1 → count ≡ length kids →
+        places_page (child_text form head.now) span kids ≡ Ok text) }
 {
-    let end = end_of(span, count);
-    let mut text = begin_page(alloc, &place_cursor(alloc, end, count)?)?;
-    for place in span.from..end {
-        append_comma(place > span.from, &mut text)?;
-        append_child_at(alloc, store, id, place, head, form, &mut text)?;
-    }
-    end_page(text)
+    let cursor = place_cursor(alloc, end_of(span, count), count)?;
+    let mut out = TextOut::new(alloc);
+    let begun = pour_begin(Pouring::Going, &cursor, &mut out);
+    let told = pour_children(alloc, begun, rows, head, span, form, &mut out)?;
+    end_page(told, out)
 }
 
-/// Appends what is told of the child at a place in the submodel of the identifier; nothing where there is none.
-fn append_child_at<S: Store>(
+/// Puts what is told of the children on the page, with commas between them.
+fn pour_children<S: Store, O: Out>(
     alloc: Global,
-    store: &S,
-    id: &str,
-    place: u64,
+    so_far: Pouring,
+    rows: &StoredRows<'_, S>,
     head: &Submodel,
+    span: Span,
     form: ChildForm,
-    text: &mut Vec<u8>,
-) -> Result<(), NoMemory>
-    requires { AreValid (S.documents store.now) }
-    ensures { OnOk result (text.new.items ≡ text.old.items
-        ++ option_map_or (child_text form head.now) (slice_get (children_of (S.documents store.now) id.now) place) []) }
+    out: &mut O,
+) -> Result<Pouring, NoMemory>
+    requires { AreLow rows.now }
+    ensures { IfOk result (λ state. (kids : List Element) → rows.now ≡ rows_of_all kids 1 →
+        Adds so_far state (O.told out.old) (O.told out.new)
+        (join_by (child_text form head.now) (codes ",") (page_from span.from span.limit kids).entries)) }
 {
-    whole_trees_are_in_order();
-    match store.child_at(id, place)? {
-        Some(child) => append_child(alloc, head, child, form, text),
-        None => Ok(()),
+    let Some(first) = rows.child_rank(span.from) else {
+        return Ok(so_far);
+    };
+    let mut state = so_far;
+    let mut at = first;
+    for place in 0..span.limit {
+        let Some(rank) = rows.next_child(at) else {
+            return Ok(state);
+        };
+        let comma = add(state, comma_of(place > 0), out);
+        state = pour_child(alloc, comma, rows, head, rank, form, out)?;
+        at = rank + 1;
     }
+    Ok(state)
 }
 
-/// Appends what is told of a child of the submodel.
-fn append_child(
+/// Puts what is told of the child of the rank.
+fn pour_child<S: Store, O: Out>(
     alloc: Global,
-    submodel: &Submodel,
-    child: Element,
+    so_far: Pouring,
+    rows: &StoredRows<'_, S>,
+    head: &Submodel,
+    rank: u64,
     form: ChildForm,
-    text: &mut Vec<u8>,
-) -> Result<(), NoMemory>
-    requires { element_in_order child ≡ true }
-    ensures { OnOk result (text.new.items ≡ text.old.items ++ child_text form submodel.now child) }
+    out: &mut O,
+) -> Result<Pouring, NoMemory>
+    requires low { AreLow rows.now }
+    requires there { HasRow rows.now rank }
+    ensures { IfOk result (λ state. (e : Element) → IsChildAt rows.now rank e →
+        Adds so_far state (O.told out.old) (O.told out.new) (child_text form head.now e)) }
 {
     match form {
-        ChildForm::Whole { level, extent } => append_shown(alloc, child, level, extent, text),
-        ChildForm::Metadata => append_metadata(alloc, &child, text),
-        ChildForm::Reference => {
-            let reference = reference_of_child(alloc, submodel, &child)?;
-            write_reference(alloc, &reference, text)
+        ChildForm::Whole { level, extent } => {
+            let show = show_at(1, level, extent);
+            Ok(pour_element(so_far, rows, &CanonicalMembers, show, rank, out))
         }
+        ChildForm::Metadata => {
+            let child = copy_alone(alloc, rows, rank)?;
+            Ok(pour_tree(so_far, &metadata(alloc, &child)?, out))
+        }
+        ChildForm::Reference => {
+            let child = copy_alone(alloc, rows, rank)?;
+            let reference = reference_of_child(alloc, head, &child)?;
+            Ok(References::pour(so_far, &reference, out))
+        }
+    }
+}
+
+/// A copy of the child of the rank, without its children.
+fn copy_alone<S: Store>(
+    alloc: Global,
+    rows: &StoredRows<'_, S>,
+    rank: u64,
+) -> Result<Element, NoMemory>
+    requires { HasRow rows.now rank }
+    ensures { IfOk result (λ copied. (e : Element) → IsChildAt rows.now rank e → line_at 1 copied ≡ line_at 1 e) }
+{
+    match rows.row(rank) {
+        Some(row) => row.copy(alloc),
+        None => unreachable!(),
     }
 }

@@ -2,13 +2,13 @@
 ghost use Rattle.std.specs.Prelude.{◌≡◌, ◌^◌, [], codes, is_some, length, nat_lt, slice_get, Some, None, if◌then◌else◌, IfOk};
 ghost use Rattle.std.specs.List.{join_by};
 ghost use Rattle.std.specs.Option.{option_map_or};
-ghost use Rattle.serde_json.specs.Written.{comma_if};
 ghost use Rattle.aas_out.specs.Adds.{Adds};
 ghost use Rattle.aas_out.specs.Told.{Puts};
 ghost use Rattle.aas_step.specs.Valid.{AreValid};
-ghost use Rattle.aas_answer.specs.Answers.{cursor_text, page_begin, page_text};
+ghost use Rattle.aas_answer.specs.Answers.{page_text};
 ghost use Rattle.aas_answer.specs.Plans.{entry_text, plan_text};
 
+use crate::page_text::{comma_of, pour_begin, text_of};
 use crate::pouring::pour_document;
 use aas_model::{Collection, Extent, Level, Many, NoMemory, Text};
 use aas_out::{Failed, Out, Pour, Pouring, TextOut, add, measure};
@@ -96,28 +96,6 @@ fn pour_page<S: Store, O: Out>(so_far: Pouring, store: &S, plan: &Plan, out: &mu
     add(told, b"]}", out)
 }
 
-/// Puts the text of a page up to its first entry, with the cursor of the page behind it.
-fn pour_begin<O: Out>(so_far: Pouring, cursor: &Option<Many<u8>>, out: &mut O) -> Pouring
-    ensures { Adds so_far result (O.told out.old) (O.told out.new) (page_begin cursor.now) }
-{
-    let named = add(so_far, b"{\"paging_metadata\":", out);
-    let paged = pour_cursor(named, cursor, out);
-    add(paged, b",\"result\":[", out)
-}
-
-fn pour_cursor<O: Out>(so_far: Pouring, cursor: &Option<Many<u8>>, out: &mut O) -> Pouring
-    ensures { Adds so_far result (O.told out.old) (O.told out.new) (cursor_text cursor.now) }
-{
-    match cursor {
-        None => add(so_far, b"{}", out),
-        Some(cursor) => {
-            let named = add(so_far, b"{\"cursor\":\"", out);
-            let told = add(named, cursor.as_slice(), out);
-            add(told, b"\"}", out)
-        }
-    }
-}
-
 /// Puts the entries of the page, with commas between them.
 fn pour_entries<S: Store, O: Out>(so_far: Pouring, store: &S, plan: &Plan, out: &mut O) -> Pouring
     requires { AreValid (S.documents store.now) }
@@ -130,13 +108,6 @@ fn pour_entries<S: Store, O: Out>(so_far: Pouring, store: &S, plan: &Plan, out: 
         state = pour_entry(comma, store, plan, id, out);
     }
     state
-}
-
-/// A comma, before an entry that isn't the first.
-fn comma_of(is_later: bool) -> &'static [u8]
-    ensures { result.now ≡ comma_if is_later }
-{
-    if is_later { b"," } else { b"" }
 }
 
 /// The text of a plan over the documents of a store, which are valid.
@@ -195,8 +166,6 @@ pub(crate) fn plan_in_memory<S: Store>(
     ensures { IfOk result (λ text. text ≡ plan_text (S.documents store.now) plan.now) }
 {
     let mut out = TextOut::new(alloc);
-    match pour_plan(store, plan, &mut out) {
-        Ok(()) => Ok(Many::from(out.into_text())),
-        Err(_) => Err(NoMemory),
-    }
+    let state = pour_text(Pouring::Going, store, plan, &mut out);
+    text_of(state, out)
 }

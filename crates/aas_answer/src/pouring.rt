@@ -1,19 +1,22 @@
-// Documents of a store are put into an end.
-ghost use Rattle.std.specs.Prelude.{◌≡◌, []};
+// Documents of a store, and elements of them, are put into an end.
+ghost use Rattle.std.specs.Prelude.{◌≡◌, [], IfOk};
 ghost use Rattle.std.specs.FinMap as map;
 ghost use Rattle.std.specs.Option.{option_map_or};
 ghost use Rattle.aas_out.specs.Adds.{Adds};
+ghost use Rattle.aas_pour.specs.Poured.{AreLow, HasRow};
 ghost use Rattle.aas_step.specs.Valid.{AreValid};
 ghost use Rattle.aas_answer.specs.Answers.{submodel_shown};
-ghost use Rattle.aas_answer.specs.Shown.{document_shown, show_at};
+ghost use Rattle.aas_answer.specs.Shown.{document_shown, row_shown, show_at};
 
+use crate::page_text::text_of;
 use crate::stored_rows::StoredRows;
-use aas_members_text::{Show, pour_concept, pour_shell};
-use aas_model::{Collection, Extent, Level};
-use aas_out::{Out, Pouring};
-use aas_pour::pour_submodel;
+use aas_members_text::{CanonicalMembers, Show, pour_concept, pour_shell};
+use aas_model::{Collection, Extent, Level, Many, NoMemory};
+use aas_out::{Out, Pouring, TextOut};
+use aas_pour::{Rows, pour_element, pour_submodel};
 use aas_step::valid_submodels_are_storable;
 use aas_store::Store;
+use std::alloc::Global;
 
 /// A level at which no element stands, since none stands deeper than level 30.
 const PAST_ALL: u64 = 31;
@@ -82,4 +85,41 @@ fn pour_stored<S: Store, O: Out>(
         },
         None => so_far,
     }
+}
+
+/// Puts the text of the element of a rank among rows, at a level and to an extent.
+pub(crate) fn pour_row<R: Rows, O: Out>(
+    so_far: Pouring,
+    rows: &R,
+    rank: u64,
+    level: Level,
+    extent: Extent,
+    out: &mut O,
+) -> Pouring
+    requires low { AreLow (R.Rows.lines rows.now) }
+    requires there { HasRow (R.Rows.lines rows.now) rank }
+    ensures { Adds so_far result (O.told out.old) (O.told out.new) (row_shown level extent (R.Rows.lines rows.now) rank) }
+{
+    let Some(row) = rows.row(rank) else {
+        unreachable!()
+    };
+    let show = show_at(row.level, level, extent);
+    pour_element(so_far, rows, &CanonicalMembers, show, rank, out)
+}
+
+/// The text of the element of a rank among rows, at a level and to an extent, in memory.
+pub(crate) fn row_in_memory<R: Rows>(
+    alloc: Global,
+    rows: &R,
+    rank: u64,
+    level: Level,
+    extent: Extent,
+) -> Result<Many<u8>, NoMemory>
+    requires low { AreLow (R.Rows.lines rows.now) }
+    requires there { HasRow (R.Rows.lines rows.now) rank }
+    ensures { IfOk result (λ text. text ≡ row_shown level extent (R.Rows.lines rows.now) rank) }
+{
+    let mut out = TextOut::new(alloc);
+    let state = pour_row(Pouring::Going, rows, rank, level, extent, &mut out);
+    text_of(state, out)
 }

@@ -1,5 +1,7 @@
 // The rows of a stored submodel.
-ghost use Rattle.std.specs.Prelude.{◌≡◌, ◌≤◌, length};
+ghost use Rattle.std.specs.Prelude.{◌≡◌, ◌-◌, ◌^◌, ◌<◌, ◌≤◌, length, IfSome};
+ghost use Rattle.aas_rows.specs.Children.{is_at, nth_where};
+ghost use Rattle.aas_answer.specs.Children.{child_from};
 
 use aas_pour::Rows;
 use aas_rows::RowView;
@@ -36,6 +38,28 @@ impl<'a, S: Store> StoredRows<'a, S> {
         ensures { result ≡ S.rows table.now }
     {
         StoredRows { table }
+    }
+
+    /// The rank of the child in the place, counted from 0, or `None` past the last child.
+    pub(crate) fn child_rank(&self, place: u64) -> Option<u64>
+        ensures { result ≡ nth_where (is_at 1) place self.now }
+    {
+        S::child_rank(self.table, place)
+    }
+
+    /// The rank of the first child from a rank on.
+    pub(crate) fn next_child(&self, from: u64) -> Option<u64>
+        ensures first { result ≡ child_from from self.now }
+        ensures within { IfSome result (λ rank. rank < 2 ^ 64 - 1) }
+    {
+        let mut at = from;
+        while let Some(row) = self.row(at) {
+            if row.level == 1 {
+                return Some(at);
+            }
+            at += 1;
+        }
+        None
     }
 }
 

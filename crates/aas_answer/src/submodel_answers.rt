@@ -66,11 +66,7 @@ pub(crate) fn submodel_metadata_answer<S: Store>(
 }
 
 /// Appends the text of the metadata of the submodel, for which its children don't count.
-pub(crate) fn append_metadata(
-    alloc: Global,
-    submodel: &Submodel,
-    text: &mut Vec<u8>,
-) -> Result<(), NoMemory>
+fn append_metadata(alloc: Global, submodel: &Submodel, text: &mut Vec<u8>) -> Result<(), NoMemory>
     requires { HasValidHead submodel.now }
     ensures { OnOk result (text.new.items ≡ text.old.items ++ canonical_text submodels (submodel_metadata submodel.now)) }
 {

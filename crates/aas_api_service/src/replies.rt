@@ -12,7 +12,6 @@ use aas_command::{
     Command, Refusal, concept_text, element_text, reference_text, shell_text, submodel_text,
 };
 use aas_http::Reply;
-use aas_json_write::whole_trees_are_in_order;
 use aas_model::{Many, NoMemory, Text};
 use aas_repo::Done;
 use aas_session::Stop;
@@ -50,7 +49,6 @@ pub(crate) fn success(alloc: Global, command: &Command) -> Result<Reply, NoMemor
             created(alloc, reference_text(alloc, reference)?)
         }
         Command::InsertElement { element, .. } => {
-            whole_trees_are_in_order();
             created(alloc, element_text(alloc, element)?)
         }
         _ => open_reply(alloc, 204, Many::new(alloc)),

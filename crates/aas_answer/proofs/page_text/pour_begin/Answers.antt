@@ -1,7 +1,7 @@
 use Rattle.std.proofs.Common.{◌++◌, codes}
 use Rattle.aas_out.proofs.Adding.{adds_both}
 use Rattle.aas_answer.specs.Answers.{cursor_text}
-use Rattle.aas_answer.proofs.plans.pour_begin.Goals as goal
+use Rattle.aas_answer.proofs.page_text.pour_begin.Goals as goal
 
 pub returns : goal.returns
 returns g c =

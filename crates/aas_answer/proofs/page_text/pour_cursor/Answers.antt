@@ -1,7 +1,7 @@
 use Rattle.std.proofs.Common.{◌++◌, codes, sym, ap, ◌∙◌}
 use Rattle.aas_out.proofs.Adding.{adds_both, adds_same}
 use Rattle.aas_answer.specs.Answers.{cursor_text}
-use Rattle.aas_answer.proofs.plans.pour_cursor.Goals as goal
+use Rattle.aas_answer.proofs.page_text.pour_cursor.Goals as goal
 
 pub returns-in-Some : goal.returns-in-Some
 returns-in-Some g c =

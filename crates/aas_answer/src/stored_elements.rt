@@ -1,0 +1,82 @@
+// The elements of stored submodels, by their paths: their ranks, their rows, and copies of them.
+ghost use Rattle.std.specs.Prelude.{◌≡◌, ◌⊎◌, IfErr, IfOk, Some};
+ghost use Rattle.std.specs.Str.{encode_utf8_all};
+ghost use Rattle.aas_command.specs.declared.refusal.Refusal.TheVariants as refused;
+ghost use Rattle.aas_model.specs.declared.element.Element as trees;
+ghost use Rattle.aas_step.specs.Valid.{AreValid};
+ghost use Rattle.aas_store.specs.Edited.{Holds};
+ghost use Rattle.aas_store.specs.Reads.{IsRowOf};
+ghost use Rattle.aas_store.specs.Spots.{rank_at};
+ghost use Rattle.aas_answer.specs.Found.{IsFound, IsLost, IsRefusalOf};
+
+use crate::lost::not_found;
+use aas_command::{Absent, Refusal};
+use aas_model::{Element, Path, Text};
+use aas_step::valid_submodels_are_storable;
+use aas_store::{Lack, RowView, Store};
+use std::alloc::Global;
+
+/// Why nothing is told of an element.
+fn refusal_of(alloc: Global, path: &Path, lack: Lack) -> Refusal
+    ensures { (result ≡ refused.NoMemory) ⊎ IsRefusalOf path.now.steps lack result }
+{
+    match lack {
+        Lack::NoSubmodel => Refusal::NotFound {
+            what: Absent::Submodel,
+        },
+        Lack::NoElement(missing) => not_found(alloc, path, missing),
+        Lack::NoMemory => Refusal::NoMemory,
+    }
+}
+
+/// The rank of the element to which the path leads in the submodel of the identifier.
+pub(crate) fn stored_rank<S: Store>(
+    alloc: Global,
+    store: &S,
+    id: &Text,
+    path: &Path,
+) -> Result<u64, Refusal>
+    requires { AreValid (S.documents store.now) }
+    ensures found { IfOk result (λ rank. Holds (S.documents store.now) (encode_utf8_all id.now) (λ s. rank_at s path.now.steps ≡ Some rank)) }
+    ensures lost { IfErr result (λ refusal. IsLost (S.documents store.now) id.now path.now.steps refusal) }
+{
+    valid_submodels_are_storable();
+    match store.find(id.as_str(), path) {
+        Ok(rank) => Ok(rank),
+        Err(lack) => Err(refusal_of(alloc, path, lack)),
+    }
+}
+
+/// The row of the element to which the path leads in the submodel of the identifier.
+pub(crate) fn stored_row<'a, S: Store>(
+    alloc: Global,
+    store: &'a S,
+    id: &Text,
+    path: &Path,
+) -> Result<RowView<'a>, Refusal>
+    requires { AreValid (S.documents store.now) }
+    ensures found { IfOk result (λ row. (e : trees.Element) × IsFound (S.documents store.now) id.now path.now.steps e × IsRowOf e row) }
+    ensures lost { IfErr result (λ refusal. IsLost (S.documents store.now) id.now path.now.steps refusal) }
+{
+    valid_submodels_are_storable();
+    match store.row_at(id.as_str(), path) {
+        Ok(row) => Ok(row),
+        Err(lack) => Err(refusal_of(alloc, path, lack)),
+    }
+}
+
+/// A copy of the element to which the path leads in the submodel of the identifier.
+pub(crate) fn stored_element<S: Store>(
+    alloc: Global,
+    store: &S,
+    id: &Text,
+    path: &Path,
+) -> Result<Element, Refusal>
+    ensures found { IfOk result (λ e. IsFound (S.documents store.now) id.now path.now.steps e) }
+    ensures lost { IfErr result (λ refusal. IsLost (S.documents store.now) id.now path.now.steps refusal) }
+{
+    match store.element(id.as_str(), path) {
+        Ok(element) => Ok(element),
+        Err(lack) => Err(refusal_of(alloc, path, lack)),
+    }
+}
