@@ -9,7 +9,7 @@ use Rattle.aas_command.specs.declared.command.Command.TheVariants.{InsertElement
 use Rattle.aas_command.specs.declared.refusal.Absent.TheVariants as absent
 use Rattle.aas_command.specs.declared.refusal.Refusal.TheVariants.{Conflict, NotAContainer, NotFound, StorageFull}
 use Rattle.aas_constraint_laws.specs.Law.{behind}
-use Rattle.aas_constraint_rules.specs.Faults.{broken, fault, faults_at, is_template}
+use Rattle.aas_constraint_rules.specs.Faults.{broken, fault, faults_at}
 use Rattle.aas_constraint_rules.specs.Rules.{agree, first_some, is_repeat, semantics_of}
 use Rattle.aas_constraint_rules.specs.Sites.{Own, Site, own_of, sites, sites_among, stands_in_list, step_to, tree_of, trees, under}
 use Rattle.aas_edit_faults.specs.Laws.{EditsCount, EditsKeepValid, InsertedStandsAlone, IsNewName, faults_as_child}
@@ -18,8 +18,9 @@ use Rattle.aas_edit_laws.proofs.Attributes.{insert_keeps_attributes}
 use Rattle.aas_edit_laws.specs.Laws.{at_level}
 use Rattle.aas_json_mapping.specs.Whole.{is_whole_element}
 use Rattle.aas_lemmas.proofs.Lists.{no_first, no_map, no_second}
+use Rattle.aas_model.specs.declared.common.Common.{Common}
 use Rattle.aas_model.specs.declared.documents.Submodel.{Submodel}
-use Rattle.aas_model.specs.declared.element.Element.{Element, Element-F, out-Element, out-roll-Element}
+use Rattle.aas_model.specs.declared.element.Element.{Element}
 use Rattle.aas_model.specs.declared.element.Role.{Role}
 use Rattle.aas_model.specs.declared.path.Fault.{Fault}
 use Rattle.aas_model.specs.declared.path.Path.{Path}
@@ -29,11 +30,10 @@ use Rattle.aas_path_trees.specs.Children.{id_short_of, with_role}
 use Rattle.aas_path_trees.specs.Edits.{inserted, role_at, role_under_found}
 use Rattle.aas_path_trees.specs.ElementAt.{depth_found, element_at, place_named}
 use Rattle.aas_path_trees.specs.Patched.{kinds}
-use Rattle.aas_reference.specs.Rules.{first}
 use Rattle.aas_step.specs.Causes.{Cause, first_of, insert_causes, is_container, is_named_among, unless, when}
 use Rattle.aas_step.specs.Laws.{ValidIsStorable}
 use Rattle.aas_step.specs.Valid.{AreValid}
-use Rattle.aas_store.specs.Documents.{Documents, without_children}
+use Rattle.aas_store.specs.Documents.{Documents}
 use Rattle.aas_store.specs.Edited.{Holds, with_changed}
 use Rattle.aas_store.specs.Reads as reads
 use Rattle.aas_store.specs.Reads.{IsRowOf, children_at}
@@ -42,7 +42,9 @@ use Rattle.aas_repo.proofs.Accepted as accepted
 use Rattle.aas_repo.proofs.Accepted.{holds_at, holds_then}
 use Rattle.aas_repo.specs.Accepted.{IsAccepted}
 use Rattle.aas_repo.specs.Decisions.{Edits, IsDecision}
-use Rattle.aas_repo.specs.Inserting.{IsAbove, IsInsertable, IsLead, IsNew, role_below}
+use Rattle.aas_repo.proofs.Placed.{common_with_role, none_alone}
+use Rattle.aas_repo.specs.Placing.{IsAbove, IsFaultless, IsInsertable, IsLead, IsNew, IsParent, own_of_parent, role_below}
+use Rattle.aas_repo.specs.declared.placing.Parent.{Parent}
 use Rattle.aas_repo.specs.declared.decision.Decision.TheVariants as decision
 
 -- ---- the place
@@ -74,10 +76,6 @@ in_list d id bytes p a e lead same list is =
 
 -- ---- the faults of a last child
 
-none_first : (fs : List Fault) → None ≡ first fs → fs ≡ []
-none_first [] is = refl
-none_first (f ∷ fs) is = absurd (cc)
-
 under_none : (s : PathStep) (xs : List Site) → flat_map faults_at xs ≡ [] → flat_map faults_at (each (under s) xs ++ []) ≡ []
 under_none s [] none = refl
 under_none s (x ∷ xs) none =
@@ -88,10 +86,6 @@ among_none : (t : Bool) (a : Option Own) (b : List Own) (e : Element) → flat_m
     → flat_map faults_at (sites_among t a b (trees (tree_of e ∷ []))) ≡ []
 unfolding sites sites_among
 among_none t a b e none = under_none _ (sites t a b (tree_of e)) none
-
-no_repeat : (n : Option (List ℕ)) → is_repeat [] n ≡ false
-no_repeat None = refl
-no_repeat (Some n) = refl
 
 new_name : (ks : List Element) (n : Option (List ℕ)) → is_named_among n ks ≡ false → IsNewName ks n
 new_name ks None new = tt
@@ -105,45 +99,22 @@ agrees : (x z : Option Reference) → z ≡ None → agree x z ≡ true
 agrees None z is = refl
 agrees (Some r) z is = ap (agree (Some r)) is
 
--- what a check of the child finds, of which is known what came before it
-abbrev Checked : Bool → Option Own → Element → Option Reference → Type 0
-Checked t a e lead = (b : List Own) → is_repeat b (own_of e).common.id_short ≡ false → lead ≡ first_some (each semantics_of b)
-    → None ≡ first (flat_map faults_at (sites t a b (tree_of e)))
-
-faultless : (s : Submodel) (p : List PathStep) (a : Option Own) (e : Element) (lead : Option Reference) (t : Bool) → InsertedStandsAlone → t ≡ is_template s.kind
-    → IsAbove p a s → IsNew p a e s → IsLead p a e lead s → Checked t a e lead → faults_as_child s p (laws.children_at s p) e ≡ []
-faultless s p a e lead t law template above new lead_is checked =
+none_as_child : (s : Submodel) (p : List PathStep) (x : Parent) (e : Element) (lead : Option Reference) → InsertedStandsAlone → IsParent p x s
+    → IsNew p (own_of_parent x) e s → IsLead p (own_of_parent x) e lead s → IsFaultless x lead e → faults_as_child s p (laws.children_at s p) e ≡ []
+none_as_child s p x e lead law parent new lead_is faultless =
     let ks = laws.children_at s p in
     ⊎_elim
     (λ list.
     let b = each own_of ks in
-    let none = none_first _ (checked b (ap (is_repeat b) (new.unnamed list.0)) (list.1 ∙ ap (λ l. first_some (each semantics_of (each own_of l))) (same_children s p))) in
+    let none = faultless b (ap (is_repeat b) (new.unnamed list.0)) (list.1 ∙ ap (λ l. first_some (each semantics_of (each own_of l))) (same_children s p)) in
     ap (λ (fs : List Fault). each (behind p) fs)
-    (ap₂ (λ (u : Bool) (o : Option Own). flat_map faults_at (sites_among u o b (trees (tree_of e ∷ [])))) (sym template) above.own
-    ∙ among_none t a b e none))
+    (ap₂ (λ (u : Bool) (o : Option Own). flat_map faults_at (sites_among u o b (trees (tree_of e ∷ [])))) (sym parent.template) parent.above.own
+    ∙ among_none x.in_template (own_of_parent x) b e none))
     (λ nothing.
-    let none = none_first _ (checked [] (no_repeat (id_short_of e)) nothing.0) in
     law s p e (new_name ks (id_short_of e) (ap (is_named_among (id_short_of e)) (sym (same_children s p)) ∙ new.others))
-    (λ list. agrees (first_some (each semantics_of (each own_of ks))) (semantics_of (own_of e)) (nothing.1 (ap stands_in_list (sym above.own) ∙ list)))
-    ∙ ap (λ (fs : List Fault). each (behind (p ++ step_to (option_map own_of (element_at s p)) (length ks) (own_of e) ∷ [])) fs)
-    (ap₂ (λ (u : Bool) (o : Option Own). flat_map faults_at (sites u o [] (tree_of e))) (sym template) above.own ∙ none))
+    (λ list. agrees (first_some (each semantics_of (each own_of ks))) (semantics_of (own_of e)) (nothing.1 (ap stands_in_list (sym parent.above.own) ∙ list)))
+    ∙ none_alone s p (step_to (option_map own_of (element_at s p)) (length ks) (own_of e)) x e lead parent faultless nothing.0)
     lead_is
-
-pub is_faultless : (d : Documents) (id bytes : List ℕ) (p : List PathStep) (a : Option Own) (e : Element) (lead : Option Reference) (t : Bool) (head : Submodel)
-    → InsertedStandsAlone → bytes ≡ id
-    → option_map without_children (Some head) ≡ option_map without_children (map.get d.submodels bytes) → t ≡ is_template head.kind
-    → IfSome (map.get d.submodels id) (IsAbove p a) → IfSome (map.get d.submodels id) (IsNew p a e) → IfSome (map.get d.submodels id) (IsLead p a e lead)
-    → Checked t a e lead → Holds d id (λ s. faults_as_child s p (laws.children_at s p) e ≡ [])
-is_faultless d id bytes p a e lead t head law same head_is template above new lead_is checked =
-    by_submodel (map.get d.submodels id) (head_is ∙ ap (λ (i : List ℕ). option_map without_children (map.get d.submodels i)) same) above new lead_is
-  where
-    by_submodel : (found : Option Submodel) → option_map without_children (Some head) ≡ option_map without_children found
-        → IfSome found (IsAbove p a) → IfSome found (IsNew p a e) → IfSome found (IsLead p a e lead)
-        → MatchOption found ⊥ (λ s. faults_as_child s p (laws.children_at s p) e ≡ [])
-    by_submodel None is above new lead_is = absurd (cc)
-    by_submodel (Some s) is above new lead_is =
-        let same_head : without_children head ≡ without_children s = cc in
-        faultless s p a e lead t law (template ∙ ap (λ (x : Submodel). is_template x.kind) same_head) above new lead_is checked
 
 -- ---- the insertion
 
@@ -174,39 +145,38 @@ no_cause s p a e r above new role =
     ∙ no_conflict (is_container s p) (role_cause (role_at s p e) ∷ [])
     ∙ ap (λ (r : Option Role). first_of (role_cause r ∷ [])) role
 
-pub is_insertable : (d : Documents) (id : List ℕ) (p : List PathStep) (a : Option Own) (e child : Element) (r : Role) → EditsKeepValid → EditsCount → AreValid d
-    → is_whole_element (at_level (length p + 1)) e ≡ true → Some r ≡ role_below a e → child ≡ with_role e r
-    → IfSome (map.get d.submodels (encode_utf8_all id)) (IsAbove p a) → IfSome (map.get d.submodels (encode_utf8_all id)) (IsNew p a e)
+-- a child has the name of what it is a copy of, in whatever role
+new_in_role : (s : Submodel) (p : List PathStep) (a : Option Own) (e child : Element) (r : Role) → child ≡ with_role e r → IsNew p a e s → IsNew p a child s
+new_in_role s p a e child r same new =
+    let name : id_short_of child ≡ id_short_of e =
+    ap id_short_of same ∙ ap (λ (c : Common). c.id_short) (common_with_role e r) in
+    record {
+      others = ap (λ n. is_named_among n (children_at s p)) name ∙ new.others;
+      unnamed = λ list. name ∙ new.unnamed list;
+    }
+
+pub is_insertable : (d : Documents) (id : List ℕ) (p : List PathStep) (x : Parent) (e child : Element) (r : Role) (lead : Option Reference)
+    → InsertedStandsAlone → EditsKeepValid → EditsCount → AreValid d
+    → is_whole_element (at_level (length p + 1)) e ≡ true → Some r ≡ role_below (own_of_parent x) e → child ≡ with_role e r
+    → Holds d (encode_utf8_all id) (IsParent p x) → IfSome (map.get d.submodels (encode_utf8_all id)) (IsNew p (own_of_parent x) e)
     → IfSome (map.get d.submodels (encode_utf8_all id)) (λ s. element_count s + length (kinds e) ≤ 65536)
-    → Holds d (encode_utf8_all id) (λ s. faults_as_child s p (laws.children_at s p) child ≡ []) → IsInsertable d id p e
-is_insertable d id p a e child r keep count valid whole role same above new few none = by_submodel (map.get d.submodels (encode_utf8_all id)) refl above new few none
+    → IfSome (map.get d.submodels (encode_utf8_all id)) (IsLead p (own_of_parent x) child lead) → IsFaultless x lead child → IsInsertable d id p e
+is_insertable d id p x e child r lead law keep count valid whole role same parent new few lead_is faultless =
+    by_submodel (map.get d.submodels (encode_utf8_all id)) refl parent new few lead_is
   where
     by_submodel : (found : Option Submodel) → map.get d.submodels (encode_utf8_all id) ≡ found
-        → IfSome found (IsAbove p a) → IfSome found (IsNew p a e) → IfSome found (λ s. element_count s + length (kinds e) ≤ 65536)
-        → MatchOption found ⊥ (λ s. faults_as_child s p (laws.children_at s p) child ≡ []) → MatchOption found ⊥ (IsAccepted (insert_causes p e) (λ s. inserted s p e))
-    by_submodel None is above new few none = absurd none
-    by_submodel (Some s) is above new few none =
-        let role_at_is : role_at s p e ≡ Some r = role_is s p a e above ∙ sym role in record {
-          no_cause = no_cause s p a e r above new role_at_is;
+        → MatchOption found ⊥ (IsParent p x) → IfSome found (IsNew p (own_of_parent x) e) → IfSome found (λ s. element_count s + length (kinds e) ≤ 65536)
+        → IfSome found (IsLead p (own_of_parent x) child lead) → MatchOption found ⊥ (IsAccepted (insert_causes p e) (λ s. inserted s p e))
+    by_submodel None is parent new few lead_is = absurd parent
+    by_submodel (Some s) is parent new few lead_is =
+        let a = own_of_parent x in
+        let role_at_is : role_at s p e ≡ Some r = role_is s p a e parent.above ∙ sym role in
+        let none = none_as_child s p x child lead law parent (new_in_role s p a e child r same new) lead_is faultless in record {
+          no_cause = no_cause s p a e r parent.above new role_at_is;
           valid = keep.inserted s p e r (valid.submodels (encode_utf8_all id) s is).valid role_at_is whole
               (ap (faults_as_child s p (laws.children_at s p)) (sym same) ∙ none);
           few = within _ _ _ (count.inserted s p e r role_at_is) few;
         }
-
--- a child has the name of what it is a copy of, in whatever role
-pub new_in_role : (d : Documents) (id : List ℕ) (p : List PathStep) (a : Option Own) (e child : Element) (r : Role) → child ≡ with_role e r
-    → IfSome (map.get d.submodels id) (IsNew p a e) → IfSome (map.get d.submodels id) (IsNew p a child)
-new_in_role d id p a e child r same new = by_submodel (map.get d.submodels id) new
-  where
-    name : id_short_of child ≡ id_short_of e
-    name = ap id_short_of same ∙ ap (λ (f : Element-F Element). f.common.id_short) (out-roll-Element (record (out-Element e) { role = r }))
-
-    by_submodel : (found : Option Submodel) → IfSome found (IsNew p a e) → IfSome found (IsNew p a child)
-    by_submodel None new = tt
-    by_submodel (Some s) new = record {
-      others = ap (λ n. is_named_among n (children_at s p)) name ∙ new.others;
-      unnamed = λ list. name ∙ new.unnamed list;
-    }
 
 -- ---- in the store
 

@@ -7,7 +7,9 @@ mod Deleted
 mod Edited
 pub mod Imported
 mod Inserted
+mod Placed
 mod Taken
 mod Reached
 mod Referred
+mod Replaced
 mod Updated

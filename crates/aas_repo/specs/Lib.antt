@@ -3,5 +3,5 @@ pub mod Acts
 pub mod Decisions
 pub mod Faulty
 pub mod Held
-pub mod Inserting
 pub mod Patches
+pub mod Placing

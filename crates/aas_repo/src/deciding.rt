@@ -16,10 +16,10 @@ ghost use Rattle.aas_repo.specs.Decisions.{Deletes, IsDecision, Makes, with_asse
 
 use crate::decision::Decision;
 use crate::deleting::delete_element;
-use crate::editing::{Replacement, make_edit};
 use crate::importing::import;
 use crate::inserting::insert_element;
 use crate::references::{add_reference, drop_reference};
+use crate::replacing::replace_element;
 use crate::stored::Stored;
 use crate::updating::update;
 use aas_command::{Absent, Command, Refusal};
@@ -65,13 +65,7 @@ pub(crate) fn decide<S: Store>(
             submodel,
             path,
             element,
-        } => make_edit(
-            alloc,
-            store,
-            submodel,
-            Replacement { path, element },
-            has_room,
-        ),
+        } => replace_element(alloc, store, submodel, path, element, has_room),
         Command::DeleteElement { submodel, path } => {
             delete_element(alloc, store, submodel, path, has_room)
         }

@@ -1,10 +1,10 @@
 use Rattle.std.proofs.Common.{sym, ◌∙◌}
 use Rattle.std.specs.Str.{encode_utf8_all}
-use Rattle.aas_constraints.specs.Walk.{above_of}
 use Rattle.aas_repo.proofs.Inserted.{in_list}
 use Rattle.aas_repo.proofs.inserting.lead_of.Goals as goal
+use Rattle.aas_repo.specs.Placing.{own_of_parent}
 
 pub returns : goal.returns
 returns g c =
-    in_list (g.S.Store.documents c.args.store.now) (encode_utf8_all c.args.id.now) c.as_str.result.now c.args.path.now.steps (above_of c.args.above) c.args.child.now _
-    c.as_str.ensures.bytes (sym c.stands_in_list.ensures ∙ c.if-not-stands_in_list.false) c.first_semantic_id.ensures
+    in_list (g.S.Store.documents c.args.store.now) (encode_utf8_all c.args.id.now) c.as_str.result.now c.args.path.now.steps (own_of_parent c.args.parent.now)
+    c.args.child.now _ c.as_str.ensures.bytes (sym c.is_list.ensures ∙ c.if-not-is_list.false) c.first_semantic_id.ensures

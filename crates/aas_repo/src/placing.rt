@@ -1,0 +1,121 @@
+// Where an element comes in, by an insertion or a replacement: what is above it there, and what refuses it.
+ghost use Rattle.std.specs.Prelude.{◌≡◌, ◌+◌, ◌≤◌, true, length, IfOk, IfSome};
+ghost use Rattle.std.specs.FinMap as map;
+ghost use Rattle.std.specs.Option.{option_copied};
+ghost use Rattle.std.specs.Str.{encode_utf8_all};
+ghost use Rattle.aas_constraint_rules.specs.Faults.{is_template};
+ghost use Rattle.aas_path_trees.specs.Children.{with_role};
+ghost use Rattle.aas_path_trees.specs.Edits.{fits_role};
+ghost use Rattle.aas_path_trees.specs.Patched.{kinds};
+ghost use Rattle.aas_step.specs.Valid.{AreValid};
+ghost use Rattle.aas_store.specs.Edited.{Holds};
+ghost use Rattle.aas_store.specs.Storable.{element_count};
+ghost use Rattle.aas_repo.specs.Placing.{IsFaultless, IsParent};
+
+use crate::count::has_more_below;
+use aas_constraints::check_child;
+use aas_model::{Duplicate, Element, ModellingKind, NoMemory, Path, Reference, Role, Text};
+use aas_store::Store;
+use std::alloc::Global;
+
+/// What an element comes in under, as far as a check of the element asks.
+#[derive(Drop)]
+pub(crate) struct Parent {
+    /// The parent without its children; none where it is the submodel itself.
+    pub(crate) element: Option<Element>,
+    /// Whether the submodel has kind Template.
+    pub(crate) in_template: bool,
+}
+
+/// What the path leads to in the submodel of an identifier, if it leads to anything; the empty path leads to the submodel.
+pub(crate) fn parent_at<S: Store>(
+    alloc: Global,
+    store: &S,
+    id: &Text,
+    path: &Path,
+) -> Result<Option<Parent>, NoMemory>
+    requires { AreValid (S.documents store.now) }
+    ensures { IfOk result (λ parent. IfSome parent (λ x.
+        Holds (S.documents store.now) (encode_utf8_all id.now) (IsParent path.now.steps x))) }
+{
+    let Some(head) = store.submodel_head(id.as_str()) else {
+        return Ok(None);
+    };
+    let in_template = is_template(head.kind);
+    if path.steps.is_empty() {
+        return Ok(Some(Parent {
+            element: None,
+            in_template,
+        }));
+    }
+    match store.row_at(id.as_str(), path) {
+        Ok(row) => {
+            let element = row.copy(alloc)?;
+            Ok(Some(Parent {
+                element: Some(element),
+                in_template,
+            }))
+        }
+        Err(_) => Ok(None),
+    }
+}
+
+/// Whether the element and all below it have no fault below the parent, where `lead` is the first semanticId among the
+/// earlier siblings, none of which has the element's idShort.
+pub(crate) fn is_faultless(
+    alloc: Global,
+    element: &Element,
+    parent: &Parent,
+    lead: Option<&Reference>,
+) -> Result<bool, NoMemory>
+    ensures { IfOk result (λ is. is ≡ true → IsFaultless parent.now (option_copied lead.entry) element.now) }
+{
+    let above = parent.element.as_ref();
+    match check_child(alloc, element, parent.in_template, above, lead)? {
+        Some(_) => Ok(false),
+        None => Ok(true),
+    }
+}
+
+/// Whether the submodel has at most `limit` elements together with the element and all below it.
+pub(crate) fn has_space<S: Store>(store: &S, id: &Text, element: &Element, limit: u32) -> bool
+    requires { AreValid (S.documents store.now) }
+    ensures { result ≡ true → IfSome (map.get (S.documents store.now).submodels (encode_utf8_all id.now))
+        (λ s. element_count s + length (kinds element.now) ≤ limit) }
+{
+    let Some(count) = store.element_count(id.as_str()) else {
+        return false;
+    };
+    if count > u64::from(limit) {
+        return false;
+    }
+    !has_more_below(element, limit - count as u32)
+}
+
+/// A copy of the element in the role.
+pub(crate) fn in_role(element: &Element, role: Role) -> Result<Element, NoMemory>
+    ensures { IfOk result (λ e. e ≡ with_role element.now role) }
+{
+    let mut copy = element.copy()?;
+    copy.role = role;
+    Ok(copy)
+}
+
+/// An annotation is a data element.
+pub(crate) fn fits_role(element: &Element, role: Role) -> bool
+    ensures { result ≡ fits_role element.now role }
+{
+    match role {
+        Role::Annotation => element.payload.kind().is_data_element(),
+        _ => true,
+    }
+}
+
+fn is_template(kind: Option<ModellingKind>) -> bool
+    ensures { result ≡ is_template kind }
+{
+    match kind {
+        Some(kind) => matches!(kind, ModellingKind::Template),
+        None => false,
+    }
+}
