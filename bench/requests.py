@@ -143,6 +143,15 @@ class Elements:
         text = f'{{"id":"{OWNER}","modelType":"Submodel","submodelElements":[{text}]}}'
         return request('POST /submodels', text), reply('201 Created', text)
 
+    def whole(self):
+        _, answer = self.create()
+        return request(f'GET {path_of(OWNER)}'), answer.replace('201 Created', '200 OK', 1)
+
+    def paths(self):
+        """The paths of the elements that stand right below the submodel."""
+        text = ','.join(f'"P{number:x}"' for number in range(self.last + 1))
+        return request(f'GET {path_of(OWNER)}/$path'), reply('200 OK', f'[{text}]')
+
     def get(self, value):
         return request(f'GET {self.target(self.last)}/$value'), reply('200 OK', str(value))
 
@@ -204,10 +213,18 @@ class Pipe:
             sys.exit(difference(b''.join(pieces), wanted))
         return took, self.ran() - ran
 
-    def resident(self):
+    def resident(self, field='VmRSS'):
         """The bytes of memory that the program holds."""
         with open(f'/proc/{self.process.pid}/status', encoding='ascii') as file:
-            return next(int(line.split()[1]) for line in file if line.startswith('VmRSS:')) * 1024
+            return next(int(line.split()[1]) for line in file if line.startswith(f'{field}:')) * 1024
+
+    def peak(self, calls):
+        """The bytes of memory that the program holds at most while it answers, beside what it held before."""
+        before = self.resident()
+        with open(f'/proc/{self.process.pid}/clear_refs', 'w', encoding='ascii') as file:
+            file.write('5')
+        self.exchange(calls)
+        return self.resident('VmHWM') - before
 
     def end(self):
         self.process.stdin.close()
@@ -289,6 +306,23 @@ def stored_property(program):
     return grown / (4 * OWNERS * 1_000)
 
 
+def memory_of_texts(program):
+    """The most memory that long replies take, beside the documents: those that are poured, and for comparison one that is built."""
+    with tempfile.TemporaryDirectory(dir=FOLDER) as folder:
+        pipe = Pipe(program, folder)
+        for numbers in batches(list(range(PAGE))):
+            pipe.exchange([post(number) for number in numbers])
+        listed = pipe.peak(list(pages(PAGE)))
+        pipe.end()
+    with tempfile.TemporaryDirectory(dir=FOLDER) as folder:
+        pipe = Pipe(program, folder)
+        asked = Elements(MOST, 0)
+        pipe.exchange([asked.create()])
+        whole, built = pipe.peak([asked.whole()]), pipe.peak([asked.paths()])
+        pipe.end()
+    return {f'a page of {PAGE} submodels': listed, f'a submodel of {MOST - 1} elements': whole, 'for comparison, its paths': built}
+
+
 def print_elements(program, runs, depth):
     took = {count: [element_run(program, count, depth) for _ in range(runs)] for count in ELEMENTS}
     for name in took[10][0]:
@@ -326,6 +360,9 @@ def main():
         print(f'  grew {growth:.2f} times')
     for depth in DEPTHS:
         print_elements(program, options.runs, depth)
+    print('memory beside the documents, at most')
+    for text, taken in memory_of_texts(program).items():
+        print(f'  {taken / 1_000:8.0f} kB for {text}')
     print('property without a value that is stored')
     print(f'  {stored_property(program):6.0f} bytes of memory')
     sys.exit(0 if good else 1)
