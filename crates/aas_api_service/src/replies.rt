@@ -48,9 +48,7 @@ pub(crate) fn success(alloc: Global, command: &Command) -> Result<Reply, NoMemor
         Command::AddReference { reference, .. } => {
             created(alloc, reference_text(alloc, reference)?)
         }
-        Command::InsertElement { element, .. } => {
-            created(alloc, element_text(alloc, element)?)
-        }
+        Command::InsertElement { element, .. } => { created(alloc, element_text(alloc, element)?) }
         _ => open_reply(alloc, 204, Many::new(alloc)),
     }
 }

@@ -23,7 +23,11 @@ impl Poured for Environments {
 }
 
 /// Puts the canonical text of an environment (IDTA-01001-3-0, class Environment).
-pub fn pour_environment_tree<O: Out>(so_far: Pouring, environment: &Environment, out: &mut O) -> Pouring
+pub fn pour_environment_tree<O: Out>(
+    so_far: Pouring,
+    environment: &Environment,
+    out: &mut O,
+) -> Pouring
     ensures { Adds so_far result (O.told out.old) (O.told out.new) (compact_text (spell_environment environment.now)) }
 {
     let begun = begin_object(so_far, out);
