@@ -1,9 +1,9 @@
 -- What the insertion of an element comes to, where it is accepted by its place.
 use Rattle.std.proofs.Common.{◌≡◌, ⊎_elim, ℕ, ◌+◌, ◌≤◌, Bool, true, false, List, [], ◌∷◌, ◌++◌, length, map as each, flat_map, Option, Some, None, option_and_then, inl, refl, sym, ap, ap₂, ◌∙◌, arith}
 use Rattle.std.proofs.lemmas.Bool.Decides.{nat_tests}
-use Rattle.std.specs.Prelude.{◌&&◌, IfSome, IsSome, MatchOption, is_some, nat_lt, option_map, take}
+use Rattle.std.specs.Prelude.{◌&&◌, IfSome, IsSome, MatchOption, is_some, nat_lt, option_map}
 use Rattle.std.specs.FinMap as map
-use Rattle.std.specs.Option.{option_or}
+use Rattle.std.specs.Option.{option_map_or, option_or}
 use Rattle.std.specs.Str.{encode_utf8_all}
 use Rattle.aas_command.specs.declared.command.Command.TheVariants.{InsertElement}
 use Rattle.aas_command.specs.declared.refusal.Absent.TheVariants as absent
@@ -20,17 +20,17 @@ use Rattle.aas_json_mapping.specs.Whole.{is_whole_element}
 use Rattle.aas_lemmas.proofs.Lists.{no_first, no_map, no_second}
 use Rattle.aas_model.specs.declared.common.Common.{Common}
 use Rattle.aas_model.specs.declared.documents.Submodel.{Submodel}
-use Rattle.aas_model.specs.declared.element.Element.{Element}
+use Rattle.aas_model.specs.declared.element.Element.{Element, out-Element}
 use Rattle.aas_model.specs.declared.element.Role.{Role}
 use Rattle.aas_model.specs.declared.path.Fault.{Fault}
 use Rattle.aas_model.specs.declared.path.Path.{Path}
 use Rattle.aas_model.specs.declared.path.PathStep.{PathStep}
 use Rattle.aas_model.specs.declared.reference.Reference.{Reference}
 use Rattle.aas_path_trees.specs.Children.{id_short_of, with_role}
-use Rattle.aas_path_trees.specs.Edits.{inserted, role_at, role_under_found}
-use Rattle.aas_path_trees.specs.ElementAt.{depth_found, element_at, place_named}
+use Rattle.aas_path_trees.specs.Edits.{if_fits, inserted, role_at, role_under_found, role_within}
+use Rattle.aas_path_trees.specs.ElementAt.{element_at, place_named}
 use Rattle.aas_path_trees.specs.Patched.{kinds}
-use Rattle.aas_step.specs.Causes.{Cause, first_of, insert_causes, is_container, is_named_among, unless, when}
+use Rattle.aas_step.specs.Causes.{Cause, causes, first_of, insert_causes, is_container, is_named_among, unless, when}
 use Rattle.aas_step.specs.Laws.{ValidIsStorable}
 use Rattle.aas_step.specs.Valid.{AreValid}
 use Rattle.aas_store.specs.Documents.{Documents}
@@ -43,7 +43,7 @@ use Rattle.aas_repo.proofs.Accepted.{holds_at, holds_then}
 use Rattle.aas_repo.specs.Accepted.{IsAccepted}
 use Rattle.aas_repo.specs.Decisions.{Edits, IsDecision}
 use Rattle.aas_repo.proofs.Placed.{common_with_role, none_alone}
-use Rattle.aas_repo.specs.Placing.{IsAbove, IsFaultless, IsInsertable, IsLead, IsNew, IsParent, own_of_parent, role_below}
+use Rattle.aas_repo.specs.Placing.{IsAbove, IsFaultless, IsInsertable, IsLead, IsParent, own_of_parent, role_below}
 use Rattle.aas_repo.specs.declared.placing.Parent.{Parent}
 use Rattle.aas_repo.specs.declared.decision.Decision.TheVariants as decision
 
@@ -100,18 +100,18 @@ agrees None z is = refl
 agrees (Some r) z is = ap (agree (Some r)) is
 
 none_as_child : (s : Submodel) (p : List PathStep) (x : Parent) (e : Element) (lead : Option Reference) → InsertedStandsAlone → IsParent p x s
-    → IsNew p (own_of_parent x) e s → IsLead p (own_of_parent x) e lead s → IsFaultless x lead e → faults_as_child s p (laws.children_at s p) e ≡ []
-none_as_child s p x e lead law parent new lead_is faultless =
+    → is_named_among (id_short_of e) (children_at s p) ≡ false → (stands_in_list (own_of_parent x) ≡ true → id_short_of e ≡ None) → IsLead p (own_of_parent x) e lead s → IsFaultless x lead e → faults_as_child s p (laws.children_at s p) e ≡ []
+none_as_child s p x e lead law parent new unnamed lead_is faultless =
     let ks = laws.children_at s p in
     ⊎_elim
     (λ list.
     let b = each own_of ks in
-    let none = faultless b (ap (is_repeat b) (new.unnamed list.0)) (list.1 ∙ ap (λ l. first_some (each semantics_of (each own_of l))) (same_children s p)) in
+    let none = faultless b (ap (is_repeat b) (unnamed list.0)) (list.1 ∙ ap (λ l. first_some (each semantics_of (each own_of l))) (same_children s p)) in
     ap (λ (fs : List Fault). each (behind p) fs)
     (ap₂ (λ (u : Bool) (o : Option Own). flat_map faults_at (sites_among u o b (trees (tree_of e ∷ [])))) (sym parent.template) parent.above.own
     ∙ among_none x.in_template (own_of_parent x) b e none))
     (λ nothing.
-    law s p e (new_name ks (id_short_of e) (ap (is_named_among (id_short_of e)) (sym (same_children s p)) ∙ new.others))
+    law s p e (new_name ks (id_short_of e) (ap (is_named_among (id_short_of e)) (sym (same_children s p)) ∙ new))
     (λ list. agrees (first_some (each semantics_of (each own_of ks))) (semantics_of (own_of e)) (nothing.1 (ap stands_in_list (sym parent.above.own) ∙ list)))
     ∙ none_alone s p (step_to (option_map own_of (element_at s p)) (length ks) (own_of e)) x e lead parent faultless nothing.0)
     lead_is
@@ -130,52 +130,63 @@ role_is s (t ∷ q) a e above = by_found (element_at s (t ∷ q)) above.there ab
 within : (n k m : ℕ) → n ≡ k + m → k + m ≤ 65536 → nat_lt 65536 n ≡ false
 within n k m is few = grind (arith, nat_tests)
 
-no_conflict : (b : Bool) (rest : List Cause) → first_of (when (b && false) Conflict ∷ rest) ≡ first_of rest
-no_conflict true rest = refl
-no_conflict false rest = refl
+takes_children : (s : Submodel) (p : List PathStep) (e : Element) (r : Role) → role_at s p e ≡ Some r → is_container s p ≡ true
+takes_children s [] e r role = refl
+takes_children s (t ∷ q) e r role = by_found (element_at s (t ∷ q)) role
+  where
+    by_role : (o : Option Role) → option_and_then (if_fits e) o ≡ Some r → is_some o ≡ true
+    by_role None is = absurd (cc)
+    by_role (Some k) is = refl
 
-no_cause : (s : Submodel) (p : List PathStep) (a : Option Own) (e : Element) (r : Role) → IsAbove p a s → IsNew p a e s → role_at s p e ≡ Some r
-    → first_of (insert_causes p e s) ≡ None
-no_cause s p a e r above new role =
-    let conflict : Bool → Cause = λ b. when (is_container s p && b) Conflict in
-    let role_cause : Option Role → Cause = λ r. unless (is_some r) NotAContainer in
-    ap (λ (b : Bool). first_of (unless b (NotFound (absent.Element (record { steps = take (depth_found s p) p })))
-    ∷ conflict (is_named_among (id_short_of e) (children_at s p)) ∷ role_cause (role_at s p e) ∷ [])) above.there
-    ∙ ap (λ (b : Bool). first_of (conflict b ∷ role_cause (role_at s p e) ∷ [])) new.others
-    ∙ no_conflict (is_container s p) (role_cause (role_at s p e) ∷ [])
-    ∙ ap (λ (r : Option Role). first_of (role_cause r ∷ [])) role
+    by_found : (found : Option Element) → role_under_found found e ≡ Some r → option_map_or (λ o. is_some (role_within (out-Element o).payload)) found false ≡ true
+    by_found None is = absurd (cc)
+    by_found (Some o) is = by_role (role_within (out-Element o).payload) is
 
--- a child has the name of what it is a copy of, in whatever role
-new_in_role : (s : Submodel) (p : List PathStep) (a : Option Own) (e child : Element) (r : Role) → child ≡ with_role e r → IsNew p a e s → IsNew p a child s
-new_in_role s p a e child r same new =
-    let name : id_short_of child ≡ id_short_of e =
-    ap id_short_of same ∙ ap (λ (c : Common). c.id_short) (common_with_role e r) in
-    record {
-      others = ap (λ n. is_named_among n (children_at s p)) name ∙ new.others;
-      unnamed = λ list. name ∙ new.unnamed list;
-    }
+no_conflict : (x z : Cause) (b named : Bool) → b ≡ true → first_of (x ∷ when (b && named) Conflict ∷ z ∷ []) ≡ None → named ≡ false
+no_conflict (Some r) z b named takes none = absurd (cc)
+no_conflict None z false named takes none = absurd (cc)
+no_conflict None z true true takes none = absurd (cc)
+no_conflict None z true false takes none = refl
 
-pub is_insertable : (d : Documents) (id : List ℕ) (p : List PathStep) (x : Parent) (e child : Element) (r : Role) (lead : Option Reference)
-    → InsertedStandsAlone → EditsKeepValid → EditsCount → AreValid d
-    → is_whole_element (at_level (length p + 1)) e ≡ true → Some r ≡ role_below (own_of_parent x) e → child ≡ with_role e r
-    → Holds d (encode_utf8_all id) (IsParent p x) → IfSome (map.get d.submodels (encode_utf8_all id)) (IsNew p (own_of_parent x) e)
+-- no child has the name of what comes in, in whatever role
+named_as : (e child : Element) (r : Role) → child ≡ with_role e r → id_short_of child ≡ id_short_of e
+named_as e child r same = ap id_short_of same ∙ ap (λ (c : Common). c.id_short) (common_with_role e r)
+
+new_there : (s : Submodel) (p : List PathStep) (e : Element) (r : Role) → role_at s p e ≡ Some r → first_of (insert_causes p e s) ≡ None
+    → is_named_among (id_short_of e) (children_at s p) ≡ false
+new_there s p e r role none = no_conflict _ _ (is_container s p) _ (takes_children s p e r role) none
+
+-- no cause in what is there, in a submodel
+pub clear_in : (d : Documents) (id : List ℕ) (p : Path) (e : Element) → first_of (causes d (InsertElement id p e)) ≡ None → (s : Submodel)
+    → map.get d.submodels (encode_utf8_all id) ≡ Some s → first_of (insert_causes p.steps e s) ≡ None
+clear_in d id p e none s is =
+    sym (ap (λ (o : Option Submodel). first_of (unless (is_some o) (NotFound absent.Submodel) ∷ option_map_or (insert_causes p.steps e) o [])) is) ∙ none
+
+pub is_insertable : (d : Documents) (id : List ℕ) (p : Path) (x : Parent) (e child : Element) (r : Role) (lead : Option Reference)
+    → InsertedStandsAlone → EditsKeepValid → EditsCount → AreValid d → first_of (causes d (InsertElement id p e)) ≡ None
+    → is_whole_element (at_level (length p.steps + 1)) e ≡ true → Some r ≡ role_below (own_of_parent x) e → child ≡ with_role e r
+    → Holds d (encode_utf8_all id) (IsParent p.steps x) → (stands_in_list (own_of_parent x) ≡ true → id_short_of e ≡ None)
     → IfSome (map.get d.submodels (encode_utf8_all id)) (λ s. element_count s + length (kinds e) ≤ 65536)
-    → IfSome (map.get d.submodels (encode_utf8_all id)) (IsLead p (own_of_parent x) child lead) → IsFaultless x lead child → IsInsertable d id p e
-is_insertable d id p x e child r lead law keep count valid whole role same parent new few lead_is faultless =
-    by_submodel (map.get d.submodels (encode_utf8_all id)) refl parent new few lead_is
+    → IfSome (map.get d.submodels (encode_utf8_all id)) (IsLead p.steps (own_of_parent x) child lead) → IsFaultless x lead child → IsInsertable d id p.steps e
+is_insertable d id p x e child r lead law keep count valid clear whole role same parent unnamed few lead_is faultless =
+    by_submodel (map.get d.submodels (encode_utf8_all id)) refl parent few lead_is
   where
     by_submodel : (found : Option Submodel) → map.get d.submodels (encode_utf8_all id) ≡ found
-        → MatchOption found ⊥ (IsParent p x) → IfSome found (IsNew p (own_of_parent x) e) → IfSome found (λ s. element_count s + length (kinds e) ≤ 65536)
-        → IfSome found (IsLead p (own_of_parent x) child lead) → MatchOption found ⊥ (IsAccepted (insert_causes p e) (λ s. inserted s p e))
-    by_submodel None is parent new few lead_is = absurd parent
-    by_submodel (Some s) is parent new few lead_is =
-        let a = own_of_parent x in
-        let role_at_is : role_at s p e ≡ Some r = role_is s p a e parent.above ∙ sym role in
-        let none = none_as_child s p x child lead law parent (new_in_role s p a e child r same new) lead_is faultless in record {
-          no_cause = no_cause s p a e r parent.above new role_at_is;
-          valid = keep.inserted s p e r (valid.submodels (encode_utf8_all id) s is).valid role_at_is whole
-              (ap (faults_as_child s p (laws.children_at s p)) (sym same) ∙ none);
-          few = within _ _ _ (count.inserted s p e r role_at_is) few;
+        → MatchOption found ⊥ (IsParent p.steps x) → IfSome found (λ s. element_count s + length (kinds e) ≤ 65536)
+        → IfSome found (IsLead p.steps (own_of_parent x) child lead) → MatchOption found ⊥ (IsAccepted (insert_causes p.steps e) (λ s. inserted s p.steps e))
+    by_submodel None is parent few lead_is = absurd parent
+    by_submodel (Some s) is parent few lead_is =
+        let role_at_is : role_at s p.steps e ≡ Some r = role_is s p.steps (own_of_parent x) e parent.above ∙ sym role in
+        let none = clear_in d id p e clear s is in
+        let name = named_as e child r same in
+        let faultless_there =
+        none_as_child s p.steps x child lead law parent
+        (ap (λ n. is_named_among n (children_at s p.steps)) name ∙ new_there s p.steps e r role_at_is none)
+        (λ list. name ∙ unnamed list) lead_is faultless in record {
+          no_cause = none;
+          valid = keep.inserted s p.steps e r (valid.submodels (encode_utf8_all id) s is).valid role_at_is whole
+              (ap (faults_as_child s p.steps (laws.children_at s p.steps)) (sym same) ∙ faultless_there);
+          few = within _ _ _ (count.inserted s p.steps e r role_at_is) few;
         }
 
 -- ---- in the store

@@ -1,6 +1,7 @@
 mod Accepted
 mod Acted
 mod Bodies
+mod Caused
 mod Counted
 mod Decided
 mod Deleted

@@ -1,19 +1,19 @@
 -- What is asked of a submodel before an element is inserted, or put in the place of another, at once. This profile's own rule.
-use Rattle.std.specs.Prelude.{◌≡◌, ◌⊎◌, ℕ, true, false, List, [], flat_map, map, MatchOption, Option, Some, None, option_and_then, option_map}
+use Rattle.std.specs.Prelude.{◌≡◌, ◌⊎◌, ℕ, true, false, List, [], ◌∷◌, flat_map, map, MatchOption, Option, Some, None, option_and_then, option_map}
 use Rattle.std.specs.Str.{encode_utf8_all}
 use Rattle.aas_constraint_rules.specs.Faults.{faults_at, is_template}
 use Rattle.aas_constraint_rules.specs.Rules.{first_some, is_repeat, name_of, semantics_of}
 use Rattle.aas_constraint_rules.specs.Sites.{Own, own_of, sites, stands_in_list, tree_of}
 use Rattle.aas_model.specs.declared.documents.Submodel.{Submodel}
-use Rattle.aas_model.specs.declared.element.Element.{Element}
+use Rattle.aas_model.specs.declared.element.Element.{Element, out-Element}
 use Rattle.aas_model.specs.declared.element.Role.{Role}
 use Rattle.aas_model.specs.declared.element.Role.TheVariants.{Member}
 use Rattle.aas_model.specs.declared.path.PathStep.{PathStep}
 use Rattle.aas_model.specs.declared.reference.Reference.{Reference}
-use Rattle.aas_path_trees.specs.Children.{id_short_of, role_of}
+use Rattle.aas_path_trees.specs.Children.{role_of}
 use Rattle.aas_path_trees.specs.Edits.{fits_role, if_fits, inserted, replaced, role_within}
 use Rattle.aas_path_trees.specs.ElementAt.{element_at}
-use Rattle.aas_step.specs.Causes.{insert_causes, is_named_among, leads, replace_causes}
+use Rattle.aas_step.specs.Causes.{insert_causes, leads, replace_causes}
 use Rattle.aas_store.specs.Documents.{Documents}
 use Rattle.aas_store.specs.Edited.{Holds}
 use Rattle.aas_store.specs.Reads.{children_at}
@@ -56,10 +56,15 @@ abbrev pub role_below : Option Own → Element → Option Role
 role_below None e = Some Member
 role_below (Some o) e = option_and_then (if_fits e) (role_within o.payload)
 
--- no child has the idShort of e, and in a list e has none
-pub record IsNew (p : List PathStep) (a : Option Own) (e : Element) (s : Submodel) : Type 0 where
-  pub others : is_named_among (id_short_of e) (children_at s p) ≡ false
-  pub unnamed : stands_in_list a ≡ true → id_short_of e ≡ None
+-- the role of a new child of what a path leads to, if that takes children; the empty path leads to the submodel
+abbrev pub role_of_children : Submodel → List PathStep → Option Role
+role_of_children s [] = Some Member
+role_of_children s (t ∷ p) = option_and_then (λ o. role_within (out-Element o).payload) (element_at s (t ∷ p))
+
+-- a path leads to what gives its children the role r, or to what takes none
+pub record IsTaking (p : List PathStep) (r : Option Role) (s : Submodel) : Type 0 where
+  pub there : leads s p ≡ true
+  pub role : role_of_children s p ≡ r
 
 -- the first semanticId among the children of a list; or none, where that doesn't matter
 abbrev pub IsLead : List PathStep → Option Own → Element → Option Reference → Submodel → Type 0

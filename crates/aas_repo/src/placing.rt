@@ -1,8 +1,10 @@
 // Where an element comes in, by an insertion or a replacement: what is above it there, and what refuses it.
-ghost use Rattle.std.specs.Prelude.{◌≡◌, ◌+◌, ◌≤◌, true, length, IfOk, IfSome};
+ghost use Rattle.std.specs.Prelude.{◌≡◌, ◌+◌, ◌≤◌, true, length, take, IfOk, IfSome};
 ghost use Rattle.std.specs.FinMap as map;
 ghost use Rattle.std.specs.Option.{option_copied};
 ghost use Rattle.std.specs.Str.{encode_utf8_all};
+ghost use Rattle.aas_command.specs.declared.refusal.Absent.TheVariants as absent;
+ghost use Rattle.aas_command.specs.declared.refusal.Refusal.TheVariants.{NotFound};
 ghost use Rattle.aas_constraint_rules.specs.Faults.{is_template};
 ghost use Rattle.aas_path_trees.specs.Children.{with_role};
 ghost use Rattle.aas_path_trees.specs.Edits.{fits_role};
@@ -13,8 +15,12 @@ ghost use Rattle.aas_store.specs.Storable.{element_count};
 ghost use Rattle.aas_repo.specs.Placing.{IsFaultless, IsParent};
 
 use crate::count::has_more_below;
+use aas_answer::not_found;
+use aas_command::Refusal;
 use aas_constraints::check_child;
-use aas_model::{Duplicate, Element, ModellingKind, NoMemory, Path, Reference, Role, Text};
+use aas_model::{
+    Duplicate, Element, Missing, ModellingKind, NoMemory, Path, Reference, Role, Text,
+};
 use aas_store::Store;
 use std::alloc::Global;
 
@@ -57,6 +63,16 @@ pub(crate) fn parent_at<S: Store>(
             }))
         }
         Err(_) => Ok(None),
+    }
+}
+
+/// The refusal of a command on what the path would lead to, where it leads to no element.
+pub(crate) fn lost(alloc: Global, path: &Path, missing: Missing) -> Result<Refusal, NoMemory>
+    ensures { IfOk result (λ refusal. refusal ≡ NotFound (absent.Element (record { steps = take missing.steps path.now.steps }))) }
+{
+    match not_found(alloc, path, missing) {
+        Refusal::NoMemory => Err(NoMemory),
+        refusal => Ok(refusal),
     }
 }
 

@@ -1,14 +1,17 @@
-// The replacement of an element: where nothing at its place refuses the new one, the store takes that at once. Else the way by
-// a copy of the submodel finds out why it is refused.
+// The replacement of an element: what is there may refuse the new one. Where nothing at its place does, the store takes that at
+// once. Else the way by a copy of the submodel finds out which faults it makes.
 ghost use Rattle.std.specs.Prelude.{◌≡◌, ◌≢◌, ◌↔◌, ◌++◌, [], ◌∷◌, true, length, option_map, IfOk, IfSome, IsTrue};
 ghost use Rattle.std.specs.Str.{chars, encode_utf8_all};
 ghost use Rattle.aas_command.specs.Commands.{IsWellFormed};
 ghost use Rattle.aas_command.specs.declared.command.Command.TheVariants.{ReplaceElement};
+ghost use Rattle.aas_command.specs.declared.refusal.Refusal.TheVariants.{NotAContainer};
 ghost use Rattle.aas_edit_laws.specs.Laws.{at_level};
 ghost use Rattle.aas_json_mapping.specs.Trees.{elements};
 ghost use Rattle.aas_model.specs.declared.path.PathStep.{PathStep};
 ghost use Rattle.aas_path_trees.specs.Children.{id_short_of};
+ghost use Rattle.aas_path_trees.specs.Edits.{fits_role};
 ghost use Rattle.aas_rows.specs.Views.{line_of};
+ghost use Rattle.aas_step.specs.Causes.{causes, first_of, unless};
 ghost use Rattle.aas_step.specs.Valid.{AreValid};
 ghost use Rattle.aas_store.specs.Edited.{Holds};
 ghost use Rattle.aas_store.specs.Reads.{semantic_id_of};
@@ -18,19 +21,73 @@ ghost use Rattle.aas_repo.specs.Placing.{IsAlikeAt, IsReplaceable};
 use crate::count::ELEMENT_LIMIT;
 use crate::decision::Decision;
 use crate::editing::{Replacement, make_edit};
-use crate::placing::{fits_role, has_space, in_role, is_faultless, parent_at};
-use aas_command::Refusal;
+use crate::placing::{fits_role, has_space, in_role, is_faultless, lost, parent_at};
+use aas_command::{Absent, Refusal};
 use aas_edit_faults::{edits_count, edits_keep_valid, replacing_elements_have_the_faults};
 use aas_model::{Duplicate, Element, NoMemory, Path, Reference, Role, Text, same_text};
 use aas_reference::equal;
 use aas_rows::RowView;
 use aas_step::valid_submodels_are_storable;
-use aas_store::Store;
+use aas_store::{Lack, Store};
 use std::alloc::Global;
 
 /// Puts the element in the place of the one at the path in the submodel of an identifier, or refuses the command.
 #[tactic(auto, unfolding(aas_command::specs::Commands::IsWellFormed))]
 pub(crate) fn replace_element<S: Store>(
+    alloc: Global,
+    store: &mut S,
+    id: Text,
+    path: Path,
+    element: Element,
+    has_room: bool,
+) -> Decision
+    requires valid { AreValid (S.documents store.old) }
+    requires well_formed { IsWellFormed (ReplaceElement id path element) }
+    ensures { IsDecision has_room (S.documents store.old) (ReplaceElement id path element) (S.documents store.new) result }
+{
+    match cause_in_place(alloc, store, &id, &path, &element) {
+        Ok(Some(refusal)) => Decision::Refused(refusal),
+        Ok(None) => replace_there(alloc, store, id, path, element, has_room),
+        Err(NoMemory) => Decision::NoMemory,
+    }
+}
+
+/// The first cause in what is there that refuses the replacement, if one does.
+fn cause_in_place<S: Store>(
+    alloc: Global,
+    store: &S,
+    id: &Text,
+    path: &Path,
+    element: &Element,
+) -> Result<Option<Refusal>, NoMemory>
+    requires valid { AreValid (S.documents store.now) }
+    requires steps { path.now.steps ≢ [] }
+    ensures { IfOk result (λ cause. cause ≡ first_of (causes (S.documents store.now) (ReplaceElement id.now path.now element.now))) }
+{
+    match store.row_at(id.as_str(), path) {
+        Ok(row) => Ok(cause_of_role(element, row.role)),
+        Err(Lack::NoSubmodel) => Ok(Some(Refusal::NotFound {
+            what: Absent::Submodel,
+        })),
+        Err(Lack::NoElement(missing)) => Ok(Some(lost(alloc, path, missing)?)),
+        Err(Lack::NoMemory) => Err(NoMemory),
+    }
+}
+
+/// That the element doesn't fit the role.
+fn cause_of_role(element: &Element, role: Role) -> Option<Refusal>
+    ensures { result ≡ unless (fits_role element.now role) NotAContainer }
+{
+    if fits_role(element, role) {
+        None
+    } else {
+        Some(Refusal::NotAContainer)
+    }
+}
+
+/// Puts an element that nothing that is there refuses in the place of another, or refuses the command.
+#[tactic(auto, unfolding(aas_command::specs::Commands::IsWellFormed))]
+fn replace_there<S: Store>(
     alloc: Global,
     store: &mut S,
     id: Text,
