@@ -35,6 +35,7 @@ BATCHES = 20
 GROWTH = 2
 # The entries of a page.
 PAGE = 100
+LONGEST_PAGE = 1_000
 # The elements of the one submodel, and how many of each request are sent at once.
 ELEMENTS = {10: 100, 1_000: 20, 65_536: 2}
 # How many collections lie around them.
@@ -101,12 +102,12 @@ def delete(number):
     return request('DELETE ' + path(number)), reply('204 No Content')
 
 
-def page(target, entries, cursor, behind):
+def page(target, entries, cursor, behind, limit=PAGE):
     """The page at the cursor: these entries, and the cursor of the page behind it, if there is one."""
     after = f'&cursor={cursor}' if cursor else ''
     metadata = f'{{"cursor":"{behind}"}}' if behind else '{}'
     text = f'{{"paging_metadata":{metadata},"result":[{",".join(entries)}]}}'
-    return request(f'GET {target}?limit={PAGE}{after}'), reply('200 OK', text)
+    return request(f'GET {target}?limit={limit}{after}'), reply('200 OK', text)
 
 
 def pages(count):
@@ -310,9 +311,10 @@ def memory_of_texts(program):
     """The most memory that long replies take, beside the documents: those that are poured, and for comparison one that is built."""
     with tempfile.TemporaryDirectory(dir=FOLDER) as folder:
         pipe = Pipe(program, folder)
-        for numbers in batches(list(range(PAGE))):
+        for numbers in batches(list(range(LONGEST_PAGE))):
             pipe.exchange([post(number) for number in numbers])
-        listed = pipe.peak(list(pages(PAGE)))
+        entries = [submodel(number) for number in range(LONGEST_PAGE)]
+        listed = pipe.peak([page('/submodels', entries, '', '', LONGEST_PAGE)])
         pipe.end()
     with tempfile.TemporaryDirectory(dir=FOLDER) as folder:
         pipe = Pipe(program, folder)
@@ -320,7 +322,7 @@ def memory_of_texts(program):
         pipe.exchange([asked.create()])
         whole, built = pipe.peak([asked.whole()]), pipe.peak([asked.paths()])
         pipe.end()
-    return {f'a page of {PAGE} submodels': listed, f'a submodel of {MOST - 1} elements': whole, 'for comparison, its paths': built}
+    return {f'a page of {LONGEST_PAGE} submodels': listed, f'a submodel of {MOST - 1} elements': whole, 'its paths, for comparison': built}
 
 
 def print_elements(program, runs, depth):
