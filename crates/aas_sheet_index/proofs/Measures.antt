@@ -1,11 +1,12 @@
 -- Sizes from levels, from the last row to the first.
-use Rattle.std.proofs.Common.{◌≡◌, ℕ, zero, suc, ◌+◌, ◌-◌, ◌<◌, ◌≤◌, Bool, true, false, nat_lt, List, [], ◌∷◌, length, take, drop, get_or, Some, slice_get, slice_index_or, slice_set, refl, subst, sym, ap, ap₂, ◌∙◌, arith, if◌then◌else◌, length-drop}
+use Rattle.std.proofs.Common.{◌≡◌, ℕ, zero, suc, ◌+◌, ◌-◌, ◌<◌, ◌≤◌, Bool, true, false, nat_lt, List, [], ◌∷◌, ◌++◌, length, take, drop, get_or, Some, slice_get, slice_index_or, slice_set, refl, subst, sym, ap, ap₂, ◌∙◌, arith, if◌then◌else◌, length-drop}
 use Rattle.std.proofs.Math.Seq.{drop-cons}
 use Rattle.std.proofs.lemmas.Bool.Decides.{Decides-ltb}
-use Rattle.std.proofs.lemmas.List.{drop_all, take-set, length-set}
+use Rattle.std.proofs.lemmas.List.{drop_all, take-append-drop, take-set, length-set}
+use Rattle.std.proofs.lemmas.List.Elements.{All-cons, All-head, All-tail}
 use Rattle.aas_rows.specs.Rows.{count_deeper, sizes}
 use Rattle.aas_rows.proofs.Trees.{is_lt, not_lt}
-use Rattle.aas_sheet_index.specs.Sides.{levels, sizes_of, measured}
+use Rattle.aas_sheet_index.specs.Sides.{levels, measured, sizes_of, AreMeasured, BeginsMeasured, HaveLevels}
 use Rattle.aas_sheet_index.specs.declared.side.Side.{Side}
 
 -- ---- one size
@@ -129,6 +130,26 @@ measured_sizes (s ∷ ss) = ap (λ ns. (1 + count_deeper s.level (levels ss)) �
 pub known_behind : (ss start : List Side) (n : ℕ) → drop n ss ≡ measured (drop n start) → sizes_of (drop n ss) ≡ sizes (levels (drop n ss))
 known_behind ss start n is = ap sizes_of is ∙ measured_sizes (drop n start) ∙ ap sizes (sym (ap levels is ∙ measured_levels (drop n start)))
 
+pub sized_measured : (ss : List Side) → AreMeasured (measured ss)
+sized_measured ss = measured_sizes ss ∙ ap sizes (sym (measured_levels ss))
+
+pub have_measured : (ss : List Side) → HaveLevels ss → HaveLevels (measured ss)
+have_measured [] deep = deep
+have_measured (s ∷ ss) deep =
+    let P : Side → Type 0 = λ s. 0 < s.level in
+    All-cons P (record s { size = 1 + count_deeper s.level (levels ss) }) (measured ss) (All-head P s ss deep)
+    (have_measured ss (All-tail P s ss deep))
+
+-- sizes depend on what stands behind alone
+pub measured_back : (xs ys : List Side) → AreMeasured (xs ++ ys) → AreMeasured ys
+measured_back [] ys known = known
+measured_back (x ∷ xs) ys known = let rest : AreMeasured (xs ++ ys) = cc in measured_back xs ys rest
+
+drop_measured : (n : ℕ) (ss : List Side) → drop n (measured ss) ≡ measured (drop n ss)
+drop_measured zero ss = refl
+drop_measured (suc n) [] = refl
+drop_measured (suc n) (s ∷ ss) = drop_measured n ss
+
 -- the sides from a place on have their sizes, and those before it are as they were
 pub record Measuring (start ss : List Side) (n : ℕ) : Type 0 where
   pub inside : n ≤ length ss
@@ -171,6 +192,80 @@ measuring_on start ss n m size d next so_far is =
       before = take-set ss m x ∙ shorter m ss start (subst (λ n. take n ss ≡ take n start) next so_far.before);
       behind = measured_one m start ss size d (subst (λ n. take n ss ≡ take n start) next so_far.before) (subst (λ n. drop n ss ≡ measured (drop n start)) next so_far.behind) inside is;
     }
+
+-- ---- where measuring begins and ends
+
+measured_known : (ss : List Side) → AreMeasured ss → measured ss ≡ ss
+measured_known [] known = refl
+measured_known (s ∷ ss) known =
+    let own : s.size ≡ 1 + count_deeper s.level (levels ss) = cc in
+    let rest : AreMeasured ss = cc in
+    ap₂ (λ n xs. record s { size = n } ∷ xs) (sym own) (measured_known ss rest)
+
+pub measuring_begun : (start : List Side) (n : ℕ) → n ≤ length start → AreMeasured (drop n start) → Measuring start start n
+measuring_begun start n le known = record { inside = le; before = refl; behind = sym (measured_known (drop n start) known) }
+
+-- the levels behind a row that stands no deeper count for nothing
+count_same : (n k l : ℕ) (xs ys : List Side) → take (suc n) xs ≡ take (suc n) ys → slice_get (levels ys) n ≡ Some l → l ≤ k
+    → count_deeper k (levels xs) ≡ count_deeper k (levels ys)
+count_same n k l xs [] same is le = absurd (cc)
+count_same n k l [] (y ∷ ys) same is le = absurd (cc)
+count_same zero k l (x ∷ xs) (y ∷ ys) same is le =
+    let own : x ≡ y = cc in
+    let level : y.level ≡ l = cc in
+    let none : nat_lt k y.level ≡ false = not_lt k y.level (omega arith) in
+    ap (λ b. if b then 1 + count_deeper k (levels xs) else 0) (ap (λ (s : Side). nat_lt k s.level) own ∙ none)
+    ∙ sym (ap (λ b. if b then 1 + count_deeper k (levels ys) else 0) none)
+count_same (suc n) k l (x ∷ xs) (y ∷ ys) same is le =
+    let own : x ≡ y = cc in
+    let rest : take (suc n) xs ≡ take (suc n) ys = cc in
+    ap₂ (λ (s : Side) m. if nat_lt k s.level then 1 + m else 0) own (count_same n k l xs ys rest is le)
+
+measured_same : (n : ℕ) (xs ys : List Side) → HaveLevels ys → take (suc n) xs ≡ take (suc n) ys → slice_get (levels ys) n ≡ Some 1
+    → take n (measured xs) ≡ take n (measured ys)
+measured_same zero xs ys deep same is = refl
+measured_same (suc n) xs [] deep same is = absurd (cc)
+measured_same (suc n) [] (y ∷ ys) deep same is = absurd (cc)
+measured_same (suc n) (x ∷ xs) (y ∷ ys) deep same is =
+    let own : x ≡ y = cc in
+    let rest : take (suc n) xs ≡ take (suc n) ys = cc in
+    let P : Side → Type 0 = λ s. 0 < s.level in
+    let high : 0 < y.level = All-head P y ys deep in
+    ap₂ (λ s ss. s ∷ ss)
+    (ap (λ (s : Side). record s { size = 1 + count_deeper s.level (levels xs) }) own
+    ∙ ap (λ m. record y { size = 1 + m }) (count_same n y.level 1 xs ys rest is (omega arith)))
+    (measured_same n xs ys (All-tail P y ys deep) rest is)
+
+take_begun : (m n : ℕ) (xs rest : List Side) → m ≤ n → n ≤ length xs → take m (take n xs ++ rest) ≡ take m xs
+take_begun zero n xs rest le inside = refl
+take_begun (suc m) zero xs rest le inside = absurd (omega arith)
+take_begun (suc m) (suc n) [] rest le inside = absurd (omega arith)
+take_begun (suc m) (suc n) (x ∷ xs) rest le inside = ap (λ xs. x ∷ xs) (take_begun m n xs rest (omega arith) (omega arith))
+
+level_before : (start ss : List Side) (n : ℕ) (d : Side) → take (suc n) ss ≡ take (suc n) start → n < length ss
+    → slice_get (levels start) n ≡ Some (slice_index_or ss n d).level
+level_before start [] n d same lt = absurd (omega arith)
+level_before [] (s ∷ ss) n d same lt = absurd (cc)
+level_before (x ∷ start) (s ∷ ss) zero d same lt = let own : x ≡ s = cc in ap (λ (s : Side). Some s.level) own
+level_before (x ∷ start) (s ∷ ss) (suc n) d same lt =
+    let rest : take (suc n) ss ≡ take (suc n) start = cc in level_before start ss n d rest (omega arith)
+
+-- where a row of level 1 stands before the first that changed, none before it counts what changed
+pub measuring_over : (start ss : List Side) (first n m size : ℕ) (d : Side) → BeginsMeasured (take first start) → HaveLevels start
+    → first ≤ length start → m < first → n ≡ suc m → Measuring start ss n → slice_get (sizes (levels ss)) m ≡ Some size
+    → (slice_index_or ss m d).level ≡ 1 → slice_set ss m (record (slice_index_or ss m d) { size = size }) ≡ measured start
+measuring_over start ss first n m size d begun deep inside lt next so_far is one =
+    let new : List Side = slice_set ss m (record (slice_index_or ss m d) { size = size }) in
+    let on : Measuring start new m = measuring_on start ss n m size d next so_far is in
+    let xs : List Side = take first start ++ begun.rest in
+    let before : take (suc m) ss ≡ take (suc m) start = subst (λ n. take n ss ≡ take n start) next so_far.before in
+    let within : suc m ≤ length ss = subst (λ n. n ≤ length ss) next so_far.inside in
+    let level : slice_get (levels start) m ≡ Some 1 = level_before start ss m d before (omega arith) ∙ ap (λ n. Some n) one in
+    let front : take m new ≡ take m (measured start) =
+    on.before ∙ sym (take_begun m first start begun.rest (omega arith) inside) ∙ ap (take m) (sym (measured_known xs begun.all))
+    ∙ measured_same m xs start deep (take_begun (suc m) first start begun.rest (omega arith) inside) level in
+    sym (take-append-drop m new) ∙ ap₂ (λ xs ys. xs ++ ys) front (on.behind ∙ sym (drop_measured m start))
+    ∙ take-append-drop m (measured start)
 
 pub same_get : (xs : List Side) (n : ℕ) (d e : Side) → n < length xs → get_or xs n d ≡ get_or xs n e
 same_get [] n d e lt = absurd (omega arith)

@@ -315,3 +315,34 @@ module _ (b m t w : List Side) (first end count total : ℕ) (cut : Cut b m t w 
             off_front : (z z' : ℕ) → z < count → Goes first end count total z z' → z' ≡ r → ⊥
             off_front z z' z_in (put a g) e = absurd (omega (arith, a, g, e, l))
             off_front z z' z_in (shifted a g) e = absurd (omega (arith, a, g, e, k, z_in, ordered, cut.at_total, cut.at_count))
+
+-- ---- where nothing moves
+
+pub all_stay : (first end : ℕ) → end ≤ first → (ranks : List ℕ) → filter (stays first end) ranks ≡ ranks
+all_stay first end le [] = refl
+all_stay first end le (r ∷ ranks) =
+    ap (λ b. cond b (r ∷ filter (stays first end) ranks) (filter (stays first end) ranks)) (by (nat_lt r first) refl)
+    ∙ ap (λ rs. r ∷ rs) (all_stay first end le ranks)
+  where
+    by : (b : Bool) → nat_lt r first ≡ b → (b || not (nat_lt r end)) ≡ true
+    by true is = refl
+    by false is = let high = ltb-false r first is in ap not (not_lt r end (omega (arith, high)))
+
+none_moves : (count total r : ℕ) → moved count count count total r ≡ r
+none_moves count total r = by (nat_lt r count)
+  where
+    by : (b : Bool) → (if b then r else if b then r - (count - count) + (total - count) else r - (count - count)) ≡ r
+    by true = refl
+    by false = omega arith
+
+-- sides that come behind all others
+pub all_as_before : (first end count total : ℕ) → first ≤ end → end ≤ count → first ≡ count → (ranks : List ℕ)
+    → renumbered first end count total ranks ≡ ranks
+all_as_before first end count total ordered within last ranks =
+    let also : end ≡ count = omega arith in
+    ap₂ (λ m n. renumbered m n count total ranks) last also
+    ∙ ap (map (moved count count count total)) (all_stay count count (omega arith) ranks) ∙ same ranks
+  where
+    same : (ranks : List ℕ) → map (moved count count count total) ranks ≡ ranks
+    same [] = refl
+    same (r ∷ ranks) = ap₂ (λ r rs. r ∷ rs) (none_moves count total r) (same ranks)

@@ -1,18 +1,18 @@
 -- Sides that come into the place of others, and their index.
-use Rattle.std.proofs.Common.{◌≡◌, ℕ, zero, suc, ◌+◌, ◌-◌, ◌≤◌, ◌^◌, ◌==◌, ◌&&◌, List, [], ◌∷◌, ◌++◌, length, map, take, drop, slice_get, refl, sym, ap, ap₂, ◌∙◌, subst, append_assoc, arith, length-append}
+use Rattle.std.proofs.Common.{◌≡◌, ℕ, zero, suc, ◌+◌, ◌-◌, ◌<◌, ◌≤◌, ◌^◌, ◌==◌, ◌&&◌, List, [], ◌∷◌, ◌++◌, length, map, take, drop, slice_get, refl, sym, ap, ap₂, ◌∙◌, subst, append_assoc, arith, length-append}
 use Rattle.std.specs.List.{filter, remove_range, replace_range}
 use Rattle.std.specs.List.Sorted.{IsPermutation, IsSorted}
 use Rattle.std.specs.Ordering.{is_lt}
 use Rattle.std.proofs.Math.Seq.{take-length}
 use Rattle.std.proofs.lemmas.List.{append-nil, drop_all, map-append}
-use Rattle.std.proofs.lemmas.List.Elements.{filter-append}
+use Rattle.std.proofs.lemmas.List.Elements.{filter-append, All-append, All-drop, All-take}
 use Rattle.std.proofs.lemmas.List.Sorted.{list_any-IsPermutation}
 use Rattle.aas_model_text.specs.Many.{filled}
-use Rattle.aas_sheet_index.specs.Index.{compared, has_name, is_between, key_of, order, Enlarged, IsIndex, IsPart, Listed, Waiting}
+use Rattle.aas_sheet_index.specs.Index.{compared, has_name, is_between, key_of, order, Enlarged, IsColumn, IsIndex, IsPart, Listed, Waiting}
 use Rattle.aas_sheet_index.specs.Moving.{moved, renumbered, stays}
-use Rattle.aas_sheet_index.specs.Sides.{measured}
+use Rattle.aas_sheet_index.specs.Sides.{measured, AreMeasured, BeginsMeasured, HaveLevels}
 use Rattle.aas_sheet_index.specs.declared.side.Side.{Side}
-use Rattle.aas_sheet_index.proofs.Measures.{measured_long}
+use Rattle.aas_sheet_index.proofs.Measures.{have_measured, measured_back, measured_long, sized_measured}
 use Rattle.aas_sheet_index.proofs.Moved.{back_long, back_sorted, front_sorted, listed, Cut}
 use Rattle.aas_sheet_index.proofs.Ordered.{is_less}
 use Rattle.aas_sheet_index.proofs.Ranks.{listed_none}
@@ -109,6 +109,52 @@ module _ (ss : List Side) (first end count : ℕ) (p : Parts ss first end count)
         back_sorted = back_sorted p.front p.old p.rest p.new first end count total cut w.kept w.fresh x y;
         names = subst (Listed ((p.front ++ p.new) ++ p.rest) 0 (length ((p.front ++ p.new) ++ p.rest))) (sym shape) (listed p.front p.old p.rest p.new first end count total cut w.kept w.fresh x y);
       })
+
+  -- the sizes before the new sides, and those behind them, are what they were
+  pub begins : (lent : List Side) → lent ≡ replace_range (take count ss) first end (drop count ss) → AreMeasured (take count ss)
+      → BeginsMeasured (take first lent)
+  begins lent is known =
+      let front : take first lent ≡ p.front =
+      take_seam lent p.front (p.new ++ p.rest) first (is ∙ replaced ∙ append_assoc p.front p.new p.rest) p.at_first in
+      record { rest = p.old ++ p.rest; all = subst AreMeasured (all_old ∙ ap (λ xs. xs ++ (p.old ++ p.rest)) (sym front)) known }
+
+  pub ends : (lent : List Side) (total : ℕ) → lent ≡ replace_range (take count ss) first end (drop count ss) → total ≡ length ss
+      → AreMeasured (take count ss) → AreMeasured (drop (first + (total - count)) lent)
+  ends lent total is all known =
+      let cut = cut_of ss first end count p in
+      let both = length-append p.front p.new in
+      let at_first = p.at_first in
+      let at_total = cut.at_total in
+      let long : length (p.front ++ p.new) ≡ first + (total - count) = omega (arith, both, at_first, at_total, all) in
+      let rest : drop (first + (total - count)) lent ≡ p.rest =
+      drop_seam lent (p.front ++ p.new) p.rest (first + (total - count)) (is ∙ replaced) long in
+      let old : AreMeasured ((p.front ++ p.old) ++ p.rest) = subst AreMeasured (all_old ∙ sym (append_assoc p.front p.old p.rest)) known in
+      subst AreMeasured (sym rest) (measured_back (p.front ++ p.old) p.rest old)
+
+-- ---- levels
+
+levels_replaced : (old more : List Side) (first end : ℕ) → HaveLevels old → HaveLevels more
+    → HaveLevels (replace_range old first end more)
+levels_replaced old more first end deep also =
+    let P : Side → Type 0 = λ s. 0 < s.level in
+    All-append P (take first old ++ more) (drop end old) (All-append P (take first old) more (All-take P first old deep) also)
+    (All-drop P end old deep)
+
+pub levels_spliced : (ss : List Side) (first end count : ℕ) → HaveLevels ss
+    → HaveLevels (replace_range (take count ss) first end (drop count ss))
+levels_spliced ss first end count deep =
+    let P : Side → Type 0 = λ s. 0 < s.level in
+    levels_replaced (take count ss) (drop count ss) first end (All-take P count ss deep) (All-drop P count ss deep)
+
+pub levels_more : (old more all : List Side) → all ≡ old ++ more → HaveLevels old → HaveLevels more → HaveLevels all
+levels_more old more all is deep also = subst HaveLevels (sym is) (All-append (λ (s : Side). 0 < s.level) old more deep also)
+
+pub column : (ss new : List Side) (ranks : List ℕ) → new ≡ measured ss → HaveLevels ss → IsIndex new ranks → IsColumn new ranks
+column ss new ranks is deep index = record {
+  index = index;
+  sized = subst AreMeasured (sym is) (sized_measured ss);
+  levels = subst HaveLevels (sym is) (have_measured ss deep);
+}
 
 -- ---- merged
 

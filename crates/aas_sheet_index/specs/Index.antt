@@ -9,6 +9,7 @@ use Rattle.std.specs.Option.{is_some}
 use Rattle.std.specs.Ordering.{nat_cmp, ordering_then}
 use Rattle.std.specs.Str.{encode_utf8_all}
 use Rattle.std.specs.declared.cmp.Ordering.{Ordering}
+use Rattle.aas_sheet_index.specs.Sides.{AreMeasured, HaveLevels}
 use Rattle.aas_sheet_index.specs.declared.side.Side.{Side}
 
 abbrev pub name_bytes : Option (List ℕ) → List ℕ
@@ -50,6 +51,12 @@ pub record IsPart (ss : List Side) (first : ℕ) (ranks : List ℕ) : Type 0 whe
 pub record IsIndex (ss : List Side) (ranks : List ℕ) : Type 0 where
   pub few : length ss ≤ 2 ^ 31
   pub part : IsPart ss 0 ranks
+
+-- sides that have their sizes, with their index
+pub record IsColumn (ss : List Side) (ranks : List ℕ) : Type 0 where
+  pub index : IsIndex ss ranks
+  pub sized : AreMeasured ss
+  pub levels : HaveLevels ss
 
 -- ranks with those of the sides from first on behind
 pub record Enlarged (ss : List Side) (first : ℕ) (old new : List ℕ) (added : ℕ) : Type 0 where

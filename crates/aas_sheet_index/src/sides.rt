@@ -2,7 +2,7 @@ ghost use Rattle.std.specs.Prelude.{◌≡◌, ◌+◌, ◌-◌, ◌≤◌, ◌+
 ghost use Rattle.std.specs.List.{position, remove_range, replace_range};
 ghost use Rattle.std.specs.Str.{chars};
 ghost use Rattle.aas_sheet_index.specs.Index.{Enlarged, IsIndex, Waiting};
-ghost use Rattle.aas_sheet_index.specs.Sides.{is_named_below, measured};
+ghost use Rattle.aas_sheet_index.specs.Sides.{is_named_below, measured, AreMeasured, HaveLevels};
 
 use crate::listing::{add_ranks, sorted_ranks};
 use crate::measuring::measure;
@@ -53,6 +53,8 @@ fn settle(
     requires few { length sides.old ≤ 2 ^ 32 }
     requires short { length (replace_range (take count sides.old) first end (drop count sides.old)) ≤ 2 ^ 31 }
     requires waiting { Waiting sides.old count ranks.old.items added }
+    requires sized { AreMeasured (take count sides.old) }
+    requires levels { HaveLevels sides.old }
     ensures value { sides.new ≡ measured (replace_range (take count sides.old) first end (drop count sides.old)) }
     ensures index { IsIndex sides.new ranks.new.items }
 {
@@ -61,13 +63,14 @@ fn settle(
     renumber(ranks, first, end, count, total);
     let kept = ranks.len() - added;
     merge(sides.as_slice(), ranks.as_mut_slice(), kept);
-    measure(sides.as_mut_slice());
+    measure(sides.as_mut_slice(), first, first + (total - count));
 }
 
 /// What stands beside the rows of a table, with an index by level and idShort.
 ///
-/// Contracts see it as the list of the sides. A look-up by name compares some 17 idShorts among 65,536, an edit moves 4
-/// bytes for each rank and merges the new ones in.
+/// Contracts see it as the list of the sides. A look-up by name compares some 17 idShorts among 65,536. An edit moves 4
+/// bytes for each rank, or none where sides come behind all others, and merges the new ones in. It measures the new sides
+/// and those before them up to a child of the submodel, and no others.
 #[derive(Drop)]
 pub struct Sides {
     sides: Many<Side>,
@@ -79,7 +82,7 @@ impl Model for Sides {
     ghost use Rattle.std.specs.Prelude.{List};
     ghost use Rattle.aas_sheet_index.specs.contracts.side.Side as side;
     ghost use Rattle.aas_sheet_index.specs.declared.side.Side.{Side};
-    ghost use Rattle.aas_sheet_index.specs.Index.{IsIndex};
+    ghost use Rattle.aas_sheet_index.specs.Index.{IsColumn};
 
     ghost Value = { List Side };
 
@@ -87,18 +90,20 @@ impl Model for Sides {
 
     ghost view = { λ sides. sides.sides };
 
-    ghost invariant = { λ sides. IsIndex sides.sides sides.ranks.items };
+    ghost invariant = { λ sides. IsColumn sides.sides sides.ranks.items };
 }
 
 impl Sides {
     /// These sides, measured.
     pub fn new(sides: Many<Side>) -> Result<Sides, NoMemory>
-        requires { length sides ≤ 2 ^ 31 }
+        requires few { length sides ≤ 2 ^ 31 }
+        requires levels { HaveLevels sides }
         ensures { IfOk result (λ made. made ≡ measured sides) }
     {
         let mut sides = sides;
         let ranks = sorted_ranks(sides.alloc(), sides.as_slice(), 0)?;
-        measure(sides.as_mut_slice());
+        let count = sides.len();
+        measure(sides.as_mut_slice(), 0, count);
         Ok(Sides { sides, ranks })
     }
 
@@ -124,11 +129,12 @@ impl Sides {
         first_named(sides, self.ranks.as_slice(), first, end, level, name)
     }
 
-    /// Puts these sides into the place of those from `first` to `end`, and measures all.
+    /// Puts these sides into the place of those from `first` to `end`. Each has its size then.
     pub fn replace(&mut self, first: usize, end: usize, more: Many<Side>) -> Result<(), NoMemory>
         requires ordered { first ≤ end }
         requires within { end ≤ length self.old }
         requires few { length (replace_range self.old first end more) ≤ 2 ^ 31 }
+        requires levels { HaveLevels more }
         ensures ok { OnOk result (self.new ≡ measured (replace_range self.old first end more)) }
         ensures err { OnErr result (self.new ≡ self.old) }
     {
@@ -138,7 +144,7 @@ impl Sides {
         Ok(())
     }
 
-    /// Takes the sides from `first` to `end` out, and measures the others.
+    /// Takes the sides from `first` to `end` out. Each other has its size then.
     pub fn remove(&mut self, first: usize, end: usize)
         requires ordered { first ≤ end }
         requires within { end ≤ length self.old }

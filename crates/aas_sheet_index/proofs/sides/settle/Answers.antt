@@ -4,9 +4,9 @@ use Rattle.std.specs.List.Sorted.{IsPermutation, IsSorted}
 use Rattle.std.proofs.lemmas.List.Sorted.{length_permutation}
 use Rattle.aas_sheet_index.specs.Index.{order, IsIndex}
 use Rattle.aas_sheet_index.specs.Moving.{renumbered}
-use Rattle.aas_sheet_index.specs.Sides.{measured}
+use Rattle.aas_sheet_index.specs.Sides.{measured, HaveLevels}
 use Rattle.aas_sheet_index.specs.declared.side.Side.{Side}
-use Rattle.aas_sheet_index.proofs.Settled.{fits, measured_in, meeting, merged, renewed}
+use Rattle.aas_sheet_index.proofs.Settled.{begins, ends, fits, levels_spliced, measured_in, meeting, merged, renewed}
 use Rattle.aas_sheet_index.proofs.Spliced.{parts, take_seam}
 use Rattle.aas_sheet_index.proofs.sides.settle.Goals as goal
 
@@ -49,6 +49,26 @@ merge-requires-clause-back c =
     let m = meeting next new a.added kept r (ap (λ (n : ℕ). n - a.added) (c.len.ensures ∙ c.renumber.new.ranks.ok.0)) in
     subst (λ (ss : List Side). IsSorted (order ss) (drop kept c.as_mut_slice.result.now)) (sym (c.as_slice.ensures ∙ c.splice.ensures))
     (subst (λ (xs : List ℕ). IsSorted (order next) (drop kept xs)) (sym c.as_mut_slice.ensures.value) m.back)
+
+pub measure-requires-clause-levels : goal.measure-requires-clause-levels
+measure-requires-clause-levels c =
+    let a = c.args in
+    subst HaveLevels (sym (c.as_mut_slice-2.ensures.value ∙ c.splice.ensures))
+    (levels_spliced a.sides.now a.first a.end a.count c.requires.levels)
+
+pub measure-requires-clause-front : goal.measure-requires-clause-front
+measure-requires-clause-front c =
+    let a = c.args in
+    let p = parts a.sides.now a.first a.end a.count c.requires.ordered c.requires.before c.requires.within in
+    begins a.sides.now a.first a.end a.count p c.as_mut_slice-2.result.now (c.as_mut_slice-2.ensures.value ∙ c.splice.ensures)
+    c.requires.sized
+
+pub measure-requires-clause-back : goal.measure-requires-clause-back
+measure-requires-clause-back c =
+    let a = c.args in
+    let p = parts a.sides.now a.first a.end a.count c.requires.ordered c.requires.before c.requires.within in
+    ends a.sides.now a.first a.end a.count p c.as_mut_slice-2.result.now c.len-total.result
+    (c.as_mut_slice-2.ensures.value ∙ c.splice.ensures) c.len-total.ensures c.requires.sized
 
 pub returns-clause-index : goal.returns-clause-index
 returns-clause-index c =
