@@ -8,7 +8,8 @@ use Rattle.aas_sheet_index.specs.declared.side.Side.{Side}
 use Rattle.aas_sheet_rows.specs.Table.{lines_of}
 use Rattle.aas_sheet_rows.specs.declared.row.Row.{Row}
 use Rattle.aas_sheet_rows.proofs.Columns.{put_lines, put_long}
-use Rattle.aas_sheet_rows.proofs.Made.{sized_measured}
+use Rattle.aas_sheet_index.proofs.Measures.{sized_measured}
+use Rattle.aas_sheet_rows.proofs.Made.{laid_deep}
 use Rattle.aas_sheet_rows.proofs.editing.put_rows.Goals as goal
 
 -- the rows that are laid out are those of the element
@@ -22,6 +23,16 @@ replace-requires-clause-few c =
     let own = laid c.args.element k c.new-elements.result c.push.new.self c.new-more_rows.result c.lay_all.new.rows c.new-more_sides.result c.lay_all.new.sides c.new-elements.ensures c.in_ok-push.ensures.ok c.new-more_rows.ensures
     c.in_ok-lay_all.ensures.lines in
     subst (λ (n : ℕ). n ≤ 2 ^ 31) (sym (put_long c.args.rows.now c.lay_all.new.rows c.args.sides.now c.lay_all.new.sides (rows c.args.element k) c.args.first c.args.end c.requires.long c.in_ok-lay_all.ensures.long own)) c.requires.few
+
+pub replace-requires-clause-levels : goal.replace-requires-clause-levels
+replace-requires-clause-levels c =
+    let e : Element = c.args.element in
+    let k : ℕ = c.args.level in
+    let own =
+    laid e k c.new-elements.result c.push.new.self c.new-more_rows.result c.lay_all.new.rows c.new-more_sides.result c.lay_all.new.sides
+    c.new-elements.ensures c.in_ok-push.ensures.ok c.new-more_rows.ensures c.in_ok-lay_all.ensures.lines in
+    laid_deep (e ∷ []) k c.lay_all.new.rows c.lay_all.new.sides c.requires.high c.in_ok-lay_all.ensures.long
+    (own ∙ sym (append-nil (rows e k)))
 
 pub returns-in-Ok-clause-lines : goal.returns-in-Ok-clause-lines
 returns-in-Ok-clause-lines c =

@@ -4,7 +4,7 @@ use Rattle.aas_rows.specs.Rows.{sizes}
 use Rattle.aas_sheet_index.specs.Sides.{levels, sizes_of}
 use Rattle.aas_sheet_index.specs.declared.side.Side.{Side}
 use Rattle.aas_sheet_rows.proofs.Columns.{removed_lines}
-use Rattle.aas_sheet_rows.proofs.Made.{sized_measured}
+use Rattle.aas_sheet_index.proofs.Measures.{sized_measured}
 use Rattle.aas_sheet_rows.proofs.editing.remove_rows.Goals as goal
 
 pub returns-clause-lines : goal.returns-clause-lines

@@ -5,16 +5,16 @@ use Rattle.aas_rows.specs.Rows.{rows_of_all}
 use Rattle.aas_rows.proofs.Edited.{count_at}
 use Rattle.aas_sheet_index.specs.Sides.{measured}
 use Rattle.aas_sheet_index.specs.declared.side.Side.{Side}
-use Rattle.aas_sheet_index.proofs.Measures.{measured_long}
+use Rattle.aas_sheet_index.proofs.Measures.{measured_long, sized_measured}
 use Rattle.aas_sheet_rows.specs.Table.{lines_of, submodel_of, IsTable}
 use Rattle.aas_sheet_rows.specs.declared.row.Row.{Row}
 use Rattle.aas_sheet_rows.proofs.Edits.{few_enough}
 use Rattle.aas_sheet_rows.proofs.Loans.{lines_long}
-use Rattle.aas_sheet_rows.proofs.Made.{lines_measured, made_submodel, made_table, sized_measured}
+use Rattle.aas_sheet_rows.proofs.Made.{laid_deep, lines_measured, made_submodel, made_table}
 use Rattle.aas_sheet_rows.proofs.sheet.Sheet.from_submodel.Goals as goal
 
-pub new-requires-2 : goal.new-requires-2
-new-requires-2 c =
+pub new-requires-2-clause-few : goal.new-requires-2-clause-few
+new-requires-2-clause-few c =
     let d : Submodel = c.args.submodel in
     let rs : List Row = c.lay_all.new.rows in
     let ss : List Side = c.lay_all.new.sides in
@@ -25,6 +25,16 @@ new-requires-2 c =
     let all : length (lines_of rs ss) ≡ length rs = lines_long rs ss long in
     let few : count d.kids ≤ 65536 = c.requires in
     few_enough (length ss) (omega (arith, many, all, long, few))
+
+pub new-requires-2-clause-levels : goal.new-requires-2-clause-levels
+new-requires-2-clause-levels c =
+    let d : Submodel = c.args.submodel in
+    let rs : List Row = c.lay_all.new.rows in
+    let start : lines_of c.new-rows.result c.new-sides.result ≡ [] =
+    ap (λ (rs : List Row). lines_of rs c.new-sides.result) c.new-rows.ensures in
+    let are : lines_of rs c.lay_all.new.sides ≡ rows_of_all d.kids 1 =
+    c.in_ok-lay_all.ensures.lines ∙ ap₂ (λ xs ks. xs ++ rows_of_all ks 1) start c.replace-kids.ensures.value in
+    laid_deep d.kids 1 rs c.lay_all.new.sides (omega arith) c.in_ok-lay_all.ensures.long are
 
 pub invariant_of-result : goal.invariant_of-result
 invariant_of-result c =
