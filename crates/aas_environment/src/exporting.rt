@@ -6,7 +6,7 @@ ghost use Rattle.aas_outside.specs.Link.{GivesFront};
 ghost use Rattle.aas_environment.specs.Environments.{export_text};
 
 use crate::exported::Export;
-use aas_out::{Failed, Link, give_poured, measure};
+use aas_out::{Failed, Link, PieceBuffer, give_poured, measure};
 use aas_outside::Keeper;
 use aas_repo::Repo;
 use aas_store::Store;
@@ -50,7 +50,7 @@ pub fn export<S: Store, K: Keeper, L: Link>(
     let Some(count) = measure_export(repo) else {
         return Err(ExportFault::TooLong);
     };
-    match give_poured(&Export::new(repo.store()), link) {
+    match give_poured(&Export::new(repo.store()), link, &mut PieceBuffer::new()) {
         Ok(()) => Ok(count),
         Err(Failed) => Err(ExportFault::Failed),
     }

@@ -7,7 +7,7 @@ ghost use Rattle.aas_outside.specs.Faults.{HasCause};
 ghost use Rattle.aas_outside.specs.Link.{GivesFront};
 
 use crate::Reply;
-use aas_out::{Out, Pour, Pouring, add, give_poured};
+use aas_out::{Out, PieceBuffer, Pour, Pouring, add, give_poured};
 use aas_outside::{Failed, Link};
 use itoa::Buffer;
 
@@ -20,7 +20,7 @@ pub fn reply<L: Link>(reply: &Reply, link: &mut L) -> Result<(), Failed>
     ensures left { L.left link.new ≡ L.left link.old }
     ensures cause { HasCause (L.faults link.old) (L.faults link.new) result }
 {
-    give_poured(reply, link)
+    give_poured(reply, link, &mut PieceBuffer::new())
 }
 
 impl Pour for Reply {

@@ -1,5 +1,5 @@
 // The end over a link that gathers what is put.
-ghost use Rattle.std.specs.Prelude.{◌≡◌, ◌++◌, OnOk, if◌then◌else◌};
+ghost use Rattle.std.specs.Prelude.{◌≡◌, [], ◌++◌, OnOk, if◌then◌else◌};
 ghost use Rattle.std.specs.Io.KnownBytes.{append_known};
 ghost use Rattle.aas_outside.specs.Faults.{HasCause};
 ghost use Rattle.aas_out.specs.Told.{Grows};
@@ -8,7 +8,27 @@ use crate::Out;
 use aas_outside::{Failed, Link, give_all};
 use arrayvec::ArrayVec;
 
-/// What is put is given to the link in pieces of some KiB: it is held until there is no room for more.
+/// The most bytes that are held.
+const PIECE_SIZE: usize = 8192;
+
+/// Room for what an end over a link gathers. One serves many ends in turn: what it had before counts for nothing.
+#[derive(Drop)]
+pub struct PieceBuffer {
+    bytes: ArrayVec<u8, PIECE_SIZE>,
+}
+
+impl PieceBuffer {
+    /// Nothing is gathered yet.
+    pub fn new() -> PieceBuffer
+        ensures { result.bytes.items ≡ [] }
+    {
+        PieceBuffer {
+            bytes: ArrayVec::new(),
+        }
+    }
+}
+
+/// What is put is given to the link in pieces of some KiB: it is held in a buffer until there is no room for more.
 ///
 /// What is told is what the link was given, and behind it what is held, so that a put means here what it means at every
 /// end. [`BufferOut::flush`] gives the link what is held: then all that was put is sent. Where the link fails nothing is
@@ -16,7 +36,7 @@ use arrayvec::ArrayVec;
 #[derive(Drop)]
 pub struct BufferOut<'a, L: Link> {
     pub link: &'a mut L,
-    held: ArrayVec<u8, 8192>,
+    held: &'a mut ArrayVec<u8, PIECE_SIZE>,
     /// How many of these bytes the link was given.
     given: usize,
 }
@@ -24,15 +44,16 @@ pub struct BufferOut<'a, L: Link> {
 impl<'a, L: Link> BufferOut<'a, L> {
     ghost use Rattle.aas_out.specs.Held.{held_by, HoldsNothing};
 
-    /// Nothing is held yet.
-    pub fn new(link: &'a mut L) -> BufferOut<'a, L>
+    /// Nothing is held yet: what the buffer had is forgotten.
+    pub fn new(link: &'a mut L, buffer: &'a mut PieceBuffer) -> BufferOut<'a, L>
         ensures same_reference { result.link.ghost_name ≡ link.entry.ghost_name }
         ensures link { result.link.now ≡ link.old }
         ensures empty { HoldsNothing result }
     {
+        buffer.bytes.clear();
         BufferOut {
             link,
-            held: ArrayVec::new(),
+            held: &mut buffer.bytes,
             given: 0,
         }
     }

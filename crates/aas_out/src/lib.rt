@@ -12,7 +12,7 @@ mod text_out;
 mod texts;
 
 pub use aas_outside::{Failed, Link};
-pub use buffered::BufferOut;
+pub use buffered::{BufferOut, PieceBuffer};
 pub use counting::CountOut;
 pub use linked::LinkOut;
 pub use out::Out;

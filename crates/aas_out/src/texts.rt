@@ -5,7 +5,7 @@ ghost use Rattle.aas_outside.specs.Faults.{HasCause};
 ghost use Rattle.aas_outside.specs.Link.{GivesFront};
 ghost use Rattle.aas_out.specs.Told.{Puts};
 
-use crate::{BufferOut, CountOut, Out};
+use crate::{BufferOut, CountOut, Out, PieceBuffer};
 use aas_outside::{Failed, Link};
 
 /// A text that can be put into an end piece by piece.
@@ -26,15 +26,20 @@ pub fn measure<P: Pour>(text: &P) -> Option<u64>
     out.count()
 }
 
-/// Gives a link all of the text, in pieces of some KiB. Where the link fails a front of it was given.
-pub fn give_poured<P: Pour, L: Link>(text: &P, link: &mut L) -> Result<(), Failed>
+/// Gives a link all of the text, in pieces of some KiB that the buffer gathers. Where the link fails a front of it was
+/// given.
+pub fn give_poured<P: Pour, L: Link>(
+    text: &P,
+    link: &mut L,
+    buffer: &mut PieceBuffer,
+) -> Result<(), Failed>
     ensures given { OnOk result (L.sent link.new ≡ append_known (L.sent link.old) (P.text text.now)) }
     ensures front { OnErr result (GivesFront (L.sent link.old) (L.sent link.new) (P.text text.now)) }
     ensures surroundings { L.surroundings link.new ≡ L.surroundings link.old }
     ensures left { L.left link.new ≡ L.left link.old }
     ensures cause { HasCause (L.faults link.old) (L.faults link.new) result }
 {
-    let mut out = BufferOut::new(link);
+    let mut out = BufferOut::new(link, buffer);
     text.pour(&mut out)?;
     out.flush()
 }

@@ -12,7 +12,7 @@ use crate::intake::Intake;
 use crate::machine::{Machine, Stop};
 use crate::refusals::{bad_request, not_implemented, out_of_memory, storage_fault, too_large};
 use aas_http::{Request, Step, is_blank, next_request, whole_length};
-use aas_out::give_poured;
+use aas_out::{PieceBuffer, give_poured};
 use aas_outside::{Failed, Link, give_all};
 
 /// The most requests on a connection.
@@ -64,6 +64,7 @@ pub fn serve_connection<M: Machine, L: Link>(
         Rose (L.faults link.old) (L.faults link.new) }
 {
     intake.clear();
+    let mut buffer = PieceBuffer::new();
     let mut requests = REQUEST_LIMIT;
     'requests: loop {
         match next_request(intake.unread()) {
@@ -82,7 +83,7 @@ pub fn serve_connection<M: Machine, L: Link>(
             Step::NotImplemented => return refuse(link, not_implemented()),
             Step::Request(request, size) => {
                 let close = request.close | (requests == 1);
-                match serve_one(machine, link, &request, close) {
+                match serve_one(machine, link, &mut buffer, &request, close) {
                     Ok(()) => {}
                     Err(ended) => return ended,
                 }
@@ -120,6 +121,7 @@ fn receive_more<L: Link>(intake: &mut Intake, link: &mut L) -> Result<bool, Fail
 fn serve_one<M: Machine, L: Link>(
     machine: &mut M,
     link: &mut L,
+    buffer: &mut PieceBuffer,
     request: &Request,
     close: bool,
 ) -> Result<(), Ended>
@@ -149,7 +151,7 @@ fn serve_one<M: Machine, L: Link>(
                 machine: &*machine,
                 answer: &answer,
             };
-            match give_poured(&given, link) {
+            match give_poured(&given, link, buffer) {
                 Ok(()) => Ok(()),
                 Err(Failed) => Err(Ended::LinkFault),
             }

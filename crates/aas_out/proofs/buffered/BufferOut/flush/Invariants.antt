@@ -15,4 +15,4 @@ invariant-loop-self g l = record {
 }
 
 abbrev pub decreases-loop-self : goal.decreases-loop-self
-decreases-loop-self g l = length l.self.held.items - l.self.given
+decreases-loop-self g l = length l.self.held.now.items - l.self.given
