@@ -96,3 +96,11 @@ cut_none (x ∷ xs) (suc n) = cut_none xs n
 pub nothing_grown : (rs : List Row) (ss : List Side) (end : ℕ) → [] ≡ forest (rows_between rs ss end end)
 unfolding forest
 nothing_grown rs ss end = sym (ap forest (cut_none (lines_of rs ss) end))
+
+-- one row alone grows to its element without children
+pub grown_alone : (rs : List Row) (ss : List Side) (at end : ℕ) (row : Row) (side : Side) (kids : List Element) (x : Element)
+    → length rs ≡ length ss → at < length ss → end ≡ at + 1 → row ≡ get_or rs at row → side ≡ get_or ss at side → kids ≡ []
+    → x ≡ element_of (line_of row side) kids → (side.level, x) ∷ [] ≡ forest (rows_between rs ss at end)
+grown_alone rs ss at end row side kids x long lt stop row_is side_is none is =
+    grow_more rs ss at end row side [] [] [] (record { level = side.level; element = x }) kids long (omega arith) (omega arith) row_is
+    side_is (nothing_grown rs ss end ∙ ap (λ n. forest (rows_between rs ss n end)) stop) none refl refl is

@@ -1,4 +1,5 @@
 -- The whole table as a tree.
+use Rattle.std.proofs.Common.{Bool, true, false, nat_lt}
 use Rattle.std.proofs.Common.{◌≡◌, ℕ, suc, ◌+◌, ◌<◌, List, [], ◌∷◌, ◌++◌, length, map, take, drop, refl, sym, ap, ap₂, ◌∙◌, subst, arith, if◌then◌else◌, ◌-◌, Some, slice_get}
 use Rattle.std.proofs.lemmas.List.{take_all, append-nil}
 use Rattle.aas_model.specs.declared.documents.Submodel.{Submodel}
@@ -63,6 +64,14 @@ taken head rs ss d rank end t view lt size above =
 -- the one tree that is grown
 pub only : (es : List Element) (e x : Element) → es ≡ e ∷ [] → slice_get es 0 ≡ Some x → Some x ≡ Some e
 only es e x is at = sym at ∙ ap (λ es. slice_get es 0) is
+
+-- the one element of a row
+pub only_row : (k : ℕ) (e x : Element) → deeper 0 ((k, x) ∷ []) ≡ e ∷ [] → x ≡ e
+only_row k e x is = by (nat_lt 0 k) is
+  where
+    by : (b : Bool) → (if b then x ∷ [] else []) ≡ e ∷ [] → x ≡ e
+    by true is = cc
+    by false is = absurd (cc)
 
 pub some_grown : (es : List Element) (e : Element) → es ≡ e ∷ [] → es ≡ [] → ⊥
 some_grown es e is none = let same : e ∷ [] ≡ [] = sym is ∙ none in absurd (cc)

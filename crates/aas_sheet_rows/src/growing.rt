@@ -35,7 +35,8 @@ fn adopt(alloc: Global, grown: &mut Many<Tree>, level: u32) -> Result<Many<Eleme
     Ok(kids)
 }
 
-fn element_from(row: &Row, side: &Side, kids: Many<Element>) -> Result<Element, NoMemory>
+/// A copy of a row, and of what stands beside it, as an element with these children.
+pub(crate) fn element_from(row: &Row, side: &Side, kids: Many<Element>) -> Result<Element, NoMemory>
     ensures { IfOk result (λ e. e ≡ element_of (line_of row.now side.now) kids) }
 {
     let mut common = row.common.copy()?;

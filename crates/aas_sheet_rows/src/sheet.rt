@@ -5,7 +5,7 @@ use crate::editing::{put_rows, remove_rows};
 use crate::finding::{
     child_among, count_below, depth_among, find_among, is_list, rank_behind, rank_of_step,
 };
-use crate::growing::grow;
+use crate::growing::{element_from, grow};
 use crate::laying::lay_all;
 use crate::payloads::put_payloads;
 use crate::reading::{below, first_semantic_id};
@@ -104,6 +104,11 @@ impl Sheet {
             return Ok(None);
         }
         let end = rank_behind(rows, sides, rank);
+        if end == rank + 1 {
+            let kids = Many::new(self.rows.alloc());
+            let element = element_from(rows[rank].get(), &sides[rank], kids)?;
+            return Ok(Some(element));
+        }
         let mut grown = grow(self.rows.alloc(), rows, sides, rank, end)?;
         if grown.is_empty() {
             return Ok(None);

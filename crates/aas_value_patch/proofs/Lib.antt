@@ -13,3 +13,4 @@ pub mod Children
 pub mod Walk
 pub mod Updated
 pub mod Faultless
+pub mod Leaf

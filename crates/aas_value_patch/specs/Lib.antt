@@ -4,4 +4,5 @@ pub mod Gathered
 pub mod Prepared
 pub mod Sent
 pub mod Steps
+pub mod Swapped
 pub mod Takes
