@@ -1,5 +1,5 @@
 // Which resource a path names.
-ghost use Rattle.std.specs.Prelude.{◌≡◌, ◌<◌, ◌∷◌, [], map, option_map, IfSome, IfNone, length};
+ghost use Rattle.std.specs.Prelude.{◌≡◌, ◌<◌, ◌∷◌, [], is_some, map, option_map, IfSome, IfNone, IsSome, Some, length};
 ghost use Rattle.std.specs.Option.{option_map_or};
 ghost use Rattle.form_urlencoded.specs.Form.{split};
 ghost use Rattle.aas_target.specs.Routes.{first_with, first_within_shell, path_in, query_in, resource_at, resource_with, texts_of};
@@ -131,11 +131,12 @@ fn first_with<'a>(resources: &[Resource], texts: &[&'a [u8]]) -> Option<Found<'a
     ensures { option_map found_of result ≡ first_with resources.now (map (λ text. text.now) texts.now) }
 {
     for resource in resources {
-        if let Some(texts) = texts_of(resource.segments(), texts) {
+        let segments = resource.segments();
+        if have(segments, texts) {
             return Some(Found {
                 resource: *resource,
                 through: None,
-                texts,
+                texts: texts_of(segments, texts),
             });
         }
     }
@@ -159,20 +160,32 @@ fn first_within_shell<'a>(texts: &[&'a [u8]]) -> Option<Found<'a>>
     })
 }
 
-/// The parameters among the texts of a path, if it has these segments.
-fn texts_of<'a>(segments: &[Segment], texts: &[&'a [u8]]) -> Option<Texts<'a>>
-    ensures { option_map texts_seen result ≡ texts_of (map segment_of segments.now) (map (λ text. text.now) texts.now) }
+/// Whether the segments of a path have these texts.
+fn have(segments: &[Segment], texts: &[&[u8]]) -> bool
+    ensures { result ≡ is_some (texts_of (map segment_of segments.now) (map (λ text. text.now) texts.now)) }
 {
     if segments.len() != texts.len() {
-        return None;
+        return false;
     }
     let ([segment, segments @ ..], [text, texts @ ..]) = (segments, texts) else {
-        return Some(Texts::none());
+        return true;
     };
-    if !segment.fits(text) {
-        return None;
-    }
-    Some(texts_of(segments, texts)?.with(*segment, text))
+    segment.fits(text) && have(segments, texts)
+}
+
+/// The parameters among the texts of a path, which has these segments.
+#[tactic(auto, using(crate::proofs::Long::no_segments_left, crate::proofs::Long::no_texts_left))]
+fn texts_of<'a>(segments: &[Segment], texts: &[&'a [u8]]) -> Texts<'a>
+    requires { IsSome (texts_of (map segment_of segments.now) (map (λ text. text.now) texts.now)) }
+    ensures { Some (texts_seen result) ≡ texts_of (map segment_of segments.now) (map (λ text. text.now) texts.now) }
+{
+    let [segment, segments @ ..] = segments else {
+        return Texts::none();
+    };
+    let [text, texts @ ..] = texts else {
+        return Texts::none();
+    };
+    texts_of(segments, texts).with(*segment, text)
 }
 
 /// The bytes before the first separator, and those behind it, if there is one.
