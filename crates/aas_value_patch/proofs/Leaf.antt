@@ -4,7 +4,7 @@ use Rattle.std.proofs.lemmas.Bool.Decides.{Decides-eqb}
 use Rattle.std.proofs.lemmas.List.Elements.{All-head}
 use Rattle.std.proofs.lemmas.Option.{slice_get_within}
 use Rattle.aas_model.specs.Payload.{kind_of}
-use Rattle.aas_model.specs.declared.element.Element.{Element, Element-F, out-Element, roll-Element, out-roll-Element}
+use Rattle.aas_model.specs.declared.element.Element.{Element, Element-F, out-Element, roll-Element, out-roll-Element, roll-out-Element}
 use Rattle.aas_model.specs.declared.patch.PatchRow.{PatchRow}
 use Rattle.aas_model.specs.declared.payload.Payload.{Payload}
 use Rattle.aas_model_names.specs.declared.kind.Kind.{Kind}
@@ -43,3 +43,15 @@ given_back e rows mid x is mid_is =
         → with_first_payload (with_first_payload rows (out-Element e).payload) (first_payload rows (out-Element e).payload) ≡ rows
     twice [] = refl
     twice (r ∷ rows) = refl
+
+pub taken_back : (e : Element) (rows mid : List PatchRow) (x y : Payload) → x ≡ first_payload rows (out-Element e).payload
+    → mid ≡ with_first_payload rows (out-Element e).payload → y ≡ first_payload mid (out-Element (with_payload e x)).payload
+    → with_payload (with_payload e x) y ≡ e
+taken_back e rows mid x y is mid_is y_is =
+    let out = out-roll-Element (record (out-Element e) { payload = x }) in
+    let back = y_is ∙ ap₂ first_payload mid_is (ap (λ (m : Element-F Element). m.payload) out ∙ is) ∙ twice rows _ in
+    ap₂ (λ (m : Element-F Element) p. roll-Element (record m { payload = p })) out back ∙ roll-out-Element e
+  where
+    twice : (rows : List PatchRow) (own : Payload) → first_payload (with_first_payload rows own) (first_payload rows own) ≡ own
+    twice [] own = refl
+    twice (r ∷ rows) own = refl

@@ -113,7 +113,8 @@ fn swap_payload(payload: &mut Payload, rows: &mut Many<PatchRow>)
     }
 }
 
-/// The first fault that an element without children has by itself with the payload of the first row, which gets it back.
+/// The first fault that an element without children has by itself with the payload of the first row. Both get back what they
+/// had.
 fn first_fault_of_leaf(
     alloc: Global,
     leaf: &mut Element,
@@ -122,7 +123,8 @@ fn first_fault_of_leaf(
     requires leaf { kids_of leaf.old ≡ [] }
     requires fits { Fits (kinds leaf.old) rows.old }
     ensures found { IfOk result (λ found. found ≡ first (local_faults (patched rows.old leaf.old 0).0)) }
-    ensures same { rows.new ≡ rows.old }
+    ensures same_leaf { leaf.new ≡ leaf.old }
+    ensures same_rows { rows.new ≡ rows.old }
 {
     swap_payload(&mut leaf.payload, rows);
     let found = local_fault(alloc, leaf);
