@@ -51,9 +51,12 @@ pub(crate) fn add_name<O: Out>(pen: Pen, name: &str, out: &mut O) -> Pouring
 pub(crate) fn put_string<O: Out>(pen: Pen, name: &str, value: &str, out: &mut O) -> Pen
     ensures { PutsFields pen result (O.told out.old) (O.told out.new) ((name.now, Some (compact_text (string value.now))) ∷ []) }
 {
-    let named = add_name(pen, name, out);
+    let opened = add(pen.state, before_name(pen.later), out);
+    let named = add_escaped(opened, name.as_bytes(), out);
+    let between = add(named, b"\":\"", out);
+    let valued = add_escaped(between, value.as_bytes(), out);
     Pen {
-        state: add_quoted(named, value, out),
+        state: add(valued, b"\"", out),
         later: true,
     }
 }

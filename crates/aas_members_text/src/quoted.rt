@@ -69,12 +69,12 @@ fn count_plain(bytes: &[u8]) -> usize
     bytes.len()
 }
 
-/// Whether a byte doesn't stand for itself.
+/// Whether a byte doesn't stand for itself. Small letters, which are most, are told by one comparison.
 #[tactic(auto, unfolding(json::specs::Print::escape_byte))]
 fn is_escaped(byte: u8) -> bool
     ensures { result ≡ false → escape_byte byte ≡ byte ∷ [] }
 {
-    byte < 32 || byte == b'"' || byte == b'\\'
+    byte <= b'\\' && (byte < 32 || byte == b'"' || byte == b'\\')
 }
 
 fn add_escape<O: Out>(so_far: Pouring, byte: u8, out: &mut O) -> Pouring

@@ -1,5 +1,5 @@
 // The end over a link that gathers what is put.
-ghost use Rattle.std.specs.Prelude.{◌≡◌, [], ◌++◌, OnOk, if◌then◌else◌};
+ghost use Rattle.std.specs.Prelude.{◌≡◌, ◌≤◌, ◌+◌, [], ◌++◌, length, true, OnOk, if◌then◌else◌};
 ghost use Rattle.std.specs.Io.KnownBytes.{append_known};
 ghost use Rattle.aas_outside.specs.Faults.{HasCause};
 ghost use Rattle.aas_out.specs.Told.{Grows};
@@ -80,6 +80,7 @@ impl<'a, L: Link> BufferOut<'a, L> {
     fn hold(&mut self, bytes: &[u8]) -> bool
         ensures link { self.new.link ≡ self.old.link }
         ensures held { held_by self.new ≡ (if result then held_by self.old ++ bytes.now else held_by self.old) }
+        ensures room { self.old.given ≡ 0 → length self.old.held.now.items + length bytes.now ≤ PIECE_SIZE → result ≡ true }
     {
         if self.given != 0 {
             return false;
