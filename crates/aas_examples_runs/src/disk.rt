@@ -1,10 +1,11 @@
-// The disk of an example. Its columns are `NAME=VALUE`, with tabs between them:
+// The disk of an example. These columns are on it:
 //
 // - `files`: what the three files hold before the run. Without it, what `init` leaves. `empty`: nothing. `left`: what the example before left.
 //   `old`, `new`, `ones`: what such a crash leaves after the example before; then several examples may begin with what the same one left.
 // - `main`, `spare`, `selector`: what this file holds, in hexadecimal.
 // - `fails`: the numbers of the disk's calls that fail, with commas between them. `stop`: that of the call from which on all fail.
 // - `leaves`: what the main file holds after the run, in hexadecimal.
+use crate::columns::{column, number, numbers};
 use crate::not_run::NotRun;
 use aas_model::NoMemory;
 use aas_outside_disk::{Crash, MemDisk, Part};
@@ -12,23 +13,6 @@ use std::alloc::Global;
 
 /// The most bytes that a file holds.
 const CAPACITY: usize = 65_536;
-
-/// What a column may be named.
-const NAMES: [&str; 7] = [
-    "files", "main", "spare", "selector", "fails", "stop", "leaves",
-];
-
-/// Whether each column has one of the names.
-pub(crate) fn are_columns(columns: &str) -> bool {
-    columns.is_empty() || columns.split('\t').all(is_column)
-}
-
-fn is_column(column: &str) -> bool {
-    match column.split_once('=') {
-        Some((name, _)) => NAMES.iter().any(|known| *known == name),
-        None => false,
-    }
-}
 
 /// A disk with what `init` leaves.
 pub(crate) fn initialised(alloc: Global) -> Result<MemDisk, NoMemory> {
@@ -48,17 +32,12 @@ pub(crate) fn beginning(alloc: Global, columns: &str, left: &MemDisk) -> Result<
 
 /// A disk with these files, but for those that the columns give.
 fn disk_over(alloc: Global, columns: &str, files: &MemDisk) -> Result<MemDisk, NotRun> {
-    let stop = number(column(columns, "stop").unwrap_or("0"))?;
-    let fails = fails(alloc, columns)?;
+    let stop = number(columns, "stop", 0)?;
+    let fails = numbers(alloc, columns, "fails")?;
     let main = file(alloc, columns, "main", files.contents(Part::Main))?;
     let spare = file(alloc, columns, "spare", files.contents(Part::Spare))?;
     let selector = file(alloc, columns, "selector", files.contents(Part::Selector))?;
     Ok(MemDisk::new(alloc, &main, &spare, &selector, CAPACITY, &fails, stop)?)
-}
-
-/// Whether the run begins with what `init` leaves, and no call of the disk fails.
-pub(crate) fn begins_empty(columns: &str) -> bool {
-    NAMES.iter().all(|name| *name == "leaves" || column(columns, name).is_none())
 }
 
 /// Whether examples behind this one begin with what the one before it left.
@@ -98,30 +77,4 @@ fn file(alloc: Global, columns: &str, name: &str, otherwise: &[u8]) -> Result<Ve
         Some(text) => Ok(hex::decode(alloc, text)?),
         None => Ok(otherwise.to_vec(alloc)?),
     }
-}
-
-fn fails(alloc: Global, columns: &str) -> Result<Vec<u64>, NotRun> {
-    let mut fails = Vec::new(alloc);
-    if let Some(numbers) = column(columns, "fails") {
-        for text in numbers.split(',') {
-            fails.push(number(text)?)?;
-        }
-    }
-    Ok(fails)
-}
-
-fn number(text: &str) -> Result<u64, NotRun> {
-    text.parse().map_err(|_| NotRun::Unreadable)
-}
-
-/// What a column says, where it is there.
-fn column<'a>(columns: &'a str, name: &str) -> Option<&'a str> {
-    for column in columns.split('\t') {
-        if let Some((found, value)) = column.split_once('=') {
-            if found == name {
-                return Some(value);
-            }
-        }
-    }
-    None
 }

@@ -1,5 +1,5 @@
 // An example, as a line says it.
-use crate::disk::are_columns;
+use crate::columns::are_columns;
 use crate::not_run::NotRun;
 use aas_model::{Many, NoMemory, Text};
 use serde_json::Value;
@@ -13,7 +13,7 @@ pub(crate) struct Example<'a> {
     pub console: String,
     /// What the console is given.
     pub input: String,
-    /// What the line says of the disk.
+    /// What the line says of the disk, and of the console's calls.
     pub columns: &'a str,
 }
 

@@ -1,13 +1,16 @@
 //! Worked examples of whole runs. Each line of the input is an example: the words of the command line, the status, what the console gets and what
 //! it is given, with tabs between them; the last two are JSON strings. Further columns say what its disk begins with, which of its calls fail and
-//! what the run leaves (`disk.rt`). Each is run with its bytes in pieces of three sizes. Those that serve the console from no documents are also run
-//! over the other store (`trees.rt`). Printed are the examples that give something else, and how many there are in all.
+//! what the run leaves (`disk.rt`), and which calls of the console fail (`runs.rt`). Each is run with its bytes in pieces of three sizes. Those that
+//! serve the console from no documents are also run over the other store (`trees.rt`). Lines that begin with `row_mut` are of rows that a store
+//! lends (`rows.rt`). Printed are the examples that give something else, and how many there are in all.
 
 #![tactic(auto)]
 
+mod columns;
 mod disk;
 mod example;
 mod not_run;
+mod rows;
 mod runs;
 mod trees;
 
@@ -53,6 +56,9 @@ fn runs_in_pieces(alloc: Global) -> Result<Vec<Runs>, NotRun> {
 /// What the example in a line gives, where that isn't what is expected.
 fn failure(alloc: Global, line: &str, runs: &mut [Runs]) -> Result<Option<String>, NotRun> {
     let example = Example::read(alloc, line)?;
+    if rows::is_of_row(&example) {
+        return rows::failure(alloc, &example);
+    }
     for in_pieces in runs.iter_mut() {
         if let Some(given) = in_pieces.failure(alloc, &example)? {
             return Ok(Some(given));

@@ -1,4 +1,8 @@
-// Runs of examples, one after another.
+// Runs of examples, one after another. These columns are on the console:
+//
+// - `piece`: how many bytes each of its calls moves at most. Without it a run goes by the size that all such runs have.
+// - `lost`: the numbers of its calls that fail, with commas between them.
+use crate::columns::{number, numbers};
 use crate::disk::{beginning, initialised, is_after_crash, unexpected};
 use crate::example::Example;
 use crate::not_run::NotRun;
@@ -14,13 +18,13 @@ const CAPACITY: usize = 1_000_000;
 /// Runs whose console moves its bytes in pieces of one size.
 #[derive(Drop)]
 pub(crate) struct Runs {
-    piece: usize,
+    piece: u64,
     /// The disk as the last run left it that doesn't itself begin after a crash.
     left: MemDisk,
 }
 
 impl Runs {
-    pub(crate) fn new(alloc: Global, piece: usize) -> Result<Runs, NoMemory> {
+    pub(crate) fn new(alloc: Global, piece: u64) -> Result<Runs, NoMemory> {
         Ok(Runs {
             piece,
             left: initialised(alloc)?,
@@ -33,12 +37,18 @@ impl Runs {
         alloc: Global,
         example: &Example<'_>,
     ) -> Result<Option<String>, NotRun> {
-        let input = example.input.as_bytes();
-        let mut console = MemLink::new(alloc, input, self.piece.max(1), CAPACITY, &[])?;
+        let mut console = self.console(alloc, example)?;
         let ran = self.ran(alloc, example, &mut console)?;
         let given = difference(alloc, example, ran.status, console.sent(), &ran.disk);
         self.leave(example, ran.disk);
         given
+    }
+
+    fn console(&self, alloc: Global, example: &Example<'_>) -> Result<MemLink, NotRun> {
+        let input = example.input.as_bytes();
+        let piece = number(example.columns, "piece", self.piece)?;
+        let lost = numbers(alloc, example.columns, "lost")?;
+        Ok(MemLink::new(alloc, input, (piece as usize).max(1), CAPACITY, &lost)?)
     }
 
     fn ran(

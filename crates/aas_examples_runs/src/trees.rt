@@ -1,5 +1,7 @@
 // Runs of examples over a store of trees. The program itself keeps submodels as tables of rows.
-use crate::disk::begins_empty;
+ghost use Rattle.aas_step.specs.Valid.{AreValid};
+
+use crate::columns::begins_empty;
 use crate::example::Example;
 use crate::not_run::NotRun;
 use aas_api_service::Service;
@@ -8,7 +10,7 @@ use aas_outside::{MemKeeper, MemLink};
 use aas_repo::Repo;
 use aas_session::{Ended, Intake, serve_connection};
 use aas_step::no_documents_are_valid;
-use aas_store::TreeStore;
+use aas_store::{Store, TreeStore};
 use std::alloc::Global;
 
 /// The most bytes that the console takes.
@@ -26,7 +28,8 @@ pub(crate) fn failure(alloc: Global, example: &Example<'_>) -> Result<Option<Str
         return Ok(None);
     }
     let mut console = MemLink::new(alloc, example.input.as_bytes(), PIECE, CAPACITY, &[])?;
-    let ended = served(alloc, &mut console)?;
+    no_documents_are_valid();
+    let (_, ended) = served(alloc, TreeStore::new(alloc), &mut console)?;
     if ended == Ended::Closed && *console.sent() == *example.console.as_bytes() {
         return Ok(None);
     }
@@ -41,12 +44,17 @@ fn is_pipe(words: &Many<Text>) -> bool {
     }
 }
 
-/// How the console is served as one connection, from no documents.
-fn served(alloc: Global, console: &mut MemLink) -> Result<Ended, NotRun> {
-    no_documents_are_valid();
+/// Serves the console as one connection, from the documents of a store.
+pub(crate) fn served<S: Store + Drop>(
+    alloc: Global,
+    store: S,
+    console: &mut MemLink,
+) -> Result<(Service<S, MemKeeper>, Ended), NotRun>
+    requires { AreValid (S.documents store) }
+{
     let keeper = MemKeeper::new(alloc, ROOM, &[])?;
-    let repo = Repo::new(alloc, TreeStore::new(alloc), keeper);
-    let mut service = Service::new(alloc, repo);
+    let mut service = Service::new(alloc, Repo::new(alloc, store, keeper));
     let mut intake = Intake::new(alloc)?;
-    Ok(serve_connection(&mut service, console, &mut intake))
+    let ended = serve_connection(&mut service, console, &mut intake);
+    Ok((service, ended))
 }
