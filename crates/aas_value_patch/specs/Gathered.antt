@@ -1,5 +1,5 @@
 -- The rows of a patch that a walk in preorder gathers.
-use Rattle.std.specs.Prelude.{◌≡◌, ℕ, ◌<◌, ◌≤◌, true, List, [], ◌∷◌, ◌++◌, length, slice_get, Option, Some, None, Result, IfOk}
+use Rattle.std.specs.Prelude.{◌≡◌, ℕ, ◌<◌, ◌≤◌, List, [], ◌∷◌, ◌++◌, length, slice_get, Option, Some, None, Result, IfOk}
 use Rattle.serde_json.specs.Data.{Data}
 use Rattle.aas_json_spelling.specs.Values.{IsOrdered}
 use Rattle.aas_model.specs.Payload.{kind_of}
