@@ -85,8 +85,8 @@ impl<S: Store, K: Keeper> Machine for Service<S, K> {
 }
 
 /// Does what is asked, unless it is asked through a shell that doesn't reach the submodel, and answers the reply, whose `close`
-/// is false, and what is poured behind its body. The success reply to a command is made before the command is taken, so that nothing is kept which can't be
-/// answered.
+/// is false, and what is poured behind its body. The success reply to a command is made before the command is taken, so that
+/// nothing is kept which can't be answered.
 ///
 /// # Errors
 ///

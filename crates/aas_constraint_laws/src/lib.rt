@@ -1,6 +1,8 @@
 //! What a valid document is, and what that gives: in a submodel siblings differ, each element has one path, and a change
 //! of values breaks nothing but what the changed element breaks by itself. It has nothing to run: a law stands on a
 //! function that does nothing.
+//!
+//! The constraints themselves stand in `aas_constraint_rules`, and what checks a document for them in `aas_constraints`.
 
 #![tactic(auto)]
 

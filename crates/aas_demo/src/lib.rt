@@ -1,4 +1,6 @@
 //! The environment that the command `demo` imports (IDTA-01001-3-0, class Environment): one submodel with so many properties.
+//!
+//! What is done with it is said in `aas_server`.
 
 #![tactic(auto)]
 

@@ -1,6 +1,8 @@
 //! What inserting, replacing and removing an element makes of the faults of a submodel without faults, and of the count of
 //! its elements, so that a change can be checked by what comes in alone. It has nothing to run: a law stands on a function
 //! that does nothing.
+//!
+//! What an edit makes of a submodel is defined in `aas_path_trees`; that it stays whole is a law of `aas_edit_laws`.
 
 #![tactic(auto)]
 

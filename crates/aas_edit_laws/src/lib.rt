@@ -1,6 +1,8 @@
 //! What inserting, replacing and removing an element leaves of a submodel: it stays whole, so that it can be written and
 //! stored; it keeps its own attributes, and so its identifier; and other paths lead where they led. It has nothing to run:
 //! a law stands on a function that does nothing.
+//!
+//! What an edit makes of a submodel is defined in `aas_path_trees`; which faults it has then is said in `aas_edit_faults`.
 
 #![tactic(auto)]
 

@@ -1,5 +1,7 @@
 //! Environments of the Asset Administration Shell (IDTA-01001-3-0, class Environment): all documents of a store as one text,
 //! and the documents of such a text as one command.
+//!
+//! What a command does is said below (`aas_step`); the console stands above.
 
 #![tactic(auto)]
 

@@ -1,5 +1,7 @@
 //! Worked examples that cross crates. Each line of the input is an example: a call, what it is to give, and what it is called
 //! with, with tabs between them. Printed are the examples that give something else, and how many there are in all.
+//!
+//! No definition and no rule stands here.
 
 #![tactic(auto)]
 

@@ -1,4 +1,6 @@
 //! Examples on texts: which have a form, which are names, and which are written natively. The texts stand in a JSON array.
+//!
+//! No definition and no rule stands here.
 
 #![tactic(auto)]
 

@@ -1,4 +1,4 @@
--- What is found among the members of an object, by a function from a name and a form to what the member says.
+-- What is found among the members of an object, by a function from a name and a type to what the member says.
 use Rattle.std.specs.Prelude.{◌≡◌, ℕ, List, codes, Option, Some, option_map}
 use Rattle.serde_json.specs.Data.{Data}
 use Rattle.aas_json_table.specs.Table.{MemberType, text, kept, one, many, lang_text, extension, qualifier, administration}

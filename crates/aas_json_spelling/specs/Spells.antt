@@ -46,7 +46,8 @@ pub record IsWithinLimits (levels : Levels) : Type 0 where
   pub references : levels.references ≤ limits.references
   pub kept : levels.kept ≤ limits.kept
 
--- The canonical text of a whole tree, where it is UTF-8, is read as a value that spells the tree. It is UTF-8 where the texts of the tree are.
+-- The canonical text of a whole tree, where it is UTF-8, is read as a value that spells the tree. It is UTF-8 where the strings and
+-- names of its spelling are (`compact_text_is_utf8`).
 abbrev pub ReadsBack : {A : Type 0} → Trees A → Type 0
 ReadsBack {A = A} trees = (levels : Levels) (t : A) → IsWithinLimits levels → trees.IsWhole levels t → IsUtf8 (canonical_text trees t)
     → (j : Data) × (reading (canonical_text trees t) ≡ Some j) × Spells trees levels j t

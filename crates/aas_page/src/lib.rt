@@ -1,5 +1,7 @@
 //! Pages of a collection's documents, and the filters that these pass; the segments of paths that stand for identifiers, and the
 //! cursors that do.
+//!
+//! What a document shows on a page is said above (`aas_answer`).
 
 #![tactic(auto)]
 

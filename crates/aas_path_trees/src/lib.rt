@@ -1,5 +1,7 @@
 //! What is said of the trees of elements: which element a path leads to, which paths can be written, what a change of a
 //! tree makes of it, and laws of these. It has nothing to run: a law stands on a function that does nothing.
+//!
+//! Paths as text, and the calls that follow a path and change a tree, stand in `aas_path`.
 
 #![tactic(auto)]
 

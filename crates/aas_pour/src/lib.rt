@@ -3,6 +3,8 @@
 //!
 //! A walk goes over the rows in preorder. It keeps which elements are open, at most 30, and which part of each follows its
 //! children; what it has put before is never looked at again, and a row is asked for where it is needed.
+//!
+//! What the members of one element are stands in `aas_members_text`.
 
 #![tactic(auto)]
 

@@ -3,6 +3,8 @@
 //!
 //! A reference is whole where it and those within it have keys, and at most 4 stand in one another. What is read is
 //! whole. The laws of the mapping of references are the contract of `references_are_mapped`, which does nothing.
+//!
+//! To what a reference leads is said above (`aas_resolve`).
 
 #![tactic(auto)]
 

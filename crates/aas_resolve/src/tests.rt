@@ -1,4 +1,5 @@
-// A shell whose references lead to itself, to nothing and outside of the model. References to elements are in the examples of the definitions.
+// A shell whose references lead to itself, to nothing and outside of the model. References to elements are in the examples
+// of the definitions.
 ghost use Rattle.std.specs.Prelude.{IfOk};
 ghost use Rattle.aas_store.specs.TreeStore.{documents};
 ghost use Rattle.aas_resolve.specs.Resolved.{HaveFewElements};

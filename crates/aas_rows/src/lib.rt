@@ -1,5 +1,7 @@
 //! Trees of elements as lists of rows: what a list of rows in preorder stands for, and what an edit of a tree makes of
 //! its rows. A law stands on a function that does nothing; of what runs there is the view of a row alone.
+//!
+//! Rows in memory are kept by `aas_sheet_rows`, and their texts are put by `aas_pour`.
 
 #![tactic(auto)]
 

@@ -1,6 +1,8 @@
 //! A store that keeps each submodel as a table of rows.
 //!
 //! [`SheetStore`] keeps the promises of [`aas_store::Store`], and also lends a single row for writing.
+//!
+//! One submodel's table stands in `aas_sheet_rows`.
 
 #![tactic(auto)]
 

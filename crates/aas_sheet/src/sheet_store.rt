@@ -23,8 +23,9 @@ use std::alloc::Global;
 ///
 /// A step of a path by name costs a binary search in an index of all rows of the submodel; one by place costs the siblings
 /// that it passes and what stands below them, in a walk along a narrow column. An edit moves 8 bytes for each row behind its
-/// place and what stands beside it, measures all, and moves 4 bytes for each row in the index. Only puts, `insert_element`,
-/// `replace_element` and copies take memory.
+/// place and what stands beside it. It writes 4 bytes for each row in the index, unless rows come behind all others, and
+/// merges the new ones in. It measures the new rows and those before them up to a child of the submodel. Only puts,
+/// `insert_element`, `replace_element` and copies take memory.
 #[derive(Drop)]
 pub struct SheetStore {
     shells: Shelf<Shell>,

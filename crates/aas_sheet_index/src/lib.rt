@@ -2,6 +2,8 @@
 //! idShort.
 //!
 //! [`Sides`] finds the child of a name by a binary search, and keeps its index when rows come and go.
+//!
+//! No payload stands here.
 
 #![tactic(auto)]
 

@@ -1,6 +1,8 @@
 //! One submodel as a table of rows in preorder: its elements without their children, each at its level.
 //!
 //! [`Sheet`] reads and changes one row without a look at the others but those that a path passes.
+//!
+//! The store of many stands in `aas_sheet`, the column beside the rows in `aas_sheet_index`.
 
 #![tactic(auto)]
 

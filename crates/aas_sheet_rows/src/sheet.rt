@@ -22,8 +22,9 @@ use std::mem;
 ///
 /// A step of a path by name costs a binary search in an index of all rows; one by place costs the siblings that it passes
 /// and what stands below them, in a walk along a narrow column. An edit moves 8 bytes for each row behind its place and
-/// what stands beside it, and 4 bytes for each row in the index where any stands behind. It measures the new rows and those
-/// before them up to a child of the submodel. Only `from_submodel`, `insert`, `replace` and copies take memory.
+/// what stands beside it. It writes 4 bytes for each row in the index, unless rows come behind all others, and merges the
+/// new ones in. It measures the new rows and those before them up to a child of the submodel. Only `from_submodel`,
+/// `insert`, `replace` and copies take memory.
 #[derive(Drop)]
 pub struct Sheet {
     /// It has no children: they stand in the rows.

@@ -1,5 +1,5 @@
-// Documents put in any order, one by one or all at once, are found, listed in order, replaced and deleted. Shells, submodels and elements go through
-// the same shelves; the examples of runs call them.
+// Documents put in any order, one by one or all at once, are found, listed in order, replaced and deleted. Shells,
+// submodels and elements go through the same shelves; the examples of runs call them.
 ghost use Rattle.std.specs.Prelude.{◌≡◌, [], IfOk};
 
 use crate::{Store, TreeStore};

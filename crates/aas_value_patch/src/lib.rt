@@ -1,5 +1,7 @@
 //! Updates of values (IDTA-01002-3-0, ValueOnly) as patches: what a sent value makes of an element, or the first place where
 //! it doesn't fit.
+//!
+//! Which values may be sent is said in `aas_value_update`.
 
 #![tactic(auto)]
 

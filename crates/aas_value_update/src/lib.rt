@@ -1,6 +1,8 @@
 //! Updates of values (IDTA-01002-3-0, ValueOnly): which values may be sent, how what is sent is laid over the value form of
 //! an element, and what an update makes of an element and of a submodel. It has nothing to run: a law stands on a function
 //! that does nothing.
+//!
+//! The value form itself stands in `aas_value`, and what makes an update of a sent value in `aas_value_patch`.
 
 #![tactic(auto)]
 
