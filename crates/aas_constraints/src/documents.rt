@@ -16,6 +16,7 @@ use aas_constraint_parts::{
     qualifiers_have_main, qualifiers_have_types, specific_asset_ids_have_form,
     specific_asset_ids_have_main, subjects_are_external,
 };
+use aas_json_table::name::GLOBAL_ASSET_ID;
 use aas_model::{
     Administration, AssetInformation, Concept, Head, ModellingKind, NoMemory, Shell,
     SpecificAssetId, Submodel, Text,
@@ -145,7 +146,7 @@ fn equals(global: &Option<Text>, value: &Text) -> bool
 fn is_global_name(name: &Text) -> bool
     ensures { result ≡ is_global_name name.now }
 {
-    name.as_str().eq_ignore_ascii_case("globalAssetId")
+    name.as_str().eq_ignore_ascii_case(GLOBAL_ASSET_ID)
 }
 
 /// Whether each specificAssetId that is named as the globalAssetId has its value. AASd-116.

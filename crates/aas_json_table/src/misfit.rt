@@ -7,6 +7,7 @@ ghost use Rattle.aas_json_table.specs.Misfit.{misfit_all, missing};
 ghost use Rattle.aas_json_table.specs.Rows.{in_member, is_there, rows_of};
 ghost use Rattle.aas_json_table.specs.Seen.{row_of, member_type_of, sort_of};
 
+use crate::name;
 use crate::pointer::{Token, Trail};
 use crate::table::{MemberType, Row, Sort, member, row_named, rows_of};
 use aas_model_text::NoMemory;
@@ -54,7 +55,7 @@ fn misfit_object(
         fault ≡ misfit_object (rows_of (sort_of sort) ms) (misfit_members ms) ms) }
 {
     let Some(rows) = rows_of(sort, members) else {
-        return Ok(Some(at_member(alloc, "modelType")?));
+        return Ok(Some(at_member(alloc, name::MODEL_TYPE)?));
     };
     match misfit_members(alloc, rows, members)? {
         Some(trail) => Ok(Some(trail)),

@@ -1,4 +1,5 @@
-// Each name is spelled here and nowhere else in code.
+// Each name of a member is spelled here and nowhere else in code. The same word may be another name elsewhere: of a
+// parameter, of a segment of a path, or of a specific asset id.
 
 pub const ADMINISTRATION: &str = "administration";
 
