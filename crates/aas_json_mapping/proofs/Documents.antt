@@ -1,15 +1,15 @@
 -- Shells, submodels and concept descriptions: what is whole spells what is good, what spells what is good is whole, and what spells the same is the same.
-use Rattle.std.proofs.Common.{◌≡◌, ℕ, ◌&&◌, List, [], ◌∷◌, ◌++◌, true, Option, Some, option_map, codes, refl, sym, ◌∙◌, subst}
+use Rattle.std.proofs.Common.{◌≡◌, ℕ, ◌&&◌, List, [], ◌∷◌, ◌++◌, true, Option, Some, codes, refl, sym, ◌∙◌, subst}
 use Rattle.std.proofs.lemmas.Bool.{and_from}
 use Rattle.std.specs.List.{list_all}
-use Rattle.serde_json.specs.Data.{Data, string}
+use Rattle.serde_json.specs.Data.{Data}
 use Rattle.aas_model_names.specs.ModellingKindNames as modelling_kind
 use Rattle.aas_json_table.specs.Names.{modelling_kinds}
 use Rattle.aas_json_table.specs.Table.{Sort, one, many, word, asset_information, Row, required, optional, valued, shell, submodel, concept, element, reference, referable, identifiable, has_semantics, qualifiable, model_types}
 use Rattle.aas_json_table.specs.Rows.{find, sorted, rows_of}
 use Rattle.aas_json_table.specs.TooDeep.{Levels, enter}
 use Rattle.aas_json_table.specs.Canonical.{are_there, members_by}
-use Rattle.aas_json_table.specs.Spelled.{Attributes, attribute, spelled, list_of}
+use Rattle.aas_json_table.specs.Spelled.{Attributes, attribute, spelled}
 use Rattle.aas_model.specs.declared.common.Head.{Head}
 use Rattle.aas_model.specs.declared.documents.Shell.{Shell}
 use Rattle.aas_model.specs.declared.documents.Submodel.{Submodel}
@@ -20,11 +20,10 @@ use Rattle.aas_json_spelling.specs.Good.{Good}
 use Rattle.aas_lemmas.proofs.Truth.{and_left, and_right}
 use Rattle.aas_json_spelling.proofs.Objects.{Agree, AreGood}
 use Rattle.aas_json_spelling.proofs.MemberTypes.{EachGood, text_good, named_if_good, list_good, list_back, same_texts, same_words_if, same_lists_of}
-use Rattle.aas_reference.specs.Spelling.{spell_reference}
 use Rattle.aas_reference.specs.Whole.{is_whole, whole_if_there}
-use Rattle.aas_json_mapping.specs.Documents.{head_attributes, spell_shell, spell_submodel, spell_concept}
+use Rattle.aas_json_mapping.specs.Documents.{typed, head_attributes, shell_attributes, submodel_attributes, concept_attributes, spell_shell, spell_submodel, spell_concept}
 use Rattle.aas_json_mapping.specs.Elements.{spell_element}
-use Rattle.aas_json_mapping.specs.Parts.{semantics_attributes, spell_qualifier, spell_asset_information}
+use Rattle.aas_json_mapping.specs.Parts.{spell_asset_information}
 use Rattle.aas_json_mapping.specs.Shape.{IsShaped, IsShapedSubmodel}
 use Rattle.aas_json_mapping.specs.Whole.{whole_kept, whole_extension, whole_administration_if_there, whole_head, whole_semantics, whole_qualifier, whole_asset_information, is_whole_element, is_whole_shell, is_whole_submodel, is_whole_concept}
 use Rattle.aas_json_mapping.proofs.Rows.{good_before, good_with, agree_before, object_made, object_within, same_rows, model_rows, model_rise, found_again}
@@ -41,10 +40,6 @@ pub record IsModel (s : Sort) (n : List ℕ) (rows : List Row) : Type 0 where
   pub rest : List (List ℕ × List Row)
   pub models : model_types s ≡ first ∷ rest
   pub found : find n (model_types s) ≡ Some (referable ++ rows)
-
--- attributes with a modelType
-abbrev pub typed : List ℕ → Attributes → Attributes
-typed n attributes = (codes "modelType", Some (string n)) ∷ attributes
 
 rows_at : (s : Sort) (n : List ℕ) (rows : List Row) → IsModel s n rows → (attributes : Attributes)
     → rows_of s (members_by (sorted (referable ++ rows)) (attribute (typed n attributes))) ≡ Some (sorted (referable ++ rows))
@@ -129,10 +124,6 @@ same_head n h k rows a b agree =
 abbrev pub shell_rows : List Row
 shell_rows = required (codes "assetInformation") (one asset_information) ∷ optional (codes "derivedFrom") (one reference) ∷ optional (codes "submodels") (many reference) ∷ []
 
-abbrev pub own_shell : Shell → Attributes
-own_shell s =
-    (codes "assetInformation", Some (spell_asset_information s.asset)) ∷ (codes "derivedFrom", option_map spell_reference s.derived_from) ∷ (codes "submodels", list_of spell_reference s.submodels) ∷ []
-
 abbrev pub shell_name : List ℕ
 shell_name = codes "AssetAdministrationShell"
 
@@ -147,16 +138,16 @@ shell_good l s w =
     let m = list_all (is_whole l) s.submodels in
     let three = and_left (h && d && a) m w in
     let two = and_left (h && d) a three in
-    document_good shell shell_name (identifiable ++ shell_rows) shell_model l (head_attributes s.head ++ own_shell s) refl refl
-    (head_good l shell_name s.head shell_rows (own_shell s) (and_left h d two) (
+    document_good shell shell_name (identifiable ++ shell_rows) shell_model l (head_attributes s.head ++ shell_attributes s) refl refl
+    (head_good l shell_name s.head shell_rows (shell_attributes s) (and_left h d two) (
       asset_information_facts.good l s.asset (and_right (h && d) a three),
       (reference_if_good l s.derived_from (and_right h d two), (all_good reference_facts l s.submodels (and_right (h && d && a) m w), tt)),
     ))
 
 shell_back : (l : Levels) (s : Shell) → Good l (one shell) (Some (spell_shell s)) → is_whole_shell l s ≡ true
 shell_back l s good =
-    let inside = document_back shell shell_name (identifiable ++ shell_rows) shell_model l (head_attributes s.head ++ own_shell s) refl good in
-    let head = head_back l shell_name s.head shell_rows (own_shell s) inside in
+    let inside = document_back shell shell_name (identifiable ++ shell_rows) shell_model l (head_attributes s.head ++ shell_attributes s) refl good in
+    let head = head_back l shell_name s.head shell_rows (shell_attributes s) inside in
     let h = whole_head l s.head in
     let d = whole_if_there l s.derived_from in
     let a = whole_asset_information l s.asset in
@@ -166,8 +157,8 @@ shell_back l s good =
 
 same_shell : (s t : Shell) → spell_shell s ≡ spell_shell t → s ≡ t
 same_shell s t e =
-    let agree = same_document shell shell_name (identifiable ++ shell_rows) shell_model (head_attributes s.head ++ own_shell s) (head_attributes t.head ++ own_shell t) e in
-    let head = same_head shell_name s.head t.head shell_rows (own_shell s) (own_shell t) agree in
+    let agree = same_document shell shell_name (identifiable ++ shell_rows) shell_model (head_attributes s.head ++ shell_attributes s) (head_attributes t.head ++ shell_attributes t) e in
+    let head = same_head shell_name s.head t.head shell_rows (shell_attributes s) (shell_attributes t) agree in
     let h = head.0 in
     let a = asset_information_facts.same s.asset t.asset (same_some head.1.0) in
     let d = if_same reference_facts s.derived_from t.derived_from head.1.1.0 in
@@ -185,9 +176,6 @@ shell_facts = record { good = shell_good; back = shell_back; same = same_shell }
 abbrev pub concept_rows : List Row
 concept_rows = optional (codes "isCaseOf") (many reference) ∷ []
 
-abbrev pub own_concept : Concept → Attributes
-own_concept c = (codes "isCaseOf", list_of spell_reference c.is_case_of) ∷ []
-
 abbrev pub concept_name : List ℕ
 concept_name = codes "ConceptDescription"
 
@@ -196,20 +184,20 @@ concept_model = record { first = _; rest = _; models = refl; found = refl }
 
 concept_good : (l : Levels) (c : Concept) → is_whole_concept l c ≡ true → Good l (one concept) (Some (spell_concept c))
 concept_good l c w =
-    document_good concept concept_name (identifiable ++ concept_rows) concept_model l (head_attributes c.head ++ own_concept c) refl refl
-    (head_good l concept_name c.head concept_rows (own_concept c) (and_left (whole_head l c.head) (list_all (is_whole l) c.is_case_of) w)
+    document_good concept concept_name (identifiable ++ concept_rows) concept_model l (head_attributes c.head ++ concept_attributes c) refl refl
+    (head_good l concept_name c.head concept_rows (concept_attributes c) (and_left (whole_head l c.head) (list_all (is_whole l) c.is_case_of) w)
     (all_good reference_facts l c.is_case_of (and_right (whole_head l c.head) (list_all (is_whole l) c.is_case_of) w), tt))
 
 concept_back : (l : Levels) (c : Concept) → Good l (one concept) (Some (spell_concept c)) → is_whole_concept l c ≡ true
 concept_back l c good =
-    let inside = document_back concept concept_name (identifiable ++ concept_rows) concept_model l (head_attributes c.head ++ own_concept c) refl good in
-    let head = head_back l concept_name c.head concept_rows (own_concept c) inside in
+    let inside = document_back concept concept_name (identifiable ++ concept_rows) concept_model l (head_attributes c.head ++ concept_attributes c) refl good in
+    let head = head_back l concept_name c.head concept_rows (concept_attributes c) inside in
     and_from (whole_head l c.head) (list_all (is_whole l) c.is_case_of) head.0 (all_back reference_facts l c.is_case_of head.1.0)
 
 same_concept : (c d : Concept) → spell_concept c ≡ spell_concept d → c ≡ d
 same_concept c d e =
-    let agree = same_document concept concept_name (identifiable ++ concept_rows) concept_model (head_attributes c.head ++ own_concept c) (head_attributes d.head ++ own_concept d) e in
-    let head = same_head concept_name c.head d.head concept_rows (own_concept c) (own_concept d) agree in
+    let agree = same_document concept concept_name (identifiable ++ concept_rows) concept_model (head_attributes c.head ++ concept_attributes c) (head_attributes d.head ++ concept_attributes d) e in
+    let head = same_head concept_name c.head d.head concept_rows (concept_attributes c) (concept_attributes d) agree in
     let h = head.0 in
     let m = all_same reference_facts c.is_case_of d.is_case_of head.1.0 in
     λ i. record { head = h i; is_case_of = m i }
@@ -224,11 +212,6 @@ kids_row = valued (optional (codes "submodelElements") (many element)) ∷ []
 
 abbrev pub submodel_rows : List Row
 submodel_rows = optional (codes "kind") (word modelling_kinds) ∷ (has_semantics ++ (qualifiable ++ kids_row))
-
-abbrev pub own_submodel : Submodel → Attributes
-own_submodel s =
-    (codes "kind", option_map (λ k. string (modelling_kind.name_of k)) s.kind)
-    ∷ (semantics_attributes s.semantics ++ ((codes "qualifiers", list_of spell_qualifier s.qualifiers) ∷ (codes "submodelElements", list_of spell_element s.kids) ∷ []))
 
 abbrev pub submodel_name : List ℕ
 submodel_name = codes "Submodel"
@@ -256,9 +239,9 @@ submodel_good l s w =
     let k = list_all (is_whole_element l) s.kids in
     let three = and_left (h && m && q) k w in
     let two = and_left (h && m) q three in
-    let g = attribute (typed submodel_name (head_attributes s.head ++ own_submodel s)) in
-    document_good submodel submodel_name (identifiable ++ submodel_rows) submodel_model l (head_attributes s.head ++ own_submodel s) refl refl
-    (head_good l submodel_name s.head submodel_rows (own_submodel s) (and_left h m two) (
+    let g = attribute (typed submodel_name (head_attributes s.head ++ submodel_attributes s)) in
+    document_good submodel submodel_name (identifiable ++ submodel_rows) submodel_model l (head_attributes s.head ++ submodel_attributes s) refl refl
+    (head_good l submodel_name s.head submodel_rows (submodel_attributes s) (and_left h m two) (
       named_if_good l modelling_kind.name_of modelling_kind.all modelling_kind.found s.kind,
       good_with l has_semantics (qualifiable ++ kids_row) g (semantics_good l s.semantics (and_right h m two))
           (all_good qualifier_facts l s.qualifiers (and_right (h && m) q three), (list_good l spell_element element s.kids (kids_good l s.kids (and_right (h && m && q) k w)), tt)),
@@ -266,9 +249,9 @@ submodel_good l s w =
 
 pub submodel_back : (l : Levels) (s : Submodel) → IsShapedSubmodel s → Good l (one submodel) (Some (spell_submodel s)) → is_whole_submodel l s ≡ true
 submodel_back l s shape good =
-    let inside = document_back submodel submodel_name (identifiable ++ submodel_rows) submodel_model l (head_attributes s.head ++ own_submodel s) refl good in
-    let head = head_back l submodel_name s.head submodel_rows (own_submodel s) inside in
-    let g = attribute (typed submodel_name (head_attributes s.head ++ own_submodel s)) in
+    let inside = document_back submodel submodel_name (identifiable ++ submodel_rows) submodel_model l (head_attributes s.head ++ submodel_attributes s) refl good in
+    let head = head_back l submodel_name s.head submodel_rows (submodel_attributes s) inside in
+    let g = attribute (typed submodel_name (head_attributes s.head ++ submodel_attributes s)) in
     let semantics = good_before l has_semantics (qualifiable ++ kids_row) g head.1.1 in
     let h = whole_head l s.head in
     let m = whole_semantics l s.semantics in
@@ -279,9 +262,9 @@ submodel_back l s shape good =
 
 pub same_submodel : (s t : Submodel) → IsShapedSubmodel s → IsShapedSubmodel t → spell_submodel s ≡ spell_submodel t → s ≡ t
 same_submodel s t a b e =
-    let agree = same_document submodel submodel_name (identifiable ++ submodel_rows) submodel_model (head_attributes s.head ++ own_submodel s) (head_attributes t.head ++ own_submodel t) e in
-    let head = same_head submodel_name s.head t.head submodel_rows (own_submodel s) (own_submodel t) agree in
-    let split = agree_before has_semantics (qualifiable ++ kids_row) (attribute (typed submodel_name (head_attributes s.head ++ own_submodel s))) (attribute (typed submodel_name (head_attributes t.head ++ own_submodel t))) head.1.1 in
+    let agree = same_document submodel submodel_name (identifiable ++ submodel_rows) submodel_model (head_attributes s.head ++ submodel_attributes s) (head_attributes t.head ++ submodel_attributes t) e in
+    let head = same_head submodel_name s.head t.head submodel_rows (submodel_attributes s) (submodel_attributes t) agree in
+    let split = agree_before has_semantics (qualifiable ++ kids_row) (attribute (typed submodel_name (head_attributes s.head ++ submodel_attributes s))) (attribute (typed submodel_name (head_attributes t.head ++ submodel_attributes t))) head.1.1 in
     let h = head.0 in
     let k = same_words_if modelling_kind.name_of modelling_kind.all modelling_kind.found s.kind t.kind head.1.0 in
     let m = same_semantics s.semantics t.semantics split.0 in

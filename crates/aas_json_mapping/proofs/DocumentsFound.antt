@@ -24,7 +24,7 @@ use Rattle.aas_json_spelling.proofs.Objects.{Agree}
 use Rattle.aas_json_spelling.proofs.Exists.{IsSpelled, Kinds, IsTree, Gives, there, named_if, as_itself, part_tree, tree}
 use Rattle.aas_reference.specs.Spelling.{spell_reference}
 use Rattle.aas_reference.proofs.Exists.{some_reference}
-use Rattle.aas_json_mapping.specs.Documents.{head_attributes, spell_shell, spell_submodel, spell_concept, spell_environment}
+use Rattle.aas_json_mapping.specs.Documents.{typed, head_attributes, shell_attributes, submodel_attributes, concept_attributes, spell_shell, spell_submodel, spell_concept, spell_environment}
 use Rattle.aas_json_mapping.specs.Elements.{spell_element}
 use Rattle.aas_json_mapping.specs.Parts.{spell_lang_text, spell_extension, spell_qualifier, spell_administration, spell_asset_information}
 use Rattle.aas_json_mapping.specs.Shape.{IsShaped, IsShapedSubmodel, IsShapedEnvironment}
@@ -32,7 +32,7 @@ use Rattle.aas_json_mapping.proofs.Rows.{Made, object_of, models_tree, agree_wit
 use Rattle.aas_json_mapping.proofs.PartsFound.{semantics_found, some_lang_text, some_extension, some_qualifier, some_administration, some_asset_information}
 use Rattle.aas_json_mapping.proofs.Referable.{FoundReferable, referable_found}
 use Rattle.aas_json_mapping.proofs.ElementsLaws.{Shaped, shaped_element}
-use Rattle.aas_json_mapping.proofs.Documents.{typed, shell_name, shell_rows, own_shell, concept_name, concept_rows, own_concept, submodel_name, submodel_rows, own_submodel, kids_row}
+use Rattle.aas_json_mapping.proofs.Documents.{shell_name, shell_rows, concept_name, concept_rows, submodel_name, submodel_rows, kids_row}
 use Rattle.aas_json_mapping.proofs.Environments.{environment_attributes}
 
 -- ---- the trees of the sorts that documents are made of; those of other sorts don't matter here
@@ -152,7 +152,7 @@ shell_made g each model e =
     let d = each (codes "derivedFrom") (one reference) in
     let m = each (codes "submodels") (many reference) in
     let s : Shell = record { head = h.head; derived_from = d.0; asset = a.0; submodels = m.0 } in
-    record { tree = s; attributes = typed shell_name (head_attributes s.head ++ own_shell s); agree = h.agree shell_rows (own_shell s) (a.1, (d.1, (m.1, tt))); spells = refl }
+    record { tree = s; attributes = typed shell_name (head_attributes s.head ++ shell_attributes s); agree = h.agree shell_rows (shell_attributes s) (a.1, (d.1, (m.1, tt))); spells = refl }
 
 concept_made : (g : List ℕ → MemberType → Option Data) → Gives kinds g → g (codes "modelType") text ≡ Some (string concept_name) → are_there (referable ++ (identifiable ++ concept_rows)) g ≡ true
     → Made spell_concept (referable ++ (identifiable ++ concept_rows)) g
@@ -160,7 +160,7 @@ concept_made g each model e =
     let h = head_found g each concept_name model (id_there g concept_rows e).0 in
     let m = each (codes "isCaseOf") (many reference) in
     let c : Concept = record { head = h.head; is_case_of = m.0 } in
-    record { tree = c; attributes = typed concept_name (head_attributes c.head ++ own_concept c); agree = h.agree concept_rows (own_concept c) (m.1, tt); spells = refl }
+    record { tree = c; attributes = typed concept_name (head_attributes c.head ++ concept_attributes c); agree = h.agree concept_rows (concept_attributes c) (m.1, tt); spells = refl }
 
 submodel_made : (g : List ℕ → MemberType → Option Data) → Gives kinds g → g (codes "modelType") text ≡ Some (string submodel_name) → are_there (referable ++ (identifiable ++ submodel_rows)) g ≡ true
     → Made spell_shaped_submodel (referable ++ (identifiable ++ submodel_rows)) g
@@ -172,10 +172,10 @@ submodel_made g each model e =
     let ts = each (codes "submodelElements") (many element) in
     let s : Submodel = record { head = h.head; kind = k.0; semantics = m.0; qualifiers = q.0; kids = trees_of IsShaped spell_element ts.0 } in
     let kids = listed_trees IsShaped spell_element (g (codes "submodelElements") (many element)) ts.0 ts.1 in
-    let own = attribute (typed submodel_name (head_attributes s.head ++ own_submodel s)) in record {
+    let own = attribute (typed submodel_name (head_attributes s.head ++ submodel_attributes s)) in record {
       tree = (s, each_shaped IsShaped spell_element ts.0);
-      attributes = typed submodel_name (head_attributes s.head ++ own_submodel s);
-      agree = h.agree submodel_rows (own_submodel s) (k.1, agree_with has_semantics (qualifiable ++ kids_row) g own m.1 (q.1, (kids, tt)));
+      attributes = typed submodel_name (head_attributes s.head ++ submodel_attributes s);
+      agree = h.agree submodel_rows (submodel_attributes s) (k.1, agree_with has_semantics (qualifiable ++ kids_row) g own m.1 (q.1, (kids, tt)));
       spells = refl;
     }
 

@@ -28,32 +28,45 @@ head_attributes h =
     ∷ (codes "embeddedDataSpecifications", list_of spell_plain h.embedded_data_specifications)
     ∷ []
 
+-- attributes with a modelType
+abbrev pub typed : List ℕ → Attributes → Attributes
+typed model_type attributes = (codes "modelType", Some (string model_type)) ∷ attributes
+
 -- a document of a sort, which has one modelType
 abbrev pub document : Sort → List ℕ → Attributes → Data
-document sort model_type attributes = spelled (unwrap_or (find model_type (model_types sort)) []) ((codes "modelType", Some (string model_type)) ∷ attributes)
+document sort model_type attributes = spelled (unwrap_or (find model_type (model_types sort)) []) (typed model_type attributes)
 
 -- AssetAdministrationShell
-abbrev pub spell_shell : Shell → Data
-spell_shell s = document shell (codes "AssetAdministrationShell") (head_attributes s.head ++
+abbrev pub shell_attributes : Shell → Attributes
+shell_attributes s =
     (codes "assetInformation", Some (spell_asset_information s.asset))
     ∷ (codes "derivedFrom", option_map spell_reference s.derived_from)
     ∷ (codes "submodels", list_of spell_reference s.submodels)
-    ∷ [])
+    ∷ []
+
+abbrev pub spell_shell : Shell → Data
+spell_shell s = document shell (codes "AssetAdministrationShell") (head_attributes s.head ++ shell_attributes s)
 
 -- Submodel
-abbrev pub spell_submodel : Submodel → Data
-spell_submodel s = document submodel (codes "Submodel") (head_attributes s.head ++
+abbrev pub submodel_attributes : Submodel → Attributes
+submodel_attributes s =
     (codes "kind", option_map (λ k. string (modelling_kind.name_of k)) s.kind)
     ∷ semantics_attributes s.semantics ++
     (codes "qualifiers", list_of spell_qualifier s.qualifiers)
     ∷ (codes "submodelElements", list_of spell_element s.kids)
-    ∷ [])
+    ∷ []
+
+abbrev pub spell_submodel : Submodel → Data
+spell_submodel s = document submodel (codes "Submodel") (head_attributes s.head ++ submodel_attributes s)
 
 -- ConceptDescription
-abbrev pub spell_concept : Concept → Data
-spell_concept c = document concept (codes "ConceptDescription") (head_attributes c.head ++
+abbrev pub concept_attributes : Concept → Attributes
+concept_attributes c =
     (codes "isCaseOf", list_of spell_reference c.is_case_of)
-    ∷ [])
+    ∷ []
+
+abbrev pub spell_concept : Concept → Data
+spell_concept c = document concept (codes "ConceptDescription") (head_attributes c.head ++ concept_attributes c)
 
 -- Environment
 abbrev pub spell_environment : Environment → Data

@@ -1,20 +1,13 @@
 -- The text of a submodel is the canonical one where those of its elements are.
-use Rattle.std.proofs.Common.{◌≡◌, ℕ, false, List, [], ◌∷◌, ◌++◌, map, codes, option_map, refl, sym, ap, ap₂, ◌∙◌, append_assoc}
+use Rattle.std.proofs.Common.{◌≡◌, ℕ, false, List, [], ◌∷◌, ◌++◌, map, codes, refl, sym, ap, ap₂, ◌∙◌, append_assoc}
 use Rattle.serde_json.specs.Written.{compact_text}
-use Rattle.aas_json_mapping.specs.Documents.{head_attributes}
 use Rattle.aas_json_mapping.specs.Elements.{spell_element}
-use Rattle.aas_json_mapping.specs.Parts.{semantics_attributes, spell_asset_information, spell_qualifier}
 use Rattle.aas_json_table.specs.Rows.{find, sorted}
-use Rattle.aas_json_table.specs.Spelled.{Attributes, attribute, list_of}
+use Rattle.aas_json_table.specs.Spelled.{attribute}
 use Rattle.aas_json_table.specs.Table.{Row, model_types, submodel}
-use Rattle.aas_model.specs.declared.documents.Concept.{Concept}
-use Rattle.aas_model.specs.declared.documents.Shell.{Shell}
 use Rattle.aas_model.specs.declared.documents.Submodel.{Submodel}
 use Rattle.aas_model.specs.declared.element.Element.{Element}
-use Rattle.aas_model_names.specs.ModellingKindNames as modelling_kind
-use Rattle.serde_json.specs.Data.{string}
-use Rattle.aas_reference.specs.Spelling.{spell_reference}
-use Rattle.aas_members_text.specs.Heads.{later_before, names_before, names_behind, submodel_fields, submodel_text, SubmodelsHaveTheCanonicalText, ShownSubmodelsHaveTheCanonicalText}
+use Rattle.aas_members_text.specs.Heads.{all_attributes, later_before, names_before, names_behind, submodel_fields, submodel_text, SubmodelsHaveTheCanonicalText, ShownSubmodelsHaveTheCanonicalText}
 use Rattle.aas_members_text.specs.Members.{Field, fields_text}
 use Rattle.aas_members_text.proofs.Fields.{fields_text-append, members_are_fields}
 use Rattle.aas_members_text.specs.Script.{Spoken}
@@ -22,18 +15,7 @@ use Rattle.aas_members_text.specs.Texts.{shown, spoken}
 use Rattle.aas_members_text.specs.declared.members.Show.{Show}
 use Rattle.aas_members_text.proofs.Trees as trees
 use Rattle.aas_members_text.proofs.Stops.{array_of, array_text, listed_is_field}
-use Rattle.std.proofs.Common.{Some, unwrap_or}
-
--- all that a submodel has
-abbrev all_attributes : Submodel → Attributes
-all_attributes s =
-    (codes "modelType", Some (string (codes "Submodel")))
-    ∷ head_attributes s.head ++
-    (codes "kind", option_map (λ k. string (modelling_kind.name_of k)) s.kind)
-    ∷ semantics_attributes s.semantics ++
-    (codes "qualifiers", list_of spell_qualifier s.qualifiers)
-    ∷ (codes "submodelElements", list_of spell_element s.kids)
-    ∷ []
+use Rattle.std.proofs.Common.{unwrap_or}
 
 abbrev submodel_rows : List Row
 submodel_rows = sorted (unwrap_or (find (codes "Submodel") (model_types submodel)) [])
@@ -70,21 +52,3 @@ shown_texts w (e ∷ es) = ap₂ (λ t ts. t ∷ ts) (ap (λ (v : Spoken). v.tex
 
 pub shown_canonical : ShownSubmodelsHaveTheCanonicalText
 shown_canonical w s = ap (submodel_text s) (shown_texts w s.kids) ∙ canonical (record s { kids = map (λ e. shown w e 1) s.kids })
-
--- ---- the attributes of the other documents
-
-abbrev pub shell_attributes : Shell → Attributes
-shell_attributes s =
-    (codes "modelType", Some (string (codes "AssetAdministrationShell")))
-    ∷ head_attributes s.head ++
-    (codes "assetInformation", Some (spell_asset_information s.asset))
-    ∷ (codes "derivedFrom", option_map spell_reference s.derived_from)
-    ∷ (codes "submodels", list_of spell_reference s.submodels)
-    ∷ []
-
-abbrev pub concept_attributes : Concept → Attributes
-concept_attributes c =
-    (codes "modelType", Some (string (codes "ConceptDescription")))
-    ∷ head_attributes c.head ++
-    (codes "isCaseOf", list_of spell_reference c.is_case_of)
-    ∷ []

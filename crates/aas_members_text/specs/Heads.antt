@@ -1,15 +1,12 @@
 -- The members of documents, and where a submodel's elements stand among its own.
-use Rattle.std.specs.Prelude.{◌≡◌, ℕ, ◌||◌, Bool, List, [], ◌∷◌, ◌++◌, false, codes, map, Some, option_map}
+use Rattle.std.specs.Prelude.{◌≡◌, ℕ, ◌||◌, Bool, List, [], ◌∷◌, ◌++◌, false, codes, map, option_map}
 use Rattle.serde_json.specs.Written.{compact_text}
-use Rattle.aas_json_mapping.specs.Documents.{head_attributes, spell_submodel}
+use Rattle.aas_json_mapping.specs.Documents.{typed, head_attributes, submodel_attributes, spell_submodel}
 use Rattle.aas_json_mapping.specs.Elements.{spell_element}
-use Rattle.aas_json_mapping.specs.Parts.{semantics_attributes, spell_qualifier}
-use Rattle.aas_json_table.specs.Spelled.{Attributes, attribute, list_of}
+use Rattle.aas_json_table.specs.Spelled.{Attributes, attribute}
 use Rattle.aas_json_table.specs.Table.{text}
 use Rattle.aas_model.specs.declared.common.Head.{Head}
 use Rattle.aas_model.specs.declared.documents.Submodel.{Submodel}
-use Rattle.aas_model_names.specs.ModellingKindNames as modelling_kind
-use Rattle.serde_json.specs.Data.{string}
 use Rattle.aas_members_text.specs.Members.{Field, fields_text, later_after}
 use Rattle.aas_members_text.specs.Script.{is_any, listed_text}
 use Rattle.aas_members_text.specs.Texts.{shown, spoken}
@@ -24,18 +21,12 @@ described_names = codes "description" ∷ codes "displayName" ∷ codes "embedde
 
 -- ---- submodels
 
--- what a submodel has besides its elements
-abbrev pub submodel_attributes : Submodel → Attributes
-submodel_attributes s =
-    (codes "modelType", Some (string (codes "Submodel")))
-    ∷ head_attributes s.head ++
-    (codes "kind", option_map (λ k. string (modelling_kind.name_of k)) s.kind)
-    ∷ semantics_attributes s.semantics ++
-    (codes "qualifiers", list_of spell_qualifier s.qualifiers)
-    ∷ []
+abbrev pub all_attributes : Submodel → Attributes
+all_attributes s = typed (codes "Submodel") (head_attributes s.head ++ submodel_attributes s)
 
+-- the members of a submodel that have these names
 abbrev pub submodel_fields : Submodel → List (List ℕ) → List Field
-submodel_fields s ns = map (λ n. (n, option_map compact_text (attribute (submodel_attributes s) n text))) ns
+submodel_fields s ns = map (λ n. (n, option_map compact_text (attribute (all_attributes s) n text))) ns
 
 -- the names of the members before the elements, and of those behind
 abbrev pub names_before : List (List ℕ)
