@@ -1,4 +1,4 @@
-use Rattle.std.proofs.Common.{◌≡◌, [], ◌∷◌, ◌++◌, Some, None, MatchOption, codes, refl, sym, subst, rules, IsTrue}
+use Rattle.std.proofs.Common.{◌≡◌, ◌++◌, Some, None, MatchOption, codes, refl, sym, subst, rules, IsTrue}
 use Rattle.serde_json.specs.Data.{string}
 use Rattle.serde_json.specs.View.{members_view}
 use Rattle.aas_json_table.specs.Canonical.{canonical_member}
@@ -6,9 +6,7 @@ use Rattle.aas_json_table.specs.Table.{concept, required, text}
 use Rattle.aas_json_read.specs.Found.{FindsHead}
 use Rattle.aas_json_read.proofs.DocumentLevels.{document_is, document_lacks, no_document}
 use Rattle.aas_json_read.proofs.documents.concept_in.Goals as goal
-use Rattle.aas_json_mapping.specs.Documents.{head_attributes}
-use Rattle.aas_json_table.specs.Spelled.{list_of}
-use Rattle.aas_reference.specs.Spelling.{spell_reference}
+use Rattle.aas_json_mapping.specs.Documents.{typed, head_attributes, concept_attributes}
 
 pub returns-then-not-has_model_type : goal.returns-then-not-has_model_type
 returns-then-not-has_model_type c =
@@ -23,8 +21,8 @@ returns-in_default c =
 pub returns : goal.returns
 returns c =
     let ms = members_view c.args.members.now.entries in
-    let typed : canonical_member ms (codes "modelType") text ≡ Some (string (codes "ConceptDescription")) = c.has_model_type.ensures.0 (search rules) in
+    let named : canonical_member ms (codes "modelType") text ≡ Some (string (codes "ConceptDescription")) = c.has_model_type.ensures.0 (search rules) in
     let h = subst (λ o. MatchOption o (canonical_member ms (codes "id") text ≡ None) (FindsHead (canonical_member ms))) c.in-Some.is c.in_ok-head.ensures in
-    document_is concept (codes "ConceptDescription") _ refl ms typed
-    ((codes "modelType", Some (string (codes "ConceptDescription"))) ∷ head_attributes c.in-Some.head ++ (codes "isCaseOf", list_of spell_reference c.in_ok-is_case_of.is_case_of) ∷ [])
-    (record { agree = (h.category, (h.description, (h.display_name, (h.extensions, (h.id_short, (sym typed, (h.specifications, (h.id, (h.administration, (c.in_ok-is_case_of.ensures, tt)))))))))); there = refl })
+    document_is concept (codes "ConceptDescription") _ refl ms named
+    (typed (codes "ConceptDescription") (head_attributes c.in-Some.head ++ concept_attributes (record { head = c.in-Some.head; is_case_of = c.in_ok-is_case_of.is_case_of })))
+    (record { agree = (h.category, (h.description, (h.display_name, (h.extensions, (h.id_short, (sym named, (h.specifications, (h.id, (h.administration, (c.in_ok-is_case_of.ensures, tt)))))))))); there = refl })

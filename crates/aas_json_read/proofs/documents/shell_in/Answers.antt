@@ -1,4 +1,4 @@
-use Rattle.std.proofs.Common.{◌≡◌, ◌∙◌, [], ◌∷◌, ◌++◌, Some, None, MatchOption, codes, option_map, ap, refl, sym, subst, rules, IsTrue}
+use Rattle.std.proofs.Common.{◌≡◌, ◌∙◌, ◌++◌, Some, None, MatchOption, codes, option_map, ap, refl, sym, subst, rules, IsTrue}
 use Rattle.serde_json.specs.Data.{string}
 use Rattle.serde_json.specs.View.{members_view}
 use Rattle.aas_json_table.specs.Canonical.{canonical_member}
@@ -6,10 +6,8 @@ use Rattle.aas_json_table.specs.Table.{shell, required, text, one, asset_informa
 use Rattle.aas_json_read.specs.Found.{FindsHead}
 use Rattle.aas_json_read.proofs.DocumentLevels.{document_is, document_lacks, no_document}
 use Rattle.aas_json_read.proofs.documents.shell_in.Goals as goal
-use Rattle.aas_json_mapping.specs.Documents.{head_attributes}
+use Rattle.aas_json_mapping.specs.Documents.{typed, head_attributes, shell_attributes}
 use Rattle.aas_json_mapping.specs.Parts.{spell_asset_information}
-use Rattle.aas_json_table.specs.Spelled.{list_of}
-use Rattle.aas_reference.specs.Spelling.{spell_reference}
 
 pub returns-then-not-has_model_type : goal.returns-then-not-has_model_type
 returns-then-not-has_model_type c =
@@ -30,8 +28,8 @@ returns-in_default-2 c =
 pub returns : goal.returns
 returns c =
     let ms = members_view c.args.members.now.entries in
-    let typed : canonical_member ms (codes "modelType") text ≡ Some (string (codes "AssetAdministrationShell")) = c.has_model_type.ensures.0 (search rules) in
+    let named : canonical_member ms (codes "modelType") text ≡ Some (string (codes "AssetAdministrationShell")) = c.has_model_type.ensures.0 (search rules) in
     let h = subst (λ o. MatchOption o (canonical_member ms (codes "id") text ≡ None) (FindsHead (canonical_member ms))) c.in-Some.is c.in_ok-head.ensures in
-    document_is shell (codes "AssetAdministrationShell") _ refl ms typed
-    ((codes "modelType", Some (string (codes "AssetAdministrationShell"))) ∷ head_attributes c.in-Some.head ++ (codes "assetInformation", Some (spell_asset_information c.in-Some-2.asset)) ∷ (codes "derivedFrom", option_map spell_reference c.in_ok-one_member.field-0) ∷ (codes "submodels", list_of spell_reference c.in_ok-list_member.field-0) ∷ [])
-    (record { agree = (h.category, (h.description, (h.display_name, (h.extensions, (h.id_short, (sym typed, (h.specifications, (h.id, (h.administration, (ap (option_map spell_asset_information) (sym c.in-Some-2.is) ∙ c.in_ok-asset.ensures, (c.in_ok-one_member.ensures, (c.in_ok-list_member.ensures, tt)))))))))))); there = refl })
+    document_is shell (codes "AssetAdministrationShell") _ refl ms named
+    (typed (codes "AssetAdministrationShell") (head_attributes c.in-Some.head ++ shell_attributes (record { head = c.in-Some.head; asset = c.in-Some-2.asset; derived_from = c.in_ok-one_member.field-0; submodels = c.in_ok-list_member.field-0 })))
+    (record { agree = (h.category, (h.description, (h.display_name, (h.extensions, (h.id_short, (sym named, (h.specifications, (h.id, (h.administration, (ap (option_map spell_asset_information) (sym c.in-Some-2.is) ∙ c.in_ok-asset.ensures, (c.in_ok-one_member.ensures, (c.in_ok-list_member.ensures, tt)))))))))))); there = refl })

@@ -1,4 +1,4 @@
-use Rattle.std.proofs.Common.{◌≡◌, [], ◌∷◌, ◌++◌, Some, None, MatchOption, codes, option_map, refl, sym, subst, rules, IsTrue}
+use Rattle.std.proofs.Common.{◌≡◌, ◌++◌, Some, None, MatchOption, codes, refl, sym, subst, rules, IsTrue}
 use Rattle.serde_json.specs.Data.{string}
 use Rattle.serde_json.specs.View.{members_view}
 use Rattle.aas_json_table.specs.Canonical.{canonical_member}
@@ -6,11 +6,7 @@ use Rattle.aas_json_table.specs.Table.{submodel, required, text}
 use Rattle.aas_json_read.specs.Found.{FindsHead}
 use Rattle.aas_json_read.proofs.DocumentLevels.{document_is, document_lacks, no_document}
 use Rattle.aas_json_read.proofs.documents.submodel_in.Goals as goal
-use Rattle.aas_json_mapping.specs.Documents.{head_attributes}
-use Rattle.aas_json_mapping.specs.Elements.{spell_element}
-use Rattle.aas_json_mapping.specs.Parts.{spell_qualifier, semantics_attributes}
-use Rattle.aas_model_names.specs.ModellingKindNames.{name_of}
-use Rattle.aas_json_table.specs.Spelled.{list_of}
+use Rattle.aas_json_mapping.specs.Documents.{typed, head_attributes, submodel_attributes}
 
 pub returns-then-not-has_model_type-clause-says : goal.returns-then-not-has_model_type-clause-says
 returns-then-not-has_model_type-clause-says c =
@@ -25,8 +21,8 @@ returns-in_default-clause-says c =
 pub returns-clause-says : goal.returns-clause-says
 returns-clause-says c =
     let ms = members_view c.args.members.now.entries in
-    let typed : canonical_member ms (codes "modelType") text ≡ Some (string (codes "Submodel")) = c.has_model_type.ensures.0 (search rules) in
+    let named : canonical_member ms (codes "modelType") text ≡ Some (string (codes "Submodel")) = c.has_model_type.ensures.0 (search rules) in
     let h = subst (λ o. MatchOption o (canonical_member ms (codes "id") text ≡ None) (FindsHead (canonical_member ms))) c.in-Some.is c.in_ok-head.ensures in
-    document_is submodel (codes "Submodel") _ refl ms typed
-    ((codes "modelType", Some (string (codes "Submodel"))) ∷ head_attributes c.in-Some.head ++ (codes "kind", option_map (λ k. string (name_of k)) c.word_member.result) ∷ semantics_attributes c.in_ok-semantics_in.field-0 ++ (codes "qualifiers", list_of spell_qualifier c.in_ok-list_member.field-0) ∷ (codes "submodelElements", list_of spell_element c.in_ok-members_in.field-0) ∷ [])
-    (record { agree = (h.category, (h.description, (h.display_name, (h.extensions, (h.id_short, (sym typed, (h.specifications, (h.id, (h.administration, (c.word_member.ensures, (c.in_ok-semantics_in.ensures.semantic_id, (c.in_ok-semantics_in.ensures.supplemental, (c.in_ok-list_member.ensures, (c.in_ok-members_in.ensures.says, tt)))))))))))))); there = refl })
+    document_is submodel (codes "Submodel") _ refl ms named
+    (typed (codes "Submodel") (head_attributes c.in-Some.head ++ submodel_attributes (record { head = c.in-Some.head; kind = c.word_member.result; semantics = c.in_ok-semantics_in.field-0; qualifiers = c.in_ok-list_member.field-0; kids = c.in_ok-members_in.field-0 })))
+    (record { agree = (h.category, (h.description, (h.display_name, (h.extensions, (h.id_short, (sym named, (h.specifications, (h.id, (h.administration, (c.word_member.ensures, (c.in_ok-semantics_in.ensures.semantic_id, (c.in_ok-semantics_in.ensures.supplemental, (c.in_ok-list_member.ensures, (c.in_ok-members_in.ensures.says, tt)))))))))))))); there = refl })
