@@ -34,6 +34,10 @@ name_put later s m t r a b c d name opening bytes opened same h g k =
     (ap₂ (λ x y. x ++ (escape y ++ 34 ∷ 58 ∷ [])) opened same ∙ append_assoc (comma_if later) (34 ∷ []) (escape name ++ 34 ∷ 58 ∷ [])
     ∙ ap (λ x. comma_if later ++ 34 ∷ x) (sym (append_assoc (escape name) (34 ∷ []) (58 ∷ []))))
 
+-- what was put of a name that is plain is its escaped form
+pub name_plain : {K : Type 0} (s r : Pouring) (a b : Told K) (name bytes : List ℕ) → bytes ≡ name → escape name ≡ name → Adds s r a b bytes → Adds s r a b (escape bytes)
+name_plain s r a b name bytes same plain h = adds_same s r a b bytes (escape bytes) h (same ∙ sym plain ∙ ap escape (sym same))
+
 -- ---- members
 
 -- a member's name, and then its value

@@ -3,7 +3,7 @@
 --
 -- One list of names serves all kinds: of the members that any element has, in byte order. Children can stand at six
 -- places in it, the stops 6 down to 1, which cut the list into the parts 6 down to 0. What a kind lacks is simply not there.
-use Rattle.std.specs.Prelude.{ℕ, ◌&&◌, ◌==◌, nat_lt, List, [], ◌∷◌, ◌++◌, Bool, true, false, codes, map, if◌then◌else◌, Option, Some, None, option_map}
+use Rattle.std.specs.Prelude.{ℕ, not, ◌&&◌, ◌==◌, nat_lt, List, [], ◌∷◌, ◌++◌, Bool, true, false, codes, map, if◌then◌else◌, Option, Some, None, option_map}
 use Rattle.json.specs.Print.{quoted}
 use Rattle.serde_json.specs.Written.{comma_if, compact_text}
 use Rattle.aas_json_mapping.specs.Elements.{is_input, is_output, is_inoutput, element_attributes}
@@ -16,6 +16,15 @@ use Rattle.aas_rows.specs.Rows.{Line}
 use Rattle.aas_members_text.specs.declared.members.Show.{Show}
 
 -- ---- members
+
+-- a byte that stands for itself in a JSON string (RFC 8259, section 7)
+abbrev pub is_unescaped : ℕ → Bool
+is_unescaped x = nat_lt 31 x && (not (x == 34) && not (x == 92))
+
+-- a name that stands in a text as it is
+abbrev pub is_plain : List ℕ → Bool
+is_plain [] = true
+is_plain (x ∷ name) = is_unescaped x && is_plain name
 
 -- a member's name, and the text of its value where it has one
 abbrev pub Field : Type 0

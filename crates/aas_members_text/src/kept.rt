@@ -8,7 +8,7 @@ ghost use Rattle.aas_json_table.specs.Spelled.{onto};
 ghost use Rattle.aas_out.specs.Adds.{Adds};
 
 use crate::members::Pen;
-use crate::pen::{add_flag, add_name, end_object};
+use crate::pen::{add_any_name, add_flag, end_object};
 use crate::poured::{Poured, comma_of};
 use crate::quoted::add_quoted;
 use aas_model::{Many, Plain, PlainPair};
@@ -71,7 +71,7 @@ fn pour_pairs<O: Out>(so_far: Pouring, pairs: &Many<PlainPair>, out: &mut O) -> 
         later: false,
     };
     for pair in pairs.as_slice() {
-        let named = add_name(pen, pair.name.as_str(), out);
+        let named = add_any_name(pen, pair.name.as_str(), out);
         pen = Pen {
             state: pour_plain(named, &pair.value, out),
             later: true,

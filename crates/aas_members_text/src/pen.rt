@@ -1,10 +1,11 @@
 // Members of an object, one after another.
-ghost use Rattle.std.specs.Prelude.{◌≡◌, ◌∷◌, ◌++◌, [], Some, option_map};
+ghost use Rattle.std.specs.Prelude.{◌≡◌, ◌∷◌, ◌++◌, [], Some, true, option_map};
 ghost use Rattle.std.specs.Str.{chars};
 ghost use Rattle.json.specs.Print.{quoted};
 ghost use Rattle.serde_json.specs.Data.{boolean, string};
 ghost use Rattle.serde_json.specs.Written.{comma_if, compact_text};
 ghost use Rattle.aas_json_table.specs.Spelled.{list_of, text_of};
+ghost use Rattle.aas_members_text.specs.Members.{is_plain};
 ghost use Rattle.aas_members_text.specs.Puts.{BeginsObject, PutsFields};
 ghost use Rattle.aas_out.specs.Adds.{Adds};
 
@@ -40,6 +41,16 @@ fn before_name(later: bool) -> &'static [u8]
 
 /// Puts the name of a member, with a comma where a member stands before it.
 pub(crate) fn add_name<O: Out>(pen: Pen, name: &str, out: &mut O) -> Pouring
+    requires plain { is_plain name.now ≡ true }
+    ensures { Adds pen.state result (O.told out.old) (O.told out.new) (comma_if pen.later ++ (quoted name.now ++ 58 ∷ [])) }
+{
+    let opened = add(pen.state, before_name(pen.later), out);
+    let named = add(opened, name.as_bytes(), out);
+    add(named, b"\":", out)
+}
+
+/// Puts a name that may have any characters, with a comma where a member stands before it.
+pub(crate) fn add_any_name<O: Out>(pen: Pen, name: &str, out: &mut O) -> Pouring
     ensures { Adds pen.state result (O.told out.old) (O.told out.new) (comma_if pen.later ++ (quoted name.now ++ 58 ∷ [])) }
 {
     let opened = add(pen.state, before_name(pen.later), out);
@@ -49,10 +60,11 @@ pub(crate) fn add_name<O: Out>(pen: Pen, name: &str, out: &mut O) -> Pouring
 
 /// Puts a member whose value is a string.
 pub(crate) fn put_string<O: Out>(pen: Pen, name: &str, value: &str, out: &mut O) -> Pen
+    requires plain { is_plain name.now ≡ true }
     ensures { PutsFields pen result (O.told out.old) (O.told out.new) ((name.now, Some (compact_text (string value.now))) ∷ []) }
 {
     let opened = add(pen.state, before_name(pen.later), out);
-    let named = add_escaped(opened, name.as_bytes(), out);
+    let named = add(opened, name.as_bytes(), out);
     let between = add(named, b"\":\"", out);
     let valued = add_escaped(between, value.as_bytes(), out);
     Pen {
@@ -62,12 +74,14 @@ pub(crate) fn put_string<O: Out>(pen: Pen, name: &str, value: &str, out: &mut O)
 }
 
 /// Puts a member whose value is a text, where there is one.
+#[inline]
 pub(crate) fn put_optional_str<O: Out>(
     pen: Pen,
     name: &str,
     value: Option<&str>,
     out: &mut O,
 ) -> Pen
+    requires plain { is_plain name.now ≡ true }
     ensures { PutsFields pen result (O.told out.old) (O.told out.new) ((name.now, option_map compact_text (option_map text_of (option_map (λ s. chars s.now) value.entry))) ∷ []) }
 {
     match value {
@@ -77,25 +91,30 @@ pub(crate) fn put_optional_str<O: Out>(
 }
 
 fn put_characters<O: Out>(pen: Pen, name: &str, text: &str, out: &mut O) -> Pen
+    requires plain { is_plain name.now ≡ true }
     ensures { PutsFields pen result (O.told out.old) (O.told out.new) ((name.now, Some (compact_text (text_of (chars text.now)))) ∷ []) }
 {
     put_string(pen, name, text, out)
 }
 
 /// Puts a member whose value is the name of a value of an enumeration.
+#[inline]
 pub(crate) fn put_word<V: Named, O: Out>(pen: Pen, name: &str, value: V, out: &mut O) -> Pen
+    requires plain { is_plain name.now ≡ true }
     ensures { PutsFields pen result (O.told out.old) (O.told out.new) ((name.now, Some (compact_text (string (V.name_of value)))) ∷ []) }
 {
     put_string(pen, name, value.name(), out)
 }
 
 /// The same, where there may be none.
+#[inline]
 pub(crate) fn put_optional_word<V: Named, O: Out>(
     pen: Pen,
     name: &str,
     value: Option<V>,
     out: &mut O,
 ) -> Pen
+    requires plain { is_plain name.now ≡ true }
     ensures { PutsFields pen result (O.told out.old) (O.told out.new) ((name.now, option_map compact_text (option_map (λ v. string (V.name_of v)) value)) ∷ []) }
 {
     match value {
@@ -105,12 +124,14 @@ pub(crate) fn put_optional_word<V: Named, O: Out>(
 }
 
 /// Puts a member whose value is a truth value, where there is one.
+#[inline]
 pub(crate) fn put_optional_flag<O: Out>(
     pen: Pen,
     name: &str,
     value: Option<bool>,
     out: &mut O,
 ) -> Pen
+    requires plain { is_plain name.now ≡ true }
     ensures { PutsFields pen result (O.told out.old) (O.told out.new) ((name.now, option_map compact_text (option_map boolean value)) ∷ []) }
 {
     match value {
@@ -138,6 +159,7 @@ pub(crate) fn add_flag<O: Out>(so_far: Pouring, flag: bool, out: &mut O) -> Pour
 
 /// Puts a member whose value is of a sort.
 pub(crate) fn put_one<P: Poured, O: Out>(pen: Pen, name: &str, value: &P::Tree, out: &mut O) -> Pen
+    requires plain { is_plain name.now ≡ true }
     ensures { PutsFields pen result (O.told out.old) (O.told out.new) ((name.now, Some (compact_text (P.spell value.now))) ∷ []) }
 {
     let named = add_name(pen, name, out);
@@ -148,12 +170,14 @@ pub(crate) fn put_one<P: Poured, O: Out>(pen: Pen, name: &str, value: &P::Tree, 
 }
 
 /// The same, where there may be none.
+#[inline]
 pub(crate) fn put_optional<P: Poured, O: Out>(
     pen: Pen,
     name: &str,
     value: &Option<P::Tree>,
     out: &mut O,
 ) -> Pen
+    requires plain { is_plain name.now ≡ true }
     ensures { PutsFields pen result (O.told out.old) (O.told out.new) ((name.now, option_map compact_text (option_map P.spell value.now)) ∷ []) }
 {
     match value {
@@ -163,7 +187,9 @@ pub(crate) fn put_optional<P: Poured, O: Out>(
 }
 
 /// Puts a member whose value is an array, unless it has no items.
+#[inline]
 pub fn put_list<P: Poured, O: Out>(pen: Pen, name: &str, values: &Many<P::Tree>, out: &mut O) -> Pen
+    requires plain { is_plain name.now ≡ true }
     ensures { PutsFields pen result (O.told out.old) (O.told out.new) ((name.now, option_map compact_text (list_of P.spell values.now)) ∷ []) }
 {
     if values.is_empty() {

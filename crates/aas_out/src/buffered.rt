@@ -77,6 +77,7 @@ impl<'a, L: Link> BufferOut<'a, L> {
     }
 
     /// Holds `bytes` too, where there is room for them.
+    #[inline]
     fn hold(&mut self, bytes: &[u8]) -> bool
         ensures link { self.new.link ≡ self.old.link }
         ensures held { held_by self.new ≡ (if result then held_by self.old ++ bytes.now else held_by self.old) }

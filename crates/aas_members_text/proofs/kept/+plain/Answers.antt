@@ -62,7 +62,7 @@ pour_pairs-loop-pair-preserved g t c =
     let name = comma_if later ++ (quoted c.as_str.result.now ++ 58 ∷ []) in
     let below : i < length pairs = omega arith in
     front_more c.pour_plain.result (g.O.Out.told c.pour_plain.new.out) (name ++ value) (pairs_left true (drop (i + 1) pairs)) c.loop-pair.invariant
-    (adds_both c.loop-pair.pen.state c.add_name-named.result c.pour_plain.result (g.O.Out.told c.loop-pair.out) (g.O.Out.told c.add_name-named.new.out) (g.O.Out.told c.pour_plain.new.out) name value c.add_name-named.ensures c.pour_plain.ensures)
+    (adds_both c.loop-pair.pen.state c.add_any_name-named.result c.pour_plain.result (g.O.Out.told c.loop-pair.out) (g.O.Out.told c.add_any_name-named.new.out) (g.O.Out.told c.pour_plain.new.out) name value c.add_any_name-named.ensures c.pour_plain.ensures)
     (pair_first later pairs i pair c.as_str.result.now below c.pair-item.is c.as_str.ensures.bytes)
 
 pub pour_pairs-returns : goal.pour_pairs-returns
