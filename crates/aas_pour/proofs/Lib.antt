@@ -1,4 +1,5 @@
 pub mod Ahead
+pub mod Bare
 pub mod Documents
 pub mod FromTrees
 pub mod Going

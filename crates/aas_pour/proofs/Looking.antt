@@ -58,21 +58,26 @@ and_false : (a b : Bool) → b ≡ false → (a && b) ≡ false
 and_false true b h = h
 and_false false b h = refl
 
+-- nothing is shown below the last level that has some
+pub cut_shown : (w : Show) (r : Line) (j : ℕ) (vs : List Spoken) → w.cut ≤ r.level → at_stop w r j vs ≡ []
+cut_shown w r j vs high =
+    ap (map (λ (v : Spoken). opening j ++ (v.text ++ closing j)))
+    (none_shown (λ (v : Spoken). nat_lt r.level w.cut && (has_stop j r.payload && role_fits j v.role)) vs (λ v. ap (λ b. b && (has_stop j r.payload && role_fits j v.role)) (lt_false r.level w.cut high)))
+
+-- nor at a stop that the kind doesn't have
+pub unstopped_shown : (w : Show) (r : Line) (j : ℕ) (vs : List Spoken) → has_stop j r.payload ≡ false → at_stop w r j vs ≡ []
+unstopped_shown w r j vs none =
+    ap (map (λ (v : Spoken). opening j ++ (v.text ++ closing j)))
+    (none_shown (λ (v : Spoken). nat_lt r.level w.cut && (has_stop j r.payload && role_fits j v.role)) vs
+    (λ v. and_false (nat_lt r.level w.cut) (has_stop j r.payload && role_fits j v.role) (ap (λ b. b && role_fits j v.role) none)))
+
 pub cut_off : (w : Show) (r : Line) (j : ℕ) (rows : List Line) (from after : ℕ) → AreBelow rows r.level from after → w.cut ≤ r.level → IsFirst w rows r j from (sought.End after)
 unfolding IsFirst
-cut_off w r j rows from after below high = (
-  ap (map (λ (v : Spoken). opening j ++ (v.text ++ closing j))) (none_shown (λ (v : Spoken). nat_lt r.level w.cut && (has_stop j r.payload && role_fits j v.role)) (voices w r.level (drop from rows))
-      (λ v. ap (λ b. b && (has_stop j r.payload && role_fits j v.role)) (lt_false r.level w.cut high))),
-  below,
-)
+cut_off w r j rows from after below high = (cut_shown w r j (voices w r.level (drop from rows)) high, below)
 
 pub no_stop : (w : Show) (r : Line) (j : ℕ) (rows : List Line) (from after : ℕ) → AreBelow rows r.level from after → has_stop j r.payload ≡ false → IsFirst w rows r j from (sought.End after)
 unfolding IsFirst
-no_stop w r j rows from after below none = (
-  ap (map (λ (v : Spoken). opening j ++ (v.text ++ closing j))) (none_shown (λ (v : Spoken). nat_lt r.level w.cut && (has_stop j r.payload && role_fits j v.role)) (voices w r.level (drop from rows))
-      (λ v. and_false (nat_lt r.level w.cut) (has_stop j r.payload && role_fits j v.role) (ap (λ b. b && role_fits j v.role) none))),
-  below,
-)
+no_stop w r j rows from after below none = (unstopped_shown w r j (voices w r.level (drop from rows)) none, below)
 
 -- ---- rows below a level
 

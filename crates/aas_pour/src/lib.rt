@@ -8,6 +8,7 @@
 
 #![tactic(auto)]
 
+mod childless;
 mod children;
 mod elements;
 mod environment;

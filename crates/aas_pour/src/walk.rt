@@ -4,6 +4,7 @@ ghost use Rattle.aas_out.specs.Adds.{Adds};
 ghost use Rattle.aas_pour.specs.Poured.{AreLow, HasRow, text_at};
 ghost use Rattle.aas_pour.specs.Walk.{IsWalk, Poured, up, walk_left, work};
 
+use crate::childless::{is_childless, put_childless};
 use crate::children::{Sought, first_child};
 use crate::rows::Rows;
 use crate::stops::{closing_of, put_name, put_open};
@@ -83,7 +84,8 @@ fn leave<R: Rows, O: Out>(
     }
 }
 
-/// One step of the walk: a part of the current element, and what stands behind it.
+/// One step of the walk: a part of the current element and what stands behind it, or all of an element below which nothing is
+/// shown.
 fn step<R: Rows, M: Members, O: Out>(
     so_far: Pouring,
     rows: &R,
@@ -103,6 +105,12 @@ fn step<R: Rows, M: Members, O: Out>(
         return add(so_far, b"", out);
     };
     let stop = walk.next;
+    if stop == 6 && is_childless(show, &row) {
+        let put = put_childless(so_far, members, show, &row, walk.later, out);
+        walk.next = 0;
+        walk.after = walk.rank + 1;
+        return leave(put, rows, show, walk, out);
+    }
     let pen = members.put_part(so_far, show, &row, stop, walk.later, out);
     if stop == 0 {
         let closed = add(pen.state, b"}", out);

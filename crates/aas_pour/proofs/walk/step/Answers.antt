@@ -4,7 +4,10 @@ use Rattle.aas_rows.specs.Rows.{Line}
 use Rattle.aas_out.specs.Adds.{Adds}
 use Rattle.aas_members_text.specs.Members.{opening, part, fields_text, field_text, later_after, stop_name}
 use Rattle.aas_rows.specs.Views.{line_of}
-use Rattle.aas_pour.specs.Walk.{AreBelow, IsNested, remaining, walk_left}
+use Rattle.aas_members_text.specs.Script.{script}
+use Rattle.aas_pour.specs.Poured.{if_row, kids_at}
+use Rattle.aas_pour.specs.Walk.{AreBelow, IsNested, remaining, up, walk_left}
+use Rattle.aas_pour.proofs.Bare.{long_front, script_some}
 use Rattle.aas_pour.specs.declared.children.Sought.TheVariants as sought
 use Rattle.aas_pour.specs.declared.walk.Frame.{Frame}
 use Rattle.aas_out.proofs.Adding.{adds_both}
@@ -34,10 +37,48 @@ leave-requires-clause-there g c =
     let room : 0 + length c.args.walk.now.open.items < c.in-Some.row.level = nested_room rows 0 c.args.walk.now.open.items c.args.walk.now.rank (line_of c.in-Some.row) c.requires.walk.nested (sym c.in-Some.ensures.row) in
     (line_of c.in-Some.row, sym c.in-Some.ensures.row, omega (arith, room))
 
+pub leave-requires-then-stop-eq0-clause-there : goal.leave-requires-then-stop-eq0-clause-there
+leave-requires-then-stop-eq0-clause-there g c =
+    let rows : List Line = g.R.Rows.lines c.args.rows.now in
+    let room : 0 + length c.args.walk.now.open.items < c.in-Some.row.level = nested_room rows 0 c.args.walk.now.open.items c.args.walk.now.rank (line_of c.in-Some.row) c.requires.walk.nested (sym c.in-Some.ensures.row) in
+    (line_of c.in-Some.row, sym c.in-Some.ensures.row, omega (arith, room))
+
 pub first_child-requires-clause-below : goal.first_child-requires-clause-below
 first_child-requires-clause-below g c =
     passed_so (g.R.Rows.lines c.args.rows.now) (line_of c.in-Some.row) c.args.walk.now.rank c.args.walk.now.next c.args.walk.now.after c.passed_to-after.result c.requires.walk.part
     (λ small. c.requires.walk.passed small (line_of c.in-Some.row) (sym c.in-Some.ensures.row)) c.passed_to-after.ensures
+
+pub returns-then-is_childless-clause-poured : goal.returns-then-is_childless-clause-poured
+returns-then-is_childless-clause-poured g c =
+    let rows : List Line = g.R.Rows.lines c.args.rows.now in
+    let fs : List Frame = c.args.walk.now.open.items in
+    let r : Line = line_of c.in-Some.row in
+    let n : ℕ = c.args.walk.now.rank in
+    let later = c.args.walk.now.later in
+    let six : c.args.walk.now.next ≡ 6 = cc in
+    let whole : List ℕ = script c.args.show r (kids_at c.args.show rows r n) 6 later in record {
+      piece = whole ++ c.leave.ensures.piece;
+      parts =
+          is_going c.args.walk.now.done (remaining c.args.show rows fs n c.args.walk.now.next later) c.requires.going
+          ∙ ap (λ j. remaining c.args.show rows fs n j later) six
+          ∙ ap (λ o. if_row o (λ r. script c.args.show r (kids_at c.args.show rows r n) 6 later ++ up c.args.show rows (λ m. []) fs n)) (sym c.in-Some.ensures.row)
+          ∙ ap (λ t. whole ++ t) c.leave.ensures.parts
+          ∙ sym (append_assoc whole c.leave.ensures.piece (walk_left c.args.show rows c.leave.new.walk));
+      adds =
+          adds_both c.args.so_far c.put_childless-put.result c.leave.result (g.O.Out.told c.args.out.now) (g.O.Out.told c.put_childless-put.new.out) (g.O.Out.told c.leave.new.out) whole c.leave.ensures.piece
+          (c.put_childless-put.ensures (kids_at c.args.show rows r n)) c.leave.ensures.adds;
+      kept = c.leave.ensures.kept;
+    }
+
+pub returns-then-is_childless-clause-less : goal.returns-then-is_childless-clause-less
+unfolding returns-then-is_childless-clause-poured
+returns-then-is_childless-clause-less g c going =
+    let p = returns-then-is_childless-clause-poured g c in
+    let rows : List Line = g.R.Rows.lines c.args.rows.now in
+    let r : Line = line_of c.in-Some.row in
+    less_by (walk_left c.args.show rows c.args.walk.now) p.piece (walk_left c.args.show rows c.leave.new.walk) c.leave.new.walk.next c.args.walk.now.next p.parts
+    (long_front (script c.args.show r (kids_at c.args.show rows r c.args.walk.now.rank) 6 c.args.walk.now.later) c.leave.ensures.piece (script_some c.args.show r (kids_at c.args.show rows r c.args.walk.now.rank) 6 c.args.walk.now.later))
+    (p.kept going).part
 
 pub returns-then-stop-eq0-clause-poured : goal.returns-then-stop-eq0-clause-poured
 returns-then-stop-eq0-clause-poured g c =
@@ -48,28 +89,28 @@ returns-then-stop-eq0-clause-poured g c =
     let later = c.args.walk.now.later in
     let fields : List ℕ = fields_text later (part c.args.show r 0) in
     let zero : c.args.walk.now.next ≡ 0 = cc in record {
-      piece = (fields ++ 125 ∷ []) ++ c.leave.ensures.piece;
+      piece = (fields ++ 125 ∷ []) ++ c.leave-then-stop-eq0.ensures.piece;
       parts =
           is_going c.args.walk.now.done (remaining c.args.show rows fs n c.args.walk.now.next later) c.requires.going
           ∙ ap (λ j. remaining c.args.show rows fs n j later) zero
           ∙ go_out c.args.show rows fs n later r (sym c.in-Some.ensures.row)
-          ∙ ap (λ t. (fields ++ 125 ∷ []) ++ t) c.leave.ensures.parts
-          ∙ sym (append_assoc (fields ++ 125 ∷ []) c.leave.ensures.piece (walk_left c.args.show rows c.leave.new.walk));
+          ∙ ap (λ t. (fields ++ 125 ∷ []) ++ t) c.leave-then-stop-eq0.ensures.parts
+          ∙ sym (append_assoc (fields ++ 125 ∷ []) c.leave-then-stop-eq0.ensures.piece (walk_left c.args.show rows c.leave-then-stop-eq0.new.walk));
       adds =
-          adds_both c.args.so_far c.add-closed.result c.leave.result (g.O.Out.told c.args.out.now) (g.O.Out.told c.add-closed.new.out) (g.O.Out.told c.leave.new.out) (fields ++ 125 ∷ []) c.leave.ensures.piece
+          adds_both c.args.so_far c.add-closed.result c.leave-then-stop-eq0.result (g.O.Out.told c.args.out.now) (g.O.Out.told c.add-closed.new.out) (g.O.Out.told c.leave-then-stop-eq0.new.out) (fields ++ 125 ∷ []) c.leave-then-stop-eq0.ensures.piece
           (adds_both c.args.so_far c.put_part-pen.result.state c.add-closed.result (g.O.Out.told c.args.out.now) (g.O.Out.told c.put_part-pen.new.out) (g.O.Out.told c.add-closed.new.out) fields (125 ∷ [])
           (subst (λ (j : ℕ). Adds c.args.so_far c.put_part-pen.result.state (g.O.Out.told c.args.out.now) (g.O.Out.told c.put_part-pen.new.out) (fields_text later (part c.args.show r j))) zero c.put_part-pen.ensures.text)
           c.add-closed.ensures)
-          c.leave.ensures.adds;
-      kept = c.leave.ensures.kept;
+          c.leave-then-stop-eq0.ensures.adds;
+      kept = c.leave-then-stop-eq0.ensures.kept;
     }
 
 pub returns-then-stop-eq0-clause-less : goal.returns-then-stop-eq0-clause-less
 unfolding returns-then-stop-eq0-clause-poured part
 returns-then-stop-eq0-clause-less g c going =
     let p = returns-then-stop-eq0-clause-poured g c in
-    less_by (walk_left c.args.show (g.R.Rows.lines c.args.rows.now) c.args.walk.now) p.piece (walk_left c.args.show (g.R.Rows.lines c.args.rows.now) c.leave.new.walk) c.leave.new.walk.next c.args.walk.now.next p.parts
-    (some_last (fields_text c.args.walk.now.later (part c.args.show (line_of c.in-Some.row) 0)) c.leave.ensures.piece 125) (p.kept going).part
+    less_by (walk_left c.args.show (g.R.Rows.lines c.args.rows.now) c.args.walk.now) p.piece (walk_left c.args.show (g.R.Rows.lines c.args.rows.now) c.leave-then-stop-eq0.new.walk) c.leave-then-stop-eq0.new.walk.next c.args.walk.now.next p.parts
+    (some_last (fields_text c.args.walk.now.later (part c.args.show (line_of c.in-Some.row) 0)) c.leave-then-stop-eq0.ensures.piece 125) (p.kept going).part
 
 pub push-requires : goal.push-requires
 push-requires g c =

@@ -1,0 +1,79 @@
+-- Elements below which nothing is shown.
+use Rattle.std.proofs.Common.{◌≡◌, ℕ, zero, suc, ◌+◌, ◌≤◌, ◌==◌, ◌||◌, not, Bool, true, false, nat_lt, List, [], ◌∷◌, ◌++◌, length, length-append, refl, sym, ap, ◌∙◌, subst, append_assoc, arith, if◌then◌else◌}
+use Rattle.aas_model.specs.declared.payload.Payload.{Payload}
+use Rattle.aas_out.specs.Adds.{Adds}
+use Rattle.aas_out.specs.Told.{Told}
+use Rattle.aas_out.specs.declared.pouring.Pouring.{Pouring}
+use Rattle.aas_out.proofs.Adding.{adds_both, adds_nothing, adds_same}
+use Rattle.aas_rows.specs.Rows.{Line}
+use Rattle.aas_members_text.specs.Members.{fields_text, has_annotations, has_members, has_statements, has_stop, is_operation, later_after, part, stop_name}
+use Rattle.aas_members_text.specs.Script.{Spoken, at_stop, is_any, listed_text, script}
+use Rattle.aas_members_text.specs.declared.members.Show.{Show}
+use Rattle.aas_pour.proofs.Going.{passed}
+
+-- ---- where nothing is shown
+
+pub unset : (b : Bool) → not b ≡ true → b ≡ false
+unset true h = absurd (cc)
+unset false h = refl
+
+neither : (b x y : Bool) → x ≡ false → y ≡ false → (if b then x else y) ≡ false
+neither true x y h g = h
+neither false x y h g = g
+
+pub no_stops : (p : Payload) → has_stop 6 p ≡ false → has_stop 3 p ≡ false → has_stop 2 p ≡ false → has_stop 1 p ≡ false → (j : ℕ) → has_stop j p ≡ false
+unfolding has_stop
+no_stops p six three two one j =
+    neither (j == 6) (has_annotations p) (if nat_lt 2 j then is_operation p else (if j == 2 then has_statements p else has_members p)) six
+    (neither (nat_lt 2 j) (is_operation p) (if j == 2 then has_statements p else has_members p) three (neither (j == 2) (has_statements p) (has_members p) two one))
+
+-- ---- what is put
+
+-- Some parts were put, and those from next on are left.
+pub record Begun {K : Type 0} (w : Show) (r : Line) (first : Bool) (next : ℕ) (later : Bool) (so_far state : Pouring) (told now : Told K) : Type 0 where
+  pub low : next ≤ 6
+  pub put : List ℕ
+  pub parts : (vs : List Spoken) → script w r vs 6 first ≡ put ++ script w r vs next later
+  pub adds : Adds so_far state told now put
+
+pub begun_first : {K : Type 0} (w : Show) (r : Line) (first : Bool) (so_far : Pouring) (told : Told K) → Begun w r first 6 first so_far so_far told told
+begun_first w r first so_far told = record { low = omega arith; put = []; parts = λ vs. refl; adds = adds_nothing so_far told }
+
+pub begun_more : {K : Type 0} (w : Show) (r : Line) (first : Bool) (next j : ℕ) (later then_later : Bool) (so_far state after : Pouring) (told mid now : Told K)
+    → ((i : ℕ) (vs : List Spoken) → at_stop w r i vs ≡ []) → next ≡ suc j → Begun w r first next later so_far state told mid
+    → Adds state after mid now (fields_text later (part w r next)) → then_later ≡ later_after later (part w r next) → Begun w r first j then_later so_far after told now
+begun_more w r first next j later then_later so_far state after told mid now none is h adds left =
+    let fields : List ℕ = fields_text later (part w r next) in
+    let on : (vs : List Spoken) → script w r vs next later ≡ fields ++ script w r vs j then_later =
+    λ vs. subst (λ (n : ℕ). script w r vs n later ≡ fields_text later (part w r n) ++ script w r vs j (later_after later (part w r n))) (sym is) (passed w r vs j later (none (suc j) vs))
+    ∙ ap (λ b. fields ++ script w r vs j b) (sym left) in record {
+      low = omega (arith, h.low, is);
+      put = h.put ++ fields;
+      parts = λ vs. h.parts vs ∙ ap (λ t. h.put ++ t) (on vs) ∙ sym (append_assoc h.put fields (script w r vs j then_later));
+      adds = adds_both so_far state after told mid now h.put fields h.adds adds;
+    }
+
+pub begun_last : {K : Type 0} (w : Show) (r : Line) (first : Bool) (next : ℕ) (later : Bool) (so_far state last after : Pouring) (told mid end now : Told K) (vs : List Spoken)
+    → next ≡ 0 → Begun w r first next later so_far state told mid → Adds state last mid end (fields_text later (part w r 0)) → Adds last after end now (125 ∷ [])
+    → Adds so_far after told now (script w r vs 6 first)
+begun_last w r first next later so_far state last after told mid end now vs is h fields brace =
+    adds_same so_far after told now _ _
+    (adds_both so_far state after told mid now h.put (fields_text later (part w r 0) ++ 125 ∷ []) h.adds (adds_both state last after mid end now (fields_text later (part w r 0)) (125 ∷ []) fields brace))
+    (sym (h.parts vs ∙ ap (λ (n : ℕ). h.put ++ script w r vs n later) is))
+
+-- ---- how long it is
+
+long_back : (a b : List ℕ) → 1 ≤ length b → 1 ≤ length (a ++ b)
+long_back a b some = let e : length (a ++ b) ≡ length a + length b = length-append a b in omega (arith, e, some)
+
+pub long_front : (a b : List ℕ) → 1 ≤ length a → 1 ≤ length (a ++ b)
+long_front a b some = let e : length (a ++ b) ≡ length a + length b = length-append a b in omega (arith, e, some)
+
+pub script_some : (w : Show) (r : Line) (vs : List Spoken) (j : ℕ) (later : Bool) → 1 ≤ length (script w r vs j later)
+script_some w r vs Prim.Native.Nat.zero later =
+    let e : length (fields_text later (part w r 0) ++ 125 ∷ []) ≡ length (fields_text later (part w r 0)) + 1 = length-append (fields_text later (part w r 0)) (125 ∷ []) in
+    omega (arith, e)
+script_some w r vs (suc j) later =
+    let now : Bool = later_after later (part w r (suc j)) in
+    let ts : List (List ℕ) = at_stop w r (suc j) vs in
+    long_back (fields_text later (part w r (suc j))) _ (long_back (listed_text now (stop_name (suc j)) ts) (script w r vs j (now || is_any ts)) (script_some w r vs j (now || is_any ts)))

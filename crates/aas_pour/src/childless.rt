@@ -1,0 +1,51 @@
+// Elements below which nothing is shown.
+ghost use Rattle.std.specs.Prelude.{◌≡◌, ℕ, List, [], false, true};
+ghost use Rattle.aas_members_text.specs.Members.{has_stop};
+ghost use Rattle.aas_members_text.specs.Script.{Spoken, at_stop, script};
+ghost use Rattle.aas_out.specs.Adds.{Adds};
+ghost use Rattle.aas_rows.specs.Views.{line_of};
+
+use crate::stops::has_stop;
+use aas_members_text::{Members, Pen, Show};
+use aas_model::Payload;
+use aas_out::{Out, Pouring, add};
+use aas_rows::RowView;
+
+/// Whether nothing is shown below the element of this row, whatever stands there.
+pub(crate) fn is_childless(show: Show, row: &RowView<'_>) -> bool
+    ensures { result ≡ true → (j : ℕ) (children : List Spoken) → at_stop show (line_of row.now) j children ≡ [] }
+{
+    show.cut <= u64::from(row.level) || !has_any_stop(row.payload)
+}
+
+/// Whether an element of this kind has children at some stop.
+fn has_any_stop(payload: &Payload) -> bool
+    ensures { result ≡ false → (j : ℕ) → has_stop j payload.now ≡ false }
+{
+    has_stop(6, payload) | has_stop(3, payload) | has_stop(2, payload) | has_stop(1, payload)
+}
+
+/// Puts all parts of an element below which nothing is shown, and the brace.
+pub(crate) fn put_childless<M: Members, O: Out>(
+    so_far: Pouring,
+    members: &M,
+    show: Show,
+    row: &RowView<'_>,
+    later: bool,
+    out: &mut O,
+) -> Pouring
+    requires none { (j : ℕ) (children : List Spoken) → at_stop show (line_of row.now) j children ≡ [] }
+    ensures { (children : List Spoken) → Adds so_far result (O.told out.old) (O.told out.new) (script show (line_of row.now) children 6 later) }
+{
+    let mut pen = Pen {
+        state: so_far,
+        later,
+    };
+    let mut next = 6;
+    while next > 0 {
+        pen = members.put_part(pen.state, show, row, next, pen.later, out);
+        next -= 1;
+    }
+    let last = members.put_part(pen.state, show, row, 0, pen.later, out);
+    add(last.state, b"}", out)
+}
