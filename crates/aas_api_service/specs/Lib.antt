@@ -1,5 +1,6 @@
 pub mod Finished
 pub mod Laws
+pub mod Planned
 pub mod Replies
 pub mod Turns
 pub mod WellFormed

@@ -1,5 +1,5 @@
 // The functions here do nothing: their contracts are the laws of requests and sessions.
-ghost use Rattle.aas_api_service.specs.Laws.{AsksWellFormed, OneOutcome, SessionsStayValid};
+ghost use Rattle.aas_api_service.specs.Laws.{AsksWellFormed, OneOutcome, OwnRepliesAreOfRefusals, SessionsStayValid};
 
 use aas_page::segments_stand_for_one;
 use aas_step::{commands_come_to_one_result, documents_stay_valid};
@@ -25,3 +25,8 @@ pub fn sessions_stay_valid()
 {
     documents_stay_valid();
 }
+
+/// What a connection replies by itself has the code, the text and the status of a refusal.
+pub fn own_replies_are_of_refusals()
+    ensures { OwnRepliesAreOfRefusals }
+{}

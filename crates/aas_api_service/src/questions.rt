@@ -1,11 +1,12 @@
 // Questions answered: the answer of a plan is counted, and poured behind its reply; every other stands in its reply.
-ghost use Rattle.std.specs.Prelude.{◌≡◌, ◌↔◌, length, false, Err, IfOk, IsSome};
+ghost use Rattle.std.specs.Prelude.{◌≡◌, ◌≢◌, ◌↔◌, Bool, length, false, true, Err, IfOk, IsSome};
 ghost use Rattle.aas_answer.specs.Answers.{answer_of};
-ghost use Rattle.aas_answer.specs.Plans.{plan_text};
+ghost use Rattle.aas_answer.specs.Plans.{is_planned, plan_text};
 ghost use Rattle.aas_http.specs.ReplyText.{phrase};
 ghost use Rattle.aas_session.specs.WholeReply.{IsMeasured, whole_reply};
 ghost use Rattle.aas_store.specs.Documents.{Documents};
 ghost use Rattle.aas_api_service.specs.Finished.{IsReply, whole_of};
+ghost use Rattle.aas_api_service.specs.Planned.{HasPlan};
 ghost use Rattle.aas_api_service.specs.Replies.{reply_too_long};
 ghost use Rattle.aas_api_service.specs.Turns.{answer_reply, counted_reply, reply_with};
 
@@ -29,6 +30,7 @@ pub(crate) fn tell<S: Store, K: Keeper>(
 ) -> Result<Answer<Plan>, Stop>
     requires { repo.now.stopped ≡ false }
     ensures told { IsReply (answer_reply question.now (answer_of repo.now.documents question.now)) (whole_of repo.now.documents result) }
+    ensures planned { IfOk result (HasPlan (is_planned question.now)) }
     ensures measured { IfOk result (IsMeasured (plan_text repo.now.documents)) }
     ensures phrase { IfOk result (λ answer. IsSome (phrase answer.reply.status)) }
 {
@@ -46,6 +48,7 @@ fn tell_planned<S: Store, K: Keeper>(
     plan: Plan,
 ) -> Result<Answer<Plan>, Stop>
     ensures told { IsReply (counted_reply (plan_text repo.now.documents plan)) (whole_of repo.now.documents result) }
+    ensures planned { IfOk result (HasPlan true) }
     ensures measured { IfOk result (IsMeasured (plan_text repo.now.documents)) }
     ensures phrase { IfOk result (λ answer. IsSome (phrase answer.reply.status)) }
 {
@@ -63,6 +66,7 @@ fn poured(alloc: Global, plan: Plan, later: u64) -> Result<Answer<Plan>, NoMemor
     ensures later { IfOk result (λ answer. answer.reply.later ≡ later) }
     ensures whole { (d : Documents) → later ≡ length (plan_text d plan) → IfOk result (λ answer.
         (whole_reply (plan_text d) answer ≡ reply_with 200 (plan_text d plan)) × IsMeasured (plan_text d) answer) }
+    ensures planned { IfOk result (HasPlan true) }
     ensures status { IfOk result (λ answer. answer.reply.status ≡ 200) }
 {
     let mut reply = open_reply(alloc, 200, Many::new(alloc))?;
@@ -75,6 +79,7 @@ fn poured(alloc: Global, plan: Plan, later: u64) -> Result<Answer<Plan>, NoMemor
 
 fn refuse_long(alloc: Global) -> Result<Reply, Stop>
     ensures reply { IsReply reply_too_long result }
+    ensures no_success { IfOk result (λ reply. reply.status ≢ 200) }
     ensures phrase { IfOk result (λ reply. IsSome (phrase reply.status)) }
     ensures later { IfOk result (λ reply. reply.later ≡ 0) }
 {
@@ -88,6 +93,7 @@ fn refuse_long(alloc: Global) -> Result<Reply, Stop>
 pub(crate) fn whole(reply: Result<Reply, Stop>) -> Result<Answer<Plan>, Stop>
     requires { IfOk reply (λ reply. reply.later ≡ 0) }
     ensures whole { (d : Documents) → whole_of d result ≡ reply }
+    ensures planned { (planned : Bool) → (planned ≡ true → IfOk reply (λ reply. reply.status ≢ 200)) → IfOk result (HasPlan planned) }
     ensures fault { (result ≡ Err Stop.StorageFault) ↔ (reply ≡ Err Stop.StorageFault) }
     ensures measured { (d : Documents) → IfOk result (IsMeasured (plan_text d)) }
     ensures phrase { IfOk reply (λ reply. IsSome (phrase reply.status)) → IfOk result (λ answer. IsSome (phrase answer.reply.status)) }

@@ -1,5 +1,5 @@
 // The replies of refusals.
-ghost use Rattle.std.specs.Prelude.{◌≡◌, IfOk};
+ghost use Rattle.std.specs.Prelude.{◌≡◌, ◌≢◌, IfOk};
 ghost use Rattle.std.specs.Option.{IsSome};
 ghost use Rattle.serde_json.specs.View.{view};
 ghost use Rattle.serde_json.specs.Written.{compact_text};
@@ -22,6 +22,7 @@ const TOO_LONG: u8 = 25;
 #[tactic(auto, unfolding(crate::specs::Replies::refusal_reply))]
 pub(crate) fn refused(alloc: Global, refusal: &Refusal) -> Result<Reply, NoMemory>
     ensures reply { IfOk result (λ reply. reply ≡ refusal_reply refusal.now) }
+    ensures no_success { IfOk result (λ reply. reply.status ≢ 200) }
     ensures phrase { IfOk result (λ reply. IsSome (phrase reply.status)) }
     ensures later { IfOk result (λ reply. reply.later ≡ 0) }
 {
@@ -43,6 +44,7 @@ pub(crate) fn refused(alloc: Global, refusal: &Refusal) -> Result<Reply, NoMemor
 #[tactic(auto, unfolding(crate::specs::Replies::reply_too_long))]
 pub(crate) fn too_long(alloc: Global) -> Result<Reply, NoMemory>
     ensures reply { IfOk result (λ reply. reply ≡ reply_too_long) }
+    ensures no_success { IfOk result (λ reply. reply.status ≢ 200) }
     ensures phrase { IfOk result (λ reply. IsSome (phrase reply.status)) }
     ensures later { IfOk result (λ reply. reply.later ≡ 0) }
 {
@@ -78,7 +80,8 @@ fn messages(alloc: Global, code: u8, text: &str) -> Result<Value, AllocError>
 
 /// The status of a refusal's reply (RFC 9110, section 15).
 fn status(refusal: &Refusal) -> u16
-    ensures { result ≡ status_of refusal.now }
+    ensures status { result ≡ status_of refusal.now }
+    ensures no_success { result ≢ 200 }
 {
     match refusal {
         Refusal::NoRoute | Refusal::NotFound { .. } => 404,

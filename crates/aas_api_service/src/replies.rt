@@ -1,5 +1,5 @@
 // The replies to questions, commands and refusals.
-ghost use Rattle.std.specs.Prelude.{◌≡◌, ◌↔◌, false, Err, IfOk, IsSome};
+ghost use Rattle.std.specs.Prelude.{◌≡◌, ◌≢◌, ◌↔◌, false, Err, IfOk, IsSome};
 ghost use Rattle.aas_command.specs.Commands.{IsWellFormed};
 ghost use Rattle.aas_http.specs.ReplyText.{phrase};
 ghost use Rattle.aas_answer.specs.Plans.{is_planned};
@@ -85,6 +85,7 @@ pub(crate) fn finish(
 /// What is answered to a refusal.
 pub(crate) fn refuse(alloc: Global, refusal: Refusal) -> Result<Reply, Stop>
     ensures refused { IsRefused refusal result }
+    ensures no_success { IfOk result (λ reply. reply.status ≢ 200) }
     ensures phrase { IfOk result (λ reply. IsSome (phrase reply.status)) }
     ensures later { IfOk result (λ reply. reply.later ≡ 0) }
 {
@@ -93,6 +94,7 @@ pub(crate) fn refuse(alloc: Global, refusal: Refusal) -> Result<Reply, Stop>
 
 fn refuse_by(alloc: Global, refusal: &Refusal) -> Result<Reply, Stop>
     ensures refused { IsRefused refusal.now result }
+    ensures no_success { IfOk result (λ reply. reply.status ≢ 200) }
     ensures phrase { IfOk result (λ reply. IsSome (phrase reply.status)) }
     ensures later { IfOk result (λ reply. reply.later ≡ 0) }
 {

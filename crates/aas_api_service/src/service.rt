@@ -14,6 +14,7 @@ ghost use Rattle.aas_session.specs.declared.machine.Stop.TheVariants.{StorageFau
 ghost use Rattle.aas_api.specs.Submodels.{submodel_of};
 ghost use Rattle.aas_api_service.specs.Turns.{AskComesTo, CallComesTo, Turns, unreached};
 ghost use Rattle.aas_api_service.specs.Finished.{whole_of};
+ghost use Rattle.aas_api_service.specs.Planned.{HasPlan, is_planned_ask};
 ghost use Rattle.aas_api_service.specs.WellFormed.{IsWellFormedAsk};
 
 use crate::questions::{tell, whole};
@@ -104,6 +105,7 @@ pub fn answer<S: Store, K: Keeper>(
         (repository_of (state_of K.kept K.moment K.left_at repo.old) records) call
         (K.moment repo.old.keeper) (state_of K.kept K.moment K.left_at repo.new) (whole_of repo.new.documents result) }
     ensures measured { IfOk result (IsMeasured (plan_text repo.new.documents)) }
+    ensures planned { IfOk result (HasPlan (is_planned_ask call.ask)) }
     ensures reply { IfOk result (λ answer. IsSome (phrase answer.reply.status)) }
     ensures room { K.room_behind repo.new.keeper ≡ K.room_behind repo.old.keeper }
     ensures past { PassesTo (state_of K.kept K.moment K.left_at repo.old) (state_of K.kept K.moment K.left_at repo.new) }
@@ -144,6 +146,7 @@ fn answer_ask<S: Store, K: Keeper>(
         (repository_of (state_of K.kept K.moment K.left_at repo.old) records) ask
         (K.moment repo.old.keeper) (state_of K.kept K.moment K.left_at repo.new) (whole_of repo.new.documents result) }
     ensures measured { IfOk result (IsMeasured (plan_text repo.new.documents)) }
+    ensures planned { IfOk result (HasPlan (is_planned_ask ask)) }
     ensures reply { IfOk result (λ answer. IsSome (phrase answer.reply.status)) }
     ensures room { K.room_behind repo.new.keeper ≡ K.room_behind repo.old.keeper }
     ensures past { PassesTo (state_of K.kept K.moment K.left_at repo.old) (state_of K.kept K.moment K.left_at repo.new) }

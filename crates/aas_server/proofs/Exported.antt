@@ -1,8 +1,7 @@
 -- What is said of an export.
-use Rattle.std.proofs.Common.{◌≡◌, ◌≤◌, ◌^◌, ℕ, Bool, true, false, List, [], length, nat_lt, if◌then◌else◌, refl, sym, ap, ◌∙◌, subst, inl, inr}
+use Rattle.std.proofs.Common.{◌≡◌, ◌≢◌, ◌⊎◌, ◌≤◌, ◌^◌, ℕ, Bool, true, false, List, [], length, nat_lt, if◌then◌else◌, refl, sym, ap, ◌∙◌, subst, inl, inr}
 use Rattle.std.specs.Io.KnownBytes.{append_known}
 use Rattle.std.proofs.lemmas.Bool.{le-ltb, ltb-false}
-use Rattle.aas_out.proofs.Adding.{append_known-nil}
 use Rattle.aas_outside.specs.Faults.{Rose}
 use Rattle.aas_outside.specs.Link.{GivesFront}
 use Rattle.aas_server.specs.Answer.{Answer, Says, done, exported, too_long}
@@ -39,7 +38,9 @@ says_cut text old new is_short front rose =
     says_answer text (done text) 3 old new (short text is_short)
     (says_line (done text) 3 old new (λ e. cc) (λ not3. absurd (not3 refl)) (λ is. front) (λ is. rose) (inl refl))
 
-pub says_too_long : (text : List ℕ) (old new : ConsoleState) → 2 ^ 64 ≤ length text → new ≡ old → SaysExported text 11 old new
-says_too_long text old new is_long same =
-    says_answer text too_long 11 old new (long text is_long)
-    (says_line too_long 11 old new (λ e. cc) (λ not3. (refl, ap (λ (c : ConsoleState). c.sent) same ∙ append_known-nil old.sent)) (λ is. absurd (cc)) (λ is. absurd (cc)) (inr refl))
+pub says_too_long : (text : List ℕ) (status : ℕ) (old mid new : ConsoleState) → 2 ^ 64 ≤ length text → mid ≡ old
+    → (status ≢ 3 → (status ≡ 11) × (new.sent ≡ append_known mid.sent too_long.text)) → (status ≡ 3 → GivesFront mid.sent new.sent too_long.text)
+    → (status ≡ 3 → Rose mid.faults new.faults) → (status ≡ 3) ⊎ (status ≡ 11) → SaysExported text status old new
+says_too_long text status old mid new is_long same given front fault statuses =
+    subst (λ (before : ConsoleState). SaysExported text status before new) same
+    (says_answer text too_long status mid new (long text is_long) (says_line too_long status mid new (λ e. cc) given front fault statuses))

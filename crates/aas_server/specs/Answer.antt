@@ -49,7 +49,7 @@ journal_full = record { status = 9; text = line (codes "aasd: journal full") }
 
 -- what is exported has 2^64 bytes or more
 abbrev pub too_long : Answer
-too_long = record { status = 11; text = [] }
+too_long = record { status = 11; text = line (codes "aasd: text too long") }
 
 -- a text, unless it is too long
 abbrev pub exported : List ℕ → Answer

@@ -82,7 +82,9 @@ impl Report for Export {
         match export(repo, console) {
             Ok(_) => Status::Done,
             Err(ExportFault::Failed) => Status::LinkFault,
-            Err(ExportFault::TooLong) => Status::TooLong,
+            Err(ExportFault::TooLong) => {
+                end_with(console, b"aasd: text too long\n", Status::TooLong)
+            }
         }
     }
 }

@@ -19,6 +19,7 @@ returns-in-Err-Failed-clause-says g c =
 pub returns-in-Err-TooLong-clause-says : goal.returns-in-Err-TooLong-clause-says
 returns-in-Err-TooLong-clause-says g c =
     let C = g.C.Link in
-    says_too_long (export_text c.args.repo.now.documents) (console_of C.left C.sent C.faults c.args.console.now) (console_of C.left C.sent C.faults c.export.new.link)
+    says_too_long (export_text c.args.repo.now.documents) _ (console_of C.left C.sent C.faults c.args.console.now) (console_of C.left C.sent C.faults c.export.new.link) (console_of C.left C.sent C.faults c.end_with.new.link)
     (c.in-Err-TooLong.ensures.too_long.0 (ap (λ why. Err why) c.in-Err-TooLong.field-0-is))
     (ap (console_of C.left C.sent C.faults) (c.in-Err-TooLong.ensures.untouched (ap (λ why. Err why) c.in-Err-TooLong.field-0-is)))
+    c.end_with.ensures.given c.end_with.ensures.front c.end_with.ensures.fault c.end_with.ensures.statuses
