@@ -14,6 +14,8 @@ that without documents. It wants an idle machine. The program's files are kept i
 import argparse
 import filecmp
 import os
+import random
+import resource
 import subprocess
 import sys
 import tempfile
@@ -23,6 +25,8 @@ HERE = os.path.dirname(os.path.abspath(__file__))
 PROGRAM = os.path.join(HERE, '..', 'aasd')
 GROWTH = 2
 FOLDER = '/dev/shm' if os.path.isdir('/dev/shm') else None
+# How many submodels are created one by one.
+CREATED = 100_000
 # What a record of an import and the file around it have beside the text: the tag, its length, and header, gates and length.
 AROUND = 19
 
@@ -155,6 +159,25 @@ def measured(options, pieces, submodels, words):
         return case.size, {word: case.figures(word, options.runs) for word in words}
 
 
+def created_in_any_order(options):
+    """The seconds that the program runs to create so many submodels in an order of chance, and then to open the journal of that."""
+    numbers = list(range(CREATED))
+    random.Random(1).shuffle(numbers)
+    texts = (f'{{"id":"https://example.com/submodels/{number:06}","modelType":"Submodel"}}' for number in numbers)
+    requests = ''.join(f'POST /submodels HTTP/1.1\r\nContent-Length: {len(text)}\r\n\r\n{text}' for text in texts)
+    took = []
+    with tempfile.TemporaryDirectory(dir=FOLDER) as folder:
+        subprocess.run([os.path.abspath(options.program), 'init'], cwd=folder, stdout=subprocess.DEVNULL, check=True)
+        for given in (requests.encode(), b''):
+            begun = resource.getrusage(resource.RUSAGE_CHILDREN)
+            replies = subprocess.run([os.path.abspath(options.program), 'pipe'], cwd=folder, input=given, stdout=subprocess.PIPE, check=True).stdout
+            ended = resource.getrusage(resource.RUSAGE_CHILDREN)
+            took.append(ended.ru_utime + ended.ru_stime - begun.ru_utime - begun.ru_stime)
+            if replies.count(b'HTTP/1.1 201 Created\r\n') != given.count(b'POST /submodels '):
+                sys.exit('not all submodels were created')
+    return took
+
+
 def main():
     parser = argparse.ArgumentParser(description=__doc__, formatter_class=argparse.RawDescriptionHelpFormatter)
     parser.add_argument('--program', default=PROGRAM, help='the program (the script aasd)')
@@ -177,6 +200,8 @@ def main():
             time_grew, memory_grew = (last / first if first > 0 else 0 for first, last in zip(*each))
             good = good and time_grew <= GROWTH and memory_grew <= GROWTH
             print(f'  grew for a byte {time_grew:.2f} times in time, {memory_grew:.2f} times in memory')
+    created, opened = created_in_any_order(options)
+    print(f'{CREATED} submodels created in an order of chance: {created / CREATED * 1e6:.1f} us run for each, and {opened:.2f} s to open their journal')
     sys.exit(0 if good else 1)
 
 

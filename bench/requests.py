@@ -36,8 +36,8 @@ GROWTH = 2
 # The entries of a page.
 PAGE = 100
 LONGEST_PAGE = 1_000
-# The elements of the one submodel, and how many of each request are sent at once.
-ELEMENTS = {10: 100, 1_000: 20, 65_536: 2}
+# The elements of the one submodel.
+ELEMENTS = (10, 1_000, 65_536)
 # How many collections lie around them.
 DEPTHS = (0, 10)
 # The most elements of a submodel.
@@ -269,7 +269,6 @@ def one_run(program, count):
 
 def element_run(program, count, depth):
     """What each batch of requests of a kind took, with so many elements so deep."""
-    size = ELEMENTS[count]
     asked = Elements(count, depth)
     times = {name: [] for name in ('GET of $value', 'PATCH of $value', 'POST of an element', 'DELETE of an element')}
     with tempfile.TemporaryDirectory(dir=FOLDER) as folder:
@@ -277,15 +276,15 @@ def element_run(program, count, depth):
         pipe.exchange([asked.create()])
         if depth == 0:
             times['element on a page'] = per_entry([pipe.exchange([listed]) for listed in asked.pages()], count)
-        for turn in range(max(BATCHES * size // BATCH, 3)):
+        for turn in range(BATCHES):
             value = 1000 * (turn + 1)
-            times['PATCH of $value'].append(pipe.exchange([asked.update(value + n) for n in range(size)]))
-            times['GET of $value'].append(pipe.exchange([asked.get(value + size - 1)] * size))
-            for _ in range(max(size // 20, 1)):
+            times['PATCH of $value'].append(pipe.exchange([asked.update(value + n) for n in range(BATCH)]))
+            times['GET of $value'].append(pipe.exchange([asked.get(value + BATCH - 1)] * BATCH))
+            for _ in range(BATCH // 20):
                 times['POST of an element'].append(pipe.exchange([asked.add()]))
                 times['DELETE of an element'].append(pipe.exchange([asked.remove()]))
         pipe.end()
-    return {name: [(passed / (size if '$' in name else 1), ran / (size if '$' in name else 1)) for passed, ran in of] for name, of in times.items()}
+    return {name: [(passed / (BATCH if '$' in name else 1), ran / (BATCH if '$' in name else 1)) for passed, ran in of] for name, of in times.items()}
 
 
 def stored_property(program):
