@@ -1,10 +1,9 @@
 -- Lists, item by item.
-use Rattle.std.proofs.Common.{◌≤◌, length-drop, ◌≡◌, ℕ, suc, ◌+◌, ◌<◌, List, [], ◌∷◌, ◌++◌, length, drop, get_or, filter_map, flat_map, Option, Some, None, ◌&&◌, Bool, true, refl, sym, ap, ◌∙◌, arith}
+use Rattle.std.proofs.Common.{◌≡◌, ℕ, suc, ◌+◌, ◌<◌, List, [], ◌∷◌, ◌++◌, length, drop, get_or, filter_map, flat_map, Option, Some, None, ◌&&◌, Bool, refl, sym, ap, ◌∙◌}
 use Rattle.std.specs.List.{cons_option, list_all}
 use Rattle.std.proofs.Math.Seq.{drop-cons}
 use Rattle.std.proofs.Math.Numerals.{add-one}
 use Rattle.std.proofs.lemmas.Grind.{flat_map-append}
-use Rattle.std.proofs.lemmas.List.{nil_from_length}
 use Rattle.std.proofs.lemmas.List.Folds.{list_all-append}
 
 -- what is left begins with the item at a place
@@ -30,15 +29,3 @@ all_append test xs ys = list_all-append test xs ys
 
 pub all_flat_append : {X Y : Type 0} (test : Y → Bool) (f : X → List Y) (xs ys : List X) → list_all test (flat_map f (xs ++ ys)) ≡ (list_all test (flat_map f xs) && list_all test (flat_map f ys))
 all_flat_append test f xs ys = ap (list_all test) (flat_map-append f xs ys) ∙ all_append test (flat_map f xs) (flat_map f ys)
-
--- ---- a walk to the first item that fails
-
-abbrev all_of : {X Y : Type 0} → (Y → Bool) → (X → List Y) → List X → Bool
-all_of test f xs = list_all test (flat_map f xs)
-
-pub all_left : {X Y : Type 0} (test : Y → Bool) (f : X → List Y) (xs : List X) (i : ℕ) (x : X) (all : Bool) → i < length xs → x ≡ get_or xs i x
-    → all ≡ list_all test (flat_map f (drop i xs)) → all ≡ (list_all test (f x) && list_all test (flat_map f (drop (i + 1) xs)))
-all_left test f xs i x all lt at h = h ∙ ap (all_of test f) (left xs i x lt at) ∙ all_append test (f x) (flat_map f (drop (i + 1) xs))
-
-pub none_failed : {X Y : Type 0} (test : Y → Bool) (f : X → List Y) (xs : List X) (i : ℕ) (all : Bool) → length xs ≤ i → all ≡ list_all test (flat_map f (drop i xs)) → true ≡ all
-none_failed test f xs i all le h = let none_left : drop i xs ≡ [] = nil_from_length (drop i xs) (omega (arith, length-drop i xs)) in sym (h ∙ ap (all_of test f) none_left)

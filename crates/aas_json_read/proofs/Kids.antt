@@ -1,28 +1,27 @@
 -- Children that were read, as the attributes that hold them.
-use Rattle.std.proofs.Common.{◌≡◌, ◌⊎◌, inl, inr, ℕ, List, [], ◌∷◌, ◌++◌, ◌&&◌, Bool, true, false, Option, Some, None, option_map, option_to_list, IfSome, is_some, if◌then◌else◌, map, filter, cond, codes, length, get_or, drop, add-one, ◌+◌, zero, suc, ◌<◌, ◌≤◌, arith, refl, sym, ap, ap₂, ◌∙◌, true≢false}
+use Rattle.std.proofs.Common.{◌≡◌, ◌⊎◌, inl, inr, ℕ, List, [], ◌∷◌, ◌++◌, Bool, true, false, Option, Some, None, option_map, option_to_list, IfSome, map, filter, cond, length, get_or, drop, add-one, ◌+◌, zero, suc, ◌<◌, ◌≤◌, arith, refl, sym, ap, ap₂, ◌∙◌, true≢false}
 use Rattle.std.proofs.lemmas.Simd.{map-map}
 use Rattle.std.proofs.lemmas.List.{append_assoc, append-nil}
 use Rattle.std.specs.List.{list_all}
 use Rattle.std.proofs.Math.Seq.{drop-cons}
 use Rattle.std.proofs.lemmas.List.{map-append}
 use Rattle.std.proofs.lemmas.List.Elements.{filter-append}
-use Rattle.serde_json.specs.Data.{Data, object, Items, no_items, item, no_members, depth, items_depth}
+use Rattle.serde_json.specs.Data.{Data, Items, no_items, item, depth, items_depth}
 use Rattle.serde_json.specs.View.{view, items_view}
 use Rattle.serde_json.specs.declared.value.Value.{Value}
-use Rattle.aas_json_table.specs.Table.{MemberType, one, element, operation_variable, parts}
-use Rattle.aas_json_table.specs.Rows.{sorted}
-use Rattle.aas_json_table.specs.Canonical.{canonical_object, add, add_item, listed}
+use Rattle.aas_json_table.specs.Table.{operation_variable}
+use Rattle.aas_json_table.specs.Canonical.{add_item, listed}
 use Rattle.aas_json_table.specs.Spelled.{list_of, onto}
 use Rattle.aas_json_spelling.specs.Lists.{Each}
 use Rattle.aas_lemmas.proofs.Truth.{and_left, and_right}
-use Rattle.aas_json_mapping.specs.Elements.{Child, is_input, is_output, is_inoutput, spelled_child, spell_element, spell_variable, children_attribute, variables_attribute}
+use Rattle.aas_json_mapping.specs.Elements.{Child, is_input, is_output, is_inoutput, spelled_child, spell_variable, children_attribute, variables_attribute}
 use Rattle.aas_json_mapping.specs.Whole.{Placed}
 use Rattle.aas_json_mapping.proofs.Elements.{child_role, seen_role}
 use Rattle.aas_model.specs.declared.element.Element.{Element}
 use Rattle.aas_model.specs.declared.element.Role.{Role}
 use Rattle.aas_model.specs.declared.element.Role.TheVariants as role
 use Rattle.aas_json_read.specs.Own.{seen, suits, sort_under, spell_under}
-use Rattle.aas_json_read.specs.Children.{AddsItems, AddsChildren}
+use Rattle.aas_json_read.specs.Children.{AddsItems}
 
 -- ---- one more child
 
@@ -60,15 +59,6 @@ adds_one r before all o d rest items a says suited =
       places = all_with (λ e. suits r (seen e)) a.more o a.places suited;
     }
 
-pub adds_none : (r : Role) (before : List Element) (items : Items) → AddsItems r before before items items
-adds_none r before items = record { more = []; after = sym (append-nil before); says = refl; places = refl }
-
-pub adds_no_children : (r : Role) (before : List Element) → AddsChildren r before before None
-adds_no_children r before = record { more = []; after = sym (append-nil before); says = refl; places = refl }
-
-pub adds_listed : (r : Role) (before all : List Element) (items : Items) → AddsItems r before all no_items items → AddsChildren r before all (listed items)
-adds_listed r before all items a = record { more = a.more; after = a.after; says = ap listed a.says; places = a.places }
-
 pub item_depth : (vs : List Value) (i : ℕ) (v : Value) → i < length vs → v ≡ get_or vs i v → depth (view v) ≤ items_depth (items_view vs)
 item_depth [] i v h e = absurd (omega arith)
 item_depth (x ∷ vs) zero v h e = let same : depth (view v) ≡ depth (view x) = ap (λ y. depth (view y)) e in omega arith
@@ -87,12 +77,6 @@ pub children_are : (kids : List Element) (o : Option Data) → list_of (λ e. (s
 children_are kids o e = spelled_list (λ c. c.spelling) kids ∙ e
 
 -- ---- variables
-
--- the variable that an element spells
-pub variable_is : (found : Option Element) (find : List ℕ → MemberType → Option Data) → option_map spell_element found ≡ find (codes "value") (one element)
-    → option_map (λ e. spell_variable (spelled_child e)) found ≡ canonical_object (Some (sorted (parts operation_variable))) find
-variable_is None find e = ap (λ o. if is_some o && true then Some (object (add (codes "value") o no_members)) else None) e
-variable_is (Some x) find e = ap (λ o. if is_some o && true then Some (object (add (codes "value") o no_members)) else None) e
 
 -- what a child that is a variable is read as
 pub variable_under : (r : Role) (found : Option Element) (o : Option Data) → (r ≡ role.Input) ⊎ ((r ≡ role.Output) ⊎ (r ≡ role.Inoutput)) → option_map (λ e. spell_variable (spelled_child e)) found ≡ o

@@ -1,12 +1,12 @@
 -- One level of an element: what it says, from what was found among its members.
-use Rattle.std.proofs.Common.{◌≡◌, ℕ, List, [], ◌++◌, true, false, Option, Some, None, map, codes, unwrap_or, refl, ap, ◌∙◌, subst}
+use Rattle.std.proofs.Common.{◌≡◌, ℕ, List, [], ◌++◌, true, Option, Some, map, codes, unwrap_or, refl, ap, ◌∙◌, subst}
 use Rattle.serde_json.specs.Data.{Data, string}
 use Rattle.aas_model_names.specs.KindNames.{name_of}
 use Rattle.aas_model_names.specs.declared.kind.Kind.{Kind}
 use Rattle.aas_model_names.specs.declared.kind.Kind.TheVariants as kind
 use Rattle.aas_json_table.specs.Table.{MemberType, text, Row, referable, has_semantics, qualifiable, kinds}
 use Rattle.aas_json_table.specs.Rows.{find, sorted}
-use Rattle.aas_json_table.specs.Canonical.{canonical_object, are_there}
+use Rattle.aas_json_table.specs.Canonical.{canonical_object}
 use Rattle.aas_json_spelling.proofs.Rows.{rising}
 use Rattle.aas_json_mapping.specs.Elements.{Child, spelled_child, spell_element, rows_for, model_type_of, own_attributes, element_attributes}
 use Rattle.aas_json_mapping.proofs.Elements.{made, spell_at}
@@ -18,7 +18,7 @@ use Rattle.aas_model.specs.declared.element.Element.{Element}
 use Rattle.aas_model.specs.declared.element.Role.{Role}
 use Rattle.aas_json_read.specs.Found.{FindsCommon}
 use Rattle.aas_json_read.specs.Own.{own_rows, spell_own, canonical_own, FindsKids}
-use Rattle.aas_json_read.proofs.Rows.{Found, found_says, says_found, says_lacks, lacks_says, lacks_later}
+use Rattle.aas_json_read.proofs.Rows.{Found, found_says, says_found}
 
 -- ---- an element with all that its kind demands
 
@@ -78,27 +78,3 @@ element_is find r c x kids k is f name own below =
     ap Some (spell_at r c x kids)
     ∙ found_says (rows_for (model_type_of x)) (element_attributes c x children) find
     (found_level find c x children f n (says_found (own_rows (kind_of x)) (own_attributes x []) find (own_rise (kind_of x)) o) b)) name own below
-
--- ---- an element without what its kind demands
-
-abbrev find_rows : Kind → Option (List Row)
-find_rows k = find (name_of k) kinds
-
-all_lack : (find : List ℕ → MemberType → Option Data) (k : Kind) → are_there (own_rows k) find ≡ false → are_there (rows_for (name_of k)) find ≡ false
-all_lack find kind.Property e = lacks_later (referable ++ (has_semantics ++ qualifiable)) (unwrap_or (find_rows kind.Property) []) find e
-all_lack find kind.MultiLanguageProperty e = lacks_later (referable ++ (has_semantics ++ qualifiable)) (unwrap_or (find_rows kind.MultiLanguageProperty) []) find e
-all_lack find kind.Range e = lacks_later (referable ++ (has_semantics ++ qualifiable)) (unwrap_or (find_rows kind.Range) []) find e
-all_lack find kind.File e = lacks_later (referable ++ (has_semantics ++ qualifiable)) (unwrap_or (find_rows kind.File) []) find e
-all_lack find kind.Blob e = lacks_later (referable ++ (has_semantics ++ qualifiable)) (unwrap_or (find_rows kind.Blob) []) find e
-all_lack find kind.ReferenceElement e = lacks_later (referable ++ (has_semantics ++ qualifiable)) (unwrap_or (find_rows kind.ReferenceElement) []) find e
-all_lack find kind.RelationshipElement e = lacks_later (referable ++ (has_semantics ++ qualifiable)) (unwrap_or (find_rows kind.RelationshipElement) []) find e
-all_lack find kind.AnnotatedRelationshipElement e = lacks_later (referable ++ (has_semantics ++ qualifiable)) (unwrap_or (find_rows kind.AnnotatedRelationshipElement) []) find e
-all_lack find kind.Entity e = lacks_later (referable ++ (has_semantics ++ qualifiable)) (unwrap_or (find_rows kind.Entity) []) find e
-all_lack find kind.BasicEventElement e = lacks_later (referable ++ (has_semantics ++ qualifiable)) (unwrap_or (find_rows kind.BasicEventElement) []) find e
-all_lack find kind.Capability e = lacks_later (referable ++ (has_semantics ++ qualifiable)) (unwrap_or (find_rows kind.Capability) []) find e
-all_lack find kind.Operation e = lacks_later (referable ++ (has_semantics ++ qualifiable)) (unwrap_or (find_rows kind.Operation) []) find e
-all_lack find kind.SubmodelElementCollection e = lacks_later (referable ++ (has_semantics ++ qualifiable)) (unwrap_or (find_rows kind.SubmodelElementCollection) []) find e
-all_lack find kind.SubmodelElementList e = lacks_later (referable ++ (has_semantics ++ qualifiable)) (unwrap_or (find_rows kind.SubmodelElementList) []) find e
-
-pub element_lacks : (find : List ℕ → MemberType → Option Data) (k : Kind) → None ≡ canonical_own k find → None ≡ canonical_object (Some (sorted (rows_for (name_of k)))) find
-element_lacks find k e = lacks_says (rows_for (name_of k)) find (all_lack find k (says_lacks (own_rows k) find e))

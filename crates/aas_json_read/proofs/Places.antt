@@ -5,12 +5,11 @@ use Rattle.std.proofs.lemmas.Bool.{and_from}
 use Rattle.std.specs.List.{list_all}
 use Rattle.std.proofs.lemmas.Bool.{le-leb}
 use Rattle.std.proofs.lemmas.List.{map-append}
-use Rattle.aas_model_names.specs.declared.kind.Kind.{Kind}
 use Rattle.aas_model_names.specs.declared.kind.Kind.TheVariants as kind
 use Rattle.aas_json_spelling.specs.Lists.{Each}
 use Rattle.aas_lemmas.proofs.Truth.{and_left, and_right}
 use Rattle.aas_json_mapping.specs.Elements.{is_input, is_output, is_inoutput}
-use Rattle.aas_json_mapping.specs.Whole.{is_member, is_annotation, is_statement, is_variable, Placed, placed_over, admits, rank, in_order, is_placed}
+use Rattle.aas_json_mapping.specs.Whole.{is_member, is_annotation, is_statement, is_variable, Placed, admits, rank, in_order, is_placed}
 use Rattle.aas_json_mapping.specs.Shape.{IsShaped}
 use Rattle.aas_json_mapping.proofs.Elements.{made, seen_at, seen_role}
 use Rattle.aas_model.specs.Payload.{kind_of}
@@ -20,25 +19,7 @@ use Rattle.aas_model.specs.declared.payload.Payload.TheVariants as p
 use Rattle.aas_model.specs.declared.element.Element.{Element}
 use Rattle.aas_model.specs.declared.element.Role.{Role}
 use Rattle.aas_model.specs.declared.element.Role.TheVariants as role
-use Rattle.aas_model_names.specs.KindNames.{is_data_element}
-use Rattle.aas_json_read.specs.Own.{seen, suits, may_have, FitUnder}
-
--- ---- an element in its role
-
-suits_role : (r : Role) (k : Kind) (is_data placed : Bool) → is_data ≡ is_data_element k → may_have k r ≡ true → placed ≡ true → suits r (record { role = r; is_data = is_data; placed = placed }) ≡ true
-suits_role role.Member k is_data placed same may e = e
-suits_role role.Annotation k is_data placed same may e = and_from is_data placed (same ∙ may) e
-suits_role role.Statement k is_data placed same may e = e
-suits_role role.Input k is_data placed same may e = e
-suits_role role.Output k is_data placed same may e = e
-suits_role role.Inoutput k is_data placed same may e = e
-
--- An element whose kind may have the role, and has these children, suits the role.
-pub element_suits : (r : Role) (c : Common) (x : Payload) (kids : List Element) (k : Kind) → kind_of x ≡ k → may_have k r ≡ true → FitUnder k kids → suits r (seen (made r c x kids)) ≡ true
-element_suits r c x kids k is may fit =
-    let at = seen_at r c x kids in
-    let placed : (placed_over (record { common = c; payload = x; role = r; kids = map seen kids })).placed ≡ true = ap (λ (y : Placed). y.placed) (sym at) ∙ fit c x r is in
-    ap (suits r) at ∙ suits_role r k (is_data_element (kind_of x)) _ (ap is_data_element is) may placed
+use Rattle.aas_json_read.specs.Own.{seen, suits, FitUnder}
 
 -- ---- children that stand in order
 
@@ -111,10 +92,6 @@ placed_with r c x kids s =
     (all_are (λ (d : Placed). d.placed ≡ true) (λ (d : Placed). d.placed) (λ d e. e) cs s.placed)
 
 -- ---- each kind
-
--- no kind minds that there are no children
-pub none_fit : (k : Kind) → FitUnder k []
-none_fit k c x r is = placed_with r c x [] (none_stand x)
 
 one_role : (r : Role) (x : Payload) → ((c : Placed) → suits r c ≡ true → Stands x (rank r) c) → (kids : List Element) → list_all (λ e. suits r (seen e)) kids ≡ true → Standing x (map seen kids)
 one_role r x h kids e =

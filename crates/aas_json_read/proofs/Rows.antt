@@ -1,5 +1,5 @@
 -- The rows of an object in the order in which the table lists them, and in byte order.
-use Rattle.std.proofs.Common.{◌≡◌, ℕ, List, [], ◌∷◌, ◌++◌, ◌&&◌, Bool, true, false, Option, Some, None, is_some, if◌then◌else◌, Ordering, Less, Equal, Greater, nat_cmp, refl, sym, ap, ◌∙◌}
+use Rattle.std.proofs.Common.{◌≡◌, ℕ, List, [], ◌∷◌, ◌&&◌, Bool, true, false, Option, Some, None, is_some, if◌then◌else◌, Ordering, Less, Equal, Greater, nat_cmp, refl, sym, ap, ◌∙◌}
 use Rattle.std.specs.Cmp.Lexicographic.{slice_cmp}
 use Rattle.std.specs.Ordering.{match_ordering}
 use Rattle.serde_json.specs.Data.{Data, object}
@@ -37,16 +37,6 @@ there_inserted r (s ∷ ss) g = by_order (slice_cmp nat_cmp r.name s.name) (ther
 pub there_sorted : (rows : List Row) (g : List ℕ → MemberType → Option Data) → are_there (sorted rows) g ≡ are_there rows g
 there_sorted [] g = refl
 there_sorted (r ∷ rs) g = there_inserted r (sorted rs) g ∙ ap (λ b. if r.required then is_some (g r.name r.member_type) && b else b) (there_sorted rs g)
-
-lacking : (b x : Bool) → (if b then x && false else false) ≡ false
-lacking true true = refl
-lacking true false = refl
-lacking false x = refl
-
--- what lacks a later row lacks a row
-pub lacks_later : (xs ys : List Row) (g : List ℕ → MemberType → Option Data) → are_there ys g ≡ false → are_there (xs ++ ys) g ≡ false
-lacks_later [] ys g e = e
-lacks_later (x ∷ xs) ys g e = ap (λ b. if x.required then is_some (g x.name x.member_type) && b else b) (lacks_later xs ys g e) ∙ lacking x.required (is_some (g x.name x.member_type))
 
 -- ---- attributes that agree, in both orders
 
@@ -101,14 +91,3 @@ says_found rows attributes g rise e = by_there (are_there (sorted rows) g) refl 
           agree = sorted_agree rows (attribute attributes) g agree;
           there = sym (there_sorted rows (attribute attributes)) ∙ same_there (sorted rows) (attribute attributes) g agree ∙ there;
         }
-
--- an object that says nothing lacks what a row demands
-pub says_lacks : (rows : List Row) (g : List ℕ → MemberType → Option Data) → None ≡ canonical_object (Some (sorted rows)) g → are_there rows g ≡ false
-says_lacks rows g e = by_there (are_there (sorted rows) g) refl e
-  where
-    by_there : (b : Bool) → are_there (sorted rows) g ≡ b → None ≡ (if b then Some (object (members_by (sorted rows) g)) else None) → are_there rows g ≡ false
-    by_there false there e = sym (there_sorted rows g) ∙ there
-    by_there true there e = cc
-
-pub lacks_says : (rows : List Row) (g : List ℕ → MemberType → Option Data) → are_there rows g ≡ false → None ≡ canonical_object (Some (sorted rows)) g
-lacks_says rows g e = ap (λ b. if b then Some (object (members_by (sorted rows) g)) else None) (sym e ∙ sym (there_sorted rows g))

@@ -114,13 +114,3 @@ module _ {A : Type 0} (trees : Trees A) (Shape : A → Type 0) (laws : Laws tree
 -- what is read of a value is read of its bytes
 pub reads_value : {A : Type 0} (trees : Trees A) (l : Levels) (result : Result A ReadFault) (bytes : List ℕ) (j : Data) → reading bytes ≡ Some j → Reads trees l result j → ReadsBytes trees l result bytes
 reads_value trees l result bytes j is r = subst (λ o. ReadsIf trees l result o) (sym is) r
-
-pub reads_no_value : {A : Type 0} (trees : Trees A) (l : Levels) (result : Result A ReadFault) (bytes : List ℕ) → reading bytes ≡ None → result ≡ Err NotJson → ReadsBytes trees l result bytes
-reads_no_value trees l result bytes is e = subst (λ o. ReadsIf trees l result o) (sym is) (inl e)
-
-pub reads_no_memory : {A : Type 0} (trees : Trees A) (l : Levels) (bytes : List ℕ) → ReadsBytes trees l (Err NoMemory) bytes
-reads_no_memory {A = A} trees l bytes = by_reading (reading bytes)
-  where
-    by_reading : (o : Option Data) → ReadsIf {A = A} trees l (Err NoMemory) o
-    by_reading None = inr refl
-    by_reading (Some j) = tt

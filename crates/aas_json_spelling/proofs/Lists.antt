@@ -1,7 +1,6 @@
 -- What holds of each of a list.
-use Rattle.std.proofs.Common.{◌≡◌, ℕ, ◌≤◌, ◌&&◌, List, [], ◌∷◌, Bool, true, map, refl, ap₂, arith}
-use Rattle.aas_json_spelling.specs.Lists.{Each, each_true, most}
-use Rattle.aas_lemmas.proofs.Truth.{and_left, and_right}
+use Rattle.std.proofs.Common.{ℕ, ◌≤◌, List, [], ◌∷◌, map, arith}
+use Rattle.aas_json_spelling.specs.Lists.{Each, most}
 
 pub each_of : {A : Type 0} (P : A → Type 0) → ((x : A) → P x) → (xs : List A) → Each P xs
 each_of P h [] = tt
@@ -11,14 +10,6 @@ each_of P h (x ∷ xs) = (h x, each_of P h xs)
 pub each_both : {A : Type 0} (P Q R : A → Type 0) → ((x : A) → P x → Q x → R x) → (xs : List A) → Each P xs → Each Q xs → Each R xs
 each_both P Q R h [] p q = tt
 each_both P Q R h (x ∷ xs) p q = (h x p.0 q.0, each_both P Q R h xs p.1 q.1)
-
-pub each_from_true : {A : Type 0} (p : A → Bool) (xs : List A) → each_true (map p xs) ≡ true → Each (λ x. p x ≡ true) xs
-each_from_true p [] e = tt
-each_from_true p (x ∷ xs) e = (and_left _ _ e, each_from_true p xs (and_right (p x) _ e))
-
-pub true_from_each : {A : Type 0} (p : A → Bool) (xs : List A) → Each (λ x. p x ≡ true) xs → each_true (map p xs) ≡ true
-true_from_each p [] e = refl
-true_from_each p (x ∷ xs) e = ap₂ (λ a b. a && b) e.0 (true_from_each p xs e.1)
 
 pub each_from_most : {A : Type 0} (f : A → ℕ) (n : ℕ) (xs : List A) → most (map f xs) ≤ n → Each (λ x. f x ≤ n) xs
 each_from_most f n [] h = tt

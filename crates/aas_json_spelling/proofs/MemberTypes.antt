@@ -1,5 +1,5 @@
 -- What is spelled as each type of member is good, and spelled from one thing.
-use Rattle.std.proofs.Common.{◌≡◌, ℕ, ◌+◌, List, [], ◌∷◌, Bool, true, Option, Some, None, option_map, if◌then◌else◌, map, refl, sym, ap, ap₂, ◌∙◌, subst, bytes_eq, is_some, true≢false}
+use Rattle.std.proofs.Common.{◌≡◌, ℕ, ◌+◌, List, [], ◌∷◌, Bool, true, Option, Some, None, option_map, if◌then◌else◌, map, refl, sym, ap, ap₂, ◌∙◌, bytes_eq, is_some, true≢false}
 use Rattle.std.specs.List.{find}
 use Rattle.std.specs.Str.{encode_utf8_all}
 use Rattle.std.proofs.lemmas.Str.{encodes_same}
@@ -33,13 +33,6 @@ string_good l s = record { again = refl; fits = refl; low = refl; order = tt }
 pub flag_good : (l : Levels) (o : Option Bool) → Good l flag (option_map boolean o)
 flag_good l None = none_good l flag
 flag_good l (Some b) = record { again = refl; fits = refl; low = refl; order = tt }
-
-pub option_good : {A : Type 0} (l : Levels) (f : MemberType) (spell : A → Data) (o : Option A) → ((x : A) → o ≡ Some x → Good l f (Some (spell x))) → Good l f (option_map spell o)
-option_good l f spell None h = none_good l f
-option_good l f spell (Some x) h = h x refl
-
-pub option_back : {A : Type 0} (l : Levels) (f : MemberType) (spell : A → Data) (o : Option A) → Good l f (option_map spell o) → (x : A) → o ≡ Some x → Good l f (Some (spell x))
-option_back l f spell o g x is = subst (λ p. Good l f (option_map spell p)) is g
 
 -- ---- names of an enumeration
 

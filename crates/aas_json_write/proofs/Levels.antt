@@ -43,9 +43,6 @@ kid_within = at_index element_in_order
 pub child_out : (e : Element) → spelled_child e ≡ spell_over (record { role = (out-Element e).role; common = (out-Element e).common; payload = (out-Element e).payload; kids = map spelled_child (out-Element e).kids })
 child_out e = fold_out-Element Child spell_over e
 
-pub child_role : (e : Element) → (spelled_child e).role ≡ (out-Element e).role
-child_role e = ap (λ (c : Child). c.role) (child_out e)
-
 -- all rows of an element of a kind, in the order in which they are written
 abbrev rows_put : List ℕ → List Row
 rows_put model_type = model_type_row ∷ common_rows ++ own_rows model_type

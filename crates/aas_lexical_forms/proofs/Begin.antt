@@ -1,12 +1,12 @@
 -- How the texts of a form begin, and what a cut must find there to find anything.
-use Rattle.std.proofs.Common.{◌≡◌, ℕ, Bool, true, false, not, ◌==◌, ◌&&◌, ◌||◌, List, [], ◌∷◌, ◌++◌, Option, None, refl, ap, ◌∙◌, append_assoc, inl, inr, codes}
+use Rattle.std.proofs.Common.{◌≡◌, ℕ, Bool, true, false, not, ◌==◌, ◌&&◌, ◌||◌, List, [], ◌∷◌, ◌++◌, Option, None, refl, ap, append_assoc, inl, inr, codes}
 use Rattle.std.proofs.lemmas.Bool.{not-true}
 use Rattle.std.proofs.lemmas.Bool.Decides.{Decides-eqb}
 use Rattle.std.specs.List.{list_all}
 use Rattle.std.specs.Option.{option_and_then}
 use Rattle.aas_lexical_forms.specs.Form.{lit, is_among, among, one, run, maybe, Many, ◌∣◌, ◌▸◌}
 use Rattle.aas_lexical_forms.specs.Form.Many.{none, more}
-use Rattle.aas_lexical_forms.specs.Cut.{after_word, after_one, after_run, first_of, cut_then, cut_either}
+use Rattle.aas_lexical_forms.specs.Cut.{after_word, after_one, after_run, cut_then}
 use Prim.Native.String.{String}
 
 -- the text doesn't begin with a byte of the class
@@ -120,6 +120,3 @@ Needs-word c cs = record { fails = word_none c cs }
 
 pub Needs-then : {class : ℕ → Bool} {p : List ℕ → Option (List ℕ)} → Needs class p → (q : List ℕ → Option (List ℕ)) → Needs class (cut_then p q)
 Needs-then n q = record { fails = λ t h. ap (option_and_then q) (n.fails t h) }
-
-pub Needs-either : {class : ℕ → Bool} {p q : List ℕ → Option (List ℕ)} → Needs class p → Needs class q → Needs class (cut_either p q)
-Needs-either {q = q} n m = record { fails = λ t h. ap (λ o. first_of o (q t)) (n.fails t h) ∙ m.fails t h }

@@ -1,5 +1,5 @@
 -- What the test of sameness tells.
-use Rattle.std.proofs.Common.{◌≡◌, ℕ, ◌&&◌, List, [], ◌∷◌, length, Bool, true, false, bytes_eq, refl, sym, ap, ap₂, ◌∙◌, true≢false, arith}
+use Rattle.std.proofs.Common.{◌≡◌, ℕ, ◌&&◌, List, [], ◌∷◌, length, Bool, true, false, bytes_eq, refl, sym, ap, ap₂, true≢false, arith}
 use Rattle.std.proofs.lemmas.Bool.{and_from}
 use Rattle.std.specs.Bool.{Decides}
 use Rattle.std.specs.List.{list_all, zip}
@@ -7,7 +7,7 @@ use Rattle.std.proofs.lemmas.Slice.Eq.{bytes_eq-Decides}
 use Rattle.aas_model_names.specs.KeyTypeNames as key_type
 use Rattle.aas_model_names.specs.ReferenceTypeNames as reference_type
 use Rattle.aas_model.specs.declared.reference.Key.{Key}
-use Rattle.aas_model.specs.declared.reference.Reference.{Reference, out-Reference, roll-Reference, roll-out-Reference}
+use Rattle.aas_model.specs.declared.reference.Reference.{Reference, out-Reference}
 use Rattle.aas_lemmas.proofs.Truth.{and_left, and_right}
 use Rattle.aas_json_spelling.proofs.MemberTypes.{Found, same_named}
 use Rattle.aas_reference.specs.Same.{IsSame, same_key, same_keys, same}
@@ -76,15 +76,3 @@ same_tells a b =
       λ e. record { types = types.0 (and_left types_test keys_test e); keys = keys.0 (and_right types_test keys_test e) },
       λ s. and_from types_test keys_test (types.1 s.types) (keys.1 s.keys),
     )
-
--- ---- equality
-
-pub same_itself : (a b : Reference) → a ≡ b → IsSame a b
-same_itself a b e = record { types = ap (λ r. (out-Reference r).ref_type) e; keys = ap (λ r. (out-Reference r).keys) e }
-
--- Two that are the same are equal where what they refer to is.
-pub equal_by_referred : (a b : Reference) → IsSame a b → (out-Reference a).referred ≡ (out-Reference b).referred → a ≡ b
-equal_by_referred a b s referred =
-    sym (roll-out-Reference a)
-    ∙ (λ i. roll-Reference (record { ref_type = s.types i; keys = s.keys i; referred = referred i }))
-    ∙ roll-out-Reference b
