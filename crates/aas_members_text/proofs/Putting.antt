@@ -155,9 +155,6 @@ front_more {s = s} {m = m} {a = a} {b = b} r c piece next h g is = record {
 pub front_rest : {K : Type 0} {s m : Pouring} {a b : Told K} {whole rest : List ℕ} (r : Pouring) (c : Told K) → Front s m a b whole rest → Adds m r b c rest → Adds s r a c whole
 front_rest {s = s} {m = m} {a = a} {b = b} {rest = rest} r c h g = adds_same s r a c _ _ (adds_both s m r a b c h.done rest h.adds g) (sym h.parts)
 
-pub front_all : {K : Type 0} {s r : Pouring} {a b : Told K} {whole rest : List ℕ} → Front s r a b whole rest → rest ≡ [] → Adds s r a b whole
-front_all {s = s} {r = r} {a = a} {b = b} h none = adds_same s r a b _ _ h.adds (sym (h.parts ∙ ap (λ t. h.done ++ t) none ∙ append-nil h.done))
-
 -- ---- lists
 
 -- what is left to put of an array's items

@@ -85,13 +85,6 @@ adds_nothing pouring.Going a = wrote_nothing a
 pub adds_same : {K : Type 0} (s r : Pouring) (a b : Told K) (x y : List ℕ) → Adds s r a b x → x ≡ y → Adds s r a b y
 adds_same s r a b x y h same = subst (λ z. Adds s r a b z) same h
 
--- what no call changes stays
-pub adds_kept : {K : Type 0} (s r : Pouring) (a b : Told K) (x : List ℕ) → Adds s r a b x → b.kept ≡ a.kept
-unfolding Adds
-adds_kept pouring.Stopped r a b x h = ap (λ t. t.kept) h.1
-adds_kept pouring.Going pouring.Going a b x h = h.kept
-adds_kept pouring.Going pouring.Stopped a b x h = h.wrote.kept
-
 -- what a pouring put that is over
 pub outcome_puts : {K : Type 0} (after : Pouring) (a b : Told K) (x : List ℕ) → Adds pouring.Going after a b x → Puts a b (outcome_of after) x
 unfolding Adds

@@ -42,22 +42,6 @@ held_less old new at n bytes h =
     ∙ ap (λ l. append_known old (take n (drop at bytes) ++ l)) (sym (drop-drop n at bytes))
     ∙ ap (append_known old) (take-append-drop n (drop at bytes))
 
--- what is put is held
-pub hold_is_put : (sent : Option (List ℕ)) (held bytes : List ℕ) (faults : ℕ) (kept : LinkKept) → Wrote (holding_told sent held faults kept) (holding_told sent (held ++ bytes) faults kept) bytes
-hold_is_put sent held bytes faults kept = record { sent = sym (append_known-more sent held bytes); count = refl; later = omega arith; gone = ([], append_known-nil sent); kept = refl }
-
--- what was held is given, and then what is put is held
-pub flush_is_put : (old new : Option (List ℕ)) (held held_now bytes : List ℕ) (before now : ℕ) (kept kept_now : LinkKept)
-    → new ≡ append_known old held → held_now ≡ bytes → before ≤ now → kept_now ≡ kept
-    → Wrote (holding_told old held before kept) (holding_told new held_now now kept_now) bytes
-flush_is_put old new held held_now bytes before now kept kept_now given holds later same = record {
-  sent = ap (append_known new) holds ∙ ap (λ k. append_known k bytes) given;
-  count = refl;
-  later = later;
-  gone = (held, given);
-  kept = same;
-}
-
 -- some of what was held is given, and nothing is put
 pub flush_failed : (old new : Option (List ℕ)) (held held_now bytes : List ℕ) (before now : ℕ) (kept kept_now : LinkKept) (more : List ℕ)
     → append_known new held_now ≡ append_known old held → new ≡ append_known old more → before ≤ now → Rose before now → kept_now ≡ kept

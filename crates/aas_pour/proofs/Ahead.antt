@@ -19,9 +19,6 @@ pub record Ahead (rows : List Line) (from at : ℕ) : Type 0 where
   pub same : (w : Show) → elements_from w rows from ≡ elements_from w rows at
   pub order : from ≤ at
 
-pub ahead_start : (rows : List Line) (from : ℕ) → Ahead rows from from
-ahead_start rows from = record { same = λ w. refl; order = omega arith }
-
 pub ahead_past : (rows : List Line) (from at : ℕ) → Ahead rows from at → slice_get rows at ≡ None → (w : Show) → IsNextElement w rows from None
 unfolding IsNextElement
 ahead_past rows from at h none w = h.same w ∙ ap (elements_of w) (past_end rows at none)

@@ -2,7 +2,6 @@
 use Rattle.std.proofs.Common.{◌≡◌, inl, inr, ℕ, suc, ◌+◌, ◌<◌, ◌≤◌, ◌==◌, ◌||◌, Bool, true, false, List, [], ◌∷◌, ◌++◌, length, length-append, ◌*◌, drop, Some, None, slice_get, refl, sym, ap, ◌∙◌, subst, append_assoc, arith, if◌then◌else◌}
 use Rattle.std.proofs.Math.Numerals.{add-one}
 use Rattle.std.proofs.lemmas.Bool.{cases_eq, ne_eqb}
-use Rattle.std.proofs.lemmas.List.{append-nil}
 use Rattle.aas_out.specs.Adds.{Adds}
 use Rattle.aas_out.specs.Told.{Told}
 use Rattle.aas_out.specs.declared.pouring.Pouring.{Pouring}
@@ -11,7 +10,7 @@ use Rattle.aas_rows.specs.Rows.{Line}
 use Rattle.aas_members_text.specs.Members.{opening, closing, part, fields_text, field_text, later_after, stop_name}
 use Rattle.aas_members_text.specs.Script.{Spoken, script, element_text, at_stop, more_text, listed_text, is_any}
 use Rattle.aas_members_text.specs.declared.members.Show.{Show}
-use Rattle.aas_pour.specs.Poured.{voices, kids_at, if_row, text_at, HasRow}
+use Rattle.aas_pour.specs.Poured.{voices, kids_at, if_row}
 use Rattle.aas_pour.specs.Walk.{AreBelow, IsFirst, IsNested, IsWalk, Poured, behind, up, remaining, walk_left, work, turns}
 use Rattle.aas_pour.proofs.Looking.{below_none, below_both, below_higher, skipped}
 use Rattle.aas_pour.proofs.Open.{nested_below}
@@ -225,27 +224,6 @@ pub record Underway {K : Type 0} (w : Show) (rows : List Line) (whole : List ℕ
   pub adds : Adds so_far state told now poured
   pub kept : walk.done ≡ false → IsWalk rows walk
 
-pub begun : {K : Type 0} (w : Show) (rows : List Line) (n : ℕ) (walk : Walk) (so_far state : Pouring) (told now : Told K) (h : HasRow rows n) → walk.open.items ≡ [] → walk.rank ≡ n → walk.next ≡ 6 → walk.later ≡ false → walk.done ≡ false → Adds so_far state told now (123 ∷ [])
-    → Underway w rows (text_at w rows n) walk so_far state told now
-begun w rows n walk so_far state told now h none rank next later going adds = record {
-  poured = 123 ∷ [];
-  parts =
-      ap (λ o. if_row o (λ r. element_text w r (kids_at w rows r n))) h.1
-      ∙ ap (λ t. 123 ∷ t) (sym (append-nil (script w h.0 (kids_at w rows h.0 n) 6 false))
-      ∙ sym (ap (λ o. if_row o (λ r. script w r (kids_at w rows r n) 6 false ++ [])) h.1)
-      ∙ sym (is_going walk.done (remaining w rows walk.open.items walk.rank walk.next walk.later) going ∙ ap (λ fs. remaining w rows fs walk.rank walk.next walk.later) none
-      ∙ ap (λ m. remaining w rows [] m walk.next walk.later) rank ∙ ap (λ j. remaining w rows [] n j walk.later) next ∙ ap (λ b. remaining w rows [] n 6 b) later));
-  adds = adds;
-  kept = λ e. record {
-    nested = subst (λ fs. IsNested rows 0 fs walk.rank) (sym none) (λ r is. subst (λ (l : Line). 0 < l.level) (same_row h.0 r (sym h.1 ∙ sym (ap (slice_get rows) rank) ∙ is)) h.2);
-    part = omega (arith, next);
-    passed = λ low r is. absurd (omega (arith, next, low));
-  };
-}
-  where
-    same_row : (a b : Line) → Some a ≡ Some b → a ≡ b
-    same_row a b e = cc
-
 pub stepped : {K : Type 0} (w : Show) (rows : List Line) (whole : List ℕ) (old new : Walk) (so_far state after : Pouring) (told mid now : Told K) → Underway w rows whole old so_far state told mid → Poured w rows (walk_left w rows old) new state after mid now
     → Underway w rows whole new so_far after told now
 stepped w rows whole old new so_far state after told mid now h p = record {
@@ -254,14 +232,6 @@ stepped w rows whole old new so_far state after told mid now h p = record {
   adds = adds_both so_far state after told mid now h.poured p.piece h.adds p.adds;
   kept = p.kept;
 }
-
-pub ended : {K : Type 0} (w : Show) (rows : List Line) (whole : List ℕ) (walk : Walk) (so_far state : Pouring) (told now : Told K) → Underway w rows whole walk so_far state told now → walk.done ≡ true → Adds so_far state told now whole
-ended w rows whole walk so_far state told now h done =
-    subst (Adds so_far state told now) (sym (h.parts ∙ ap (λ t. h.poured ++ t) (is_done walk.done (remaining w rows walk.open.items walk.rank walk.next walk.later) done) ∙ append-nil h.poured)) h.adds
-  where
-    is_done : (b : Bool) (x : List ℕ) → b ≡ true → (if b then [] else x) ≡ []
-    is_done true x e = refl
-    is_done false x e = absurd (cc)
 
 falls_by : (done : Bool) (m n : ℕ) → (done ≡ false → m < n) → (if done then 0 else suc m) < suc n
 falls_by true m n h = omega arith

@@ -1,6 +1,6 @@
 -- What stands at a rank.
 use Rattle.std.proofs.Common.{◌≡◌, ℕ, ◌+◌, ◌≤◌, Bool, List, [], ◌∷◌, ◌++◌, map, length, drop, Option, Some, None, refl, sym, ap, ◌∙◌, append_assoc, arith, length-append}
-use Rattle.std.proofs.lemmas.List.{append-nil, drop_all}
+use Rattle.std.proofs.lemmas.List.{append-nil}
 use Rattle.aas_model.specs.declared.element.Element.{Element}
 use Rattle.aas_model.specs.declared.path.PathStep.{PathStep}
 use Rattle.aas_path_trees.specs.ElementAt.{element_among}
@@ -53,10 +53,6 @@ first_tree e k rest b = ap (λ xs. forest (xs ++ rest)) (sym (append-nil (rows e
 pub trees_from : (b : List Line) (e : Element) (k n : ℕ) (rest : List Line) → BeginsRows k rest → length b ≡ n → trees_of (drop n (b ++ (rows e k ++ rest))) ≡ e ∷ trees_of rest
 trees_from b e k n rest h at =
     ap (λ n. trees_of (drop n (b ++ (rows e k ++ rest)))) (sym at) ∙ ap trees_of (behind_front b (rows e k ++ rest)) ∙ ap (map (λ (p : Placed). p.1)) (first_tree e k rest h)
-
-pub no_trees : (rs : List Line) (n : ℕ) → length rs ≤ n → trees_of (drop n rs) ≡ []
-unfolding forest
-no_trees rs n le = ap trees_of (drop_all n rs le)
 
 abbrev pub first_of : List Element → Option Element
 first_of [] = None
