@@ -3,12 +3,10 @@ use Rattle.std.proofs.Common.{◌≡◌, List, [], ◌++◌, flat_map, refl, sym
 use Rattle.std.proofs.lemmas.List.{append-nil}
 use Rattle.aas_constraint_rules.specs.Sites.{Own}
 use Rattle.aas_constraint_rules.specs.Texts.{as_list}
-use Rattle.aas_model.specs.declared.asset.AssetInformation.{AssetInformation}
 use Rattle.aas_model.specs.declared.common.Common.{Common}
 use Rattle.aas_model.specs.declared.documents.Concept.{Concept}
 use Rattle.aas_model.specs.declared.documents.Shell.{Shell}
 use Rattle.aas_model.specs.declared.documents.Submodel.{Submodel}
-use Rattle.aas_model.specs.declared.parts.Administration.{Administration}
 use Rattle.aas_model.specs.declared.parts.Qualifier.{Qualifier}
 use Rattle.aas_model.specs.declared.payload.Payload.{Payload}
 use Rattle.aas_model.specs.declared.payload.Payload.TheVariants as p
@@ -26,12 +24,6 @@ semantics_in_turn s = ap (λ l. as_list s.semantic_id ++ l) (append-nil s.supple
 pub qualifier_in_turn : (q : Qualifier) → held_by_qualifier q ≡ held_by (semantics_members q.semantics) ++ as_list q.value_id
 qualifier_in_turn q = three (as_list q.semantics.semantic_id) q.semantics.supplemental_semantic_ids (as_list q.value_id)
     ∙ ap (λ l. l ++ as_list q.value_id) (sym (semantics_in_turn q.semantics))
-
-pub administration_in_turn : (a : Administration) → held_by_administration a ≡ as_list a.creator
-administration_in_turn a = append-nil (as_list a.creator)
-
-pub asset_in_turn : (a : AssetInformation) → held_by_asset a ≡ flat_map held_by_asset_id a.specific_asset_ids
-asset_in_turn a = append-nil (flat_map held_by_asset_id a.specific_asset_ids)
 
 five : {X : Type 0} (a b c d e : List X) → a ++ (b ++ (c ++ (d ++ (e ++ [])))) ≡ (((a ++ b) ++ c) ++ d) ++ e
 five a b c d e = simp (append_assoc, append-nil)

@@ -1,8 +1,7 @@
 -- The first lost keys of several references, one thing that holds references after another.
-use Rattle.std.proofs.Common.{◌≡◌, ℕ, ◌+◌, ◌<◌, ◌≤◌, List, [], ◌∷◌, ◌++◌, length, drop, get_or, flat_map, Result, Ok, Err, refl, sym, ap, ◌∙◌, append_assoc, arith, length-drop}
+use Rattle.std.proofs.Common.{◌≡◌, ℕ, ◌+◌, ◌<◌, List, [], ◌∷◌, ◌++◌, length, drop, get_or, flat_map, Result, Ok, Err, refl, sym, ap, ◌∙◌, append_assoc}
 use Rattle.std.specs.Prelude.{OnOk}
 use Rattle.std.proofs.lemmas.Grind.{flat_map-append}
-use Rattle.std.proofs.lemmas.List.{append-nil, nil_from_length}
 use Rattle.std.proofs.lemmas.List.Elements.{filter_map-append}
 use Rattle.aas_constraint_parts.proofs.Lists.{left}
 use Rattle.aas_model.specs.declared.reference.Reference.{Reference}
@@ -41,12 +40,6 @@ module _ (m : Documents) where
       let rest = dangling_keys m (flat_map held (drop (i + 1) items)) in
       so_far ∙ ap (λ xs. now ++ dangling_keys m (flat_map held xs)) (left items i x lt at) ∙ ap (λ l. now ++ l) (keys_append (held x) (flat_map held (drop (i + 1) items)))
       ∙ sym (append_assoc now (dangling_keys m (held x)) rest) ∙ ap (λ l. l ++ rest) (sym added)
-
-  pub all_done : {X : Type 0} (held : X → List Reference) (start now : List ℕ) (items : List X) (i : ℕ) → length items ≤ i → SoFar held start now items i
-      → now ≡ start ++ dangling_keys m (flat_map held items)
-  all_done held start now items i le so_far =
-      let none_left : drop i items ≡ [] = nil_from_length (drop i items) (omega (arith, length-drop i items)) in
-      sym (so_far ∙ ap (λ xs. now ++ dangling_keys m (flat_map held xs)) none_left ∙ append-nil now)
 
 -- a list of references as things that hold one each
 pub singly : (rs : List Reference) → rs ≡ flat_map (λ r. r ∷ []) rs

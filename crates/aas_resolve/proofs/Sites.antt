@@ -1,25 +1,23 @@
 -- The dangling references at the places of a tree, one child after another.
 use Rattle.std.proofs.Common.{◌≡◌, ℕ, ◌+◌, ◌<◌, ◌≤◌, Bool, List, [], ◌∷◌, ◌++◌, length, take, drop, get_or, map, flat_map}
-use Rattle.std.proofs.Common.{Option, Some, None, Result, Ok, Err, refl, sym, ap, ap₂, ◌∙◌, subst, append_assoc, length-append, length-drop, arith, ◌-◌}
+use Rattle.std.proofs.Common.{Option, Some, Result, Ok, Err, refl, sym, ap, ap₂, ◌∙◌, subst, append_assoc, length-append, length-drop, arith, ◌-◌}
 use Rattle.std.specs.Prelude.{OnOk}
 use Rattle.std.specs.List.{remove}
 use Rattle.std.proofs.lemmas.List.Edits.{remove-append_right}
 use Rattle.std.proofs.lemmas.Grind.{flat_map-append}
 use Rattle.std.proofs.lemmas.List.{append-nil, length-map, length-take, nil_from_length}
 use Rattle.aas_lemmas.proofs.Lists.{append_one}
-use Rattle.aas_model.specs.declared.documents.Submodel.{Submodel}
 use Rattle.aas_model.specs.declared.element.Element.{Element}
 use Rattle.aas_model.specs.declared.path.PathStep.{PathStep}
 use Rattle.aas_model_names.specs.declared.collection.Collection.TheVariants.{Submodels}
 use Rattle.aas_constraint_parts.proofs.Lists.{left}
-use Rattle.aas_constraint_rules.specs.Faults.{is_template}
 use Rattle.aas_constraint_rules.specs.Sites.{Own, own_of, Site, under, step_to, root, sites, sites_among, trees, tree_of}
 use Rattle.aas_constraint_rules.proofs.Elements.{tree_out}
 use Rattle.aas_constraints.proofs.Lists.{taken_map}
 use Rattle.aas_path_trees.specs.Children.{kids_of}
 use Rattle.aas_store.specs.Documents.{Documents, Identifier}
-use Rattle.aas_resolve.specs.Dangling.{dangling_at, dangling_at_site, dangling_in_submodel}
-use Rattle.aas_resolve.specs.Held.{held_by_element, held_by_submodel}
+use Rattle.aas_resolve.specs.Dangling.{dangling_at, dangling_at_site}
+use Rattle.aas_resolve.specs.Held.{held_by_element}
 use Rattle.aas_resolve.specs.declared.report.Dangling.{Dangling}
 
 -- the last item taken off again
@@ -54,16 +52,6 @@ module _ (m : Documents) (id : Identifier) where
       let here = dangling_at m Submodels id p (held_by_element (own_of e)) in
       let rest = among p t (Some (own_of e)) [] (kids_of e) in
       below t ∙ ap (λ l. l ++ rest) at ∙ append_assoc old here rest ∙ ap (λ l. old ++ l) (sym (element_out p t a b e))
-
-  -- those at a submodel were found, and then those of its elements
-  pub submodel_done : {A E : Type 0} (r : Result A E) (old now new : List Dangling) (p : List PathStep) (d : Submodel) → p ≡ [] → now ≡ old ++ dangling_at m Submodels id p (held_by_submodel d)
-      → OnOk r ((t : Bool) → new ≡ now ++ among p t None [] d.kids) → OnOk r (new ≡ old ++ dangling_in_submodel m id d)
-  submodel_done (Err x) old now new p d none at below = tt
-  submodel_done (Ok x) old now new p d none at below =
-      let here = dangling_at m Submodels id p (held_by_submodel d) in
-      let rest = among p (is_template d.kind) None [] d.kids in
-      below (is_template d.kind) ∙ ap (λ l. l ++ rest) at ∙ append_assoc old here rest
-      ∙ ap (λ p. old ++ (dangling_at m Submodels id p (held_by_submodel d) ++ among p (is_template d.kind) None [] d.kids)) none
 
   behind_under : (p : List PathStep) (s : PathStep) (xs : List Site) → flat_map (dangling_at_site m id p) (map (under s) xs) ≡ flat_map (dangling_at_site m id (p ++ s ∷ [])) xs
   behind_under p s [] = refl

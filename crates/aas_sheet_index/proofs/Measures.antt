@@ -58,9 +58,6 @@ pub record Counted (ss : List Side) (k first end : ℕ) : Type 0 where
   pub inside : end ≤ length ss
   pub counts : count_deeper k (levels (drop first ss)) ≡ end - first + count_deeper k (levels (drop end ss))
 
-pub count_none : (ss : List Side) (k first : ℕ) → first ≤ length ss → Counted ss k first first
-count_none ss k first le = record { above = omega arith; inside = le; counts = omega arith }
-
 size_head : (ss : List Side) (first n : ℕ) (s : Side) → sizes_of (drop first ss) ≡ sizes (levels (drop first ss)) → first ≤ n → n < length ss → s ≡ get_or ss n s → s.size ≡ 1 + count_deeper s.level (levels (drop (n + 1) ss))
 size_head ss first n s known le lt is = by (n - first) (drop first ss) known (drop_more (n - first) first ss ∙ ap (λ m. drop m ss) back ∙ front ss n s lt is)
   where

@@ -42,9 +42,6 @@ apart m n ne = by (m == n) refl
 pub within : (first end r : ℕ) → first ≤ r → r < end → is_between first end r ≡ true
 within first end r low high = ap₂ (λ b c. not b && c) (not_lt r first low) (is_lt r end high)
 
-pub too_low : (first end r : ℕ) → r < first → is_between first end r ≡ false
-too_low first end r low = ap (λ b. not b && nat_lt r end) (is_lt r first low)
-
 pub too_high : (first end r : ℕ) → end ≤ r → is_between first end r ≡ false
 too_high first end r high = ap (λ c. not (nat_lt r first) && c) (not_lt r end high) ∙ and_false (not (nat_lt r first))
 

@@ -1,10 +1,10 @@
 -- Sides that come into the place of others, and their index.
 use Rattle.std.proofs.Common.{◌≡◌, ℕ, zero, suc, ◌+◌, ◌-◌, ◌<◌, ◌≤◌, ◌^◌, ◌==◌, ◌&&◌, List, [], ◌∷◌, ◌++◌, length, map, take, drop, slice_get, refl, sym, ap, ap₂, ◌∙◌, subst, append_assoc, arith, length-append}
-use Rattle.std.specs.List.{filter, remove_range, replace_range}
+use Rattle.std.specs.List.{filter, replace_range}
 use Rattle.std.specs.List.Sorted.{IsPermutation, IsSorted}
 use Rattle.std.specs.Ordering.{is_lt}
 use Rattle.std.proofs.Math.Seq.{take-length}
-use Rattle.std.proofs.lemmas.List.{append-nil, drop_all, map-append}
+use Rattle.std.proofs.lemmas.List.{append-nil, map-append}
 use Rattle.std.proofs.lemmas.List.Elements.{filter-append, All-append, All-drop, All-take}
 use Rattle.std.proofs.lemmas.List.Sorted.{list_any-IsPermutation}
 use Rattle.aas_model_text.specs.Many.{filled}
@@ -198,13 +198,6 @@ waiting_none ss count ranks at x = record {
   index = subst (λ ss. IsPart ss 0 ranks) (sym (ap (λ n. take n ss) at ∙ take-length ss)) x.part;
   part = record { ordered = λ k d low high. absurd (omega arith); listed = listed_none ss count (length ss) (omega (arith, at)) };
 }
-
-pub replaced_more : (old more all : List Side) (first end count : ℕ) → count ≡ length old → all ≡ old ++ more → replace_range (take count all) first end (drop count all) ≡ replace_range old first end more
-replaced_more old more all first end count at is = ap₂ (λ xs ys. replace_range xs first end ys) (take_seam all old more count is (sym at)) (drop_seam all old more count is (sym at))
-
-pub replaced_none : (ss : List Side) (first end count : ℕ) → count ≡ length ss → replace_range (take count ss) first end (drop count ss) ≡ remove_range ss first end
-replaced_none ss first end count at =
-    ap₂ (λ xs ys. replace_range xs first end ys) (ap (λ n. take n ss) at ∙ take-length ss) (drop_all count ss (omega (arith, at))) ∙ ap (λ xs. xs ++ drop end ss) (append-nil (take first ss))
 
 -- ---- what was lent
 

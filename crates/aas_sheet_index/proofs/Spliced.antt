@@ -1,7 +1,7 @@
 -- Items at the end of a list that are put into the place of others.
 use Rattle.std.proofs.Common.{◌≡◌, ℕ, zero, suc, ◌+◌, ◌-◌, ◌≤◌, List, [], ◌∷◌, ◌++◌, length, take, drop, remove, reverse, slice_get, Some, refl, sym, ap, ap₂, ◌∙◌, append_assoc, arith, length-append}
 use Rattle.std.proofs.Math.Seq.{take-append_seam, drop-append_seam}
-use Rattle.std.proofs.lemmas.List.{take-append-drop, length-take-le, length-drop, append-nil, length-reverse, reverse-append, reverse-reverse, take-append-le}
+use Rattle.std.proofs.lemmas.List.{take-append-drop, length-take-le, length-drop, length-reverse, reverse-append, reverse-reverse, take-append-le}
 use Rattle.std.specs.List.{remove_range, replace_range, slice_range}
 use Rattle.aas_model_text.specs.Many.{filled}
 
@@ -111,9 +111,6 @@ pub kept_more : {X : Type 0} (start items items' : List X) (x : X) → length st
 kept_more start items items' x inside kept pushed =
     let longer = ap length pushed ∙ length-append items (x ∷ []) in
     (omega (arith, longer), ap (take (length start)) pushed ∙ take-append-le (length start) items (x ∷ []) inside ∙ kept)
-
-pub poured_all : {X : Type 0} (start items more : List X) → start ≡ items ++ reverse more → more ≡ [] → items ≡ start
-poured_all start items more is none = sym (is ∙ ap (λ ys. items ++ reverse ys) none ∙ append-nil items)
 
 -- the part that was put behind, turned round
 pub appended : {X : Type 0} (xs more poured lent turned : List X) (count : ℕ) → count ≡ length xs → poured ≡ xs ++ reverse more → lent ≡ poured → turned ≡ take count lent ++ reverse (drop count lent) → filled poured turned ≡ xs ++ more

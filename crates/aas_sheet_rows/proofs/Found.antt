@@ -1,11 +1,11 @@
 -- Where elements stand in a table.
-use Rattle.std.proofs.Common.{◌≡◌, ℕ, zero, suc, ◌+◌, ◌-◌, ◌<◌, ◌≤◌, Bool, true, false, cond, List, [], ◌∷◌, ◌++◌, length, take, drop, get_or, Option, Some, None, option_map, slice_get, refl, sym, ap, ap₂, ◌∙◌, subst, append_assoc, arith, length-append, if◌then◌else◌}
+use Rattle.std.proofs.Common.{◌≡◌, ℕ, zero, suc, ◌+◌, ◌-◌, ◌<◌, ◌≤◌, Bool, true, false, cond, List, [], ◌∷◌, ◌++◌, length, take, drop, get_or, Option, Some, None, option_map, slice_get, refl, sym, ap, ap₂, ◌∙◌, append_assoc, arith, length-append, if◌then◌else◌}
 use Rattle.std.proofs.lemmas.List.{length-take, length-map}
 use Rattle.aas_model.specs.declared.element.Element.{Element}
 use Rattle.aas_model.specs.declared.path.PathStep.{PathStep}
 use Rattle.aas_model.specs.declared.path.PathStep.TheVariants.{Name, Place}
 use Rattle.aas_path_trees.specs.Children.{kids_of, is_list, is_list_payload}
-use Rattle.std.specs.Option.{option_map_or, IfSome}
+use Rattle.std.specs.Option.{option_map_or}
 use Rattle.aas_path_trees.specs.ElementAt.{child_by, depth_below, depth_among}
 use Rattle.aas_path_trees.proofs.Paths.{child_by-there}
 use Rattle.aas_rows.specs.Children.{nth_where, is_at, is_named, row_of_step}
@@ -237,14 +237,6 @@ rank_inside l s k first end ss i le e =
     let lt = side_inside l s k (take (end - first) (drop first ss)) i (sym e) in
     let long : length (take (end - first) (drop first ss)) ≤ end - first = omega (arith, length-take (end - first) (drop first ss)) in
     omega (arith, lt, long)
-
--- so is a rank to which a step leads
-pub rank_walked : (l : Bool) (s : PathStep) (k first end : ℕ) (ss : List Side) (result : Option ℕ) → first ≤ end → result ≡ option_map (λ i. first + i) (side_of_step l s k (take (end - first) (drop first ss))) → IfSome result (λ r. r < end)
-rank_walked l s k first end ss result le is = subst (λ (o : Option ℕ). IfSome o (λ r. r < end)) (sym is) (by (side_of_step l s k (take (end - first) (drop first ss))) refl)
-  where
-    by : (o : Option ℕ) → side_of_step l s k (take (end - first) (drop first ss)) ≡ o → IfSome (option_map (λ i. first + i) o) (λ r. r < end)
-    by None none = tt
-    by (Some i) some = rank_inside l s k first end ss i le (sym some)
 
 -- ---- sizes
 

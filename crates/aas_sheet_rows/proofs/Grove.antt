@@ -1,6 +1,5 @@
 -- Trees that are grown from the last row to the first.
-use Rattle.std.proofs.Common.{◌≡◌, ℕ, zero, suc, ◌+◌, ◌-◌, ◌<◌, ◌≤◌, true, false, nat_lt, List, [], ◌∷◌, ◌++◌, length, take, drop, get_or, remove, Some, None, slice_get, refl, sym, ap, ap₂, ◌∙◌, append_assoc, arith, if◌then◌else◌}
-use Rattle.std.proofs.lemmas.List.{append-nil}
+use Rattle.std.proofs.Common.{◌≡◌, ℕ, zero, suc, ◌+◌, ◌-◌, ◌<◌, ◌≤◌, true, nat_lt, List, [], ◌∷◌, ◌++◌, length, take, drop, get_or, remove, Some, None, slice_get, refl, sym, ap, ap₂, ◌∙◌, append_assoc, arith, if◌then◌else◌}
 use Rattle.aas_model.specs.declared.element.Element.{Element}
 use Rattle.aas_rows.specs.Rows.{Line, Placed, deeper, beside, forest, element_of}
 use Rattle.aas_sheet_rows.specs.Growing.{placed_of, first_is_deeper, top_is_deeper, rows_between}
@@ -28,17 +27,9 @@ pub top_test : (k : ℕ) (gs : List Tree) (n : ℕ) (g : Tree) → n ≡ length 
 top_test k gs n g is some e =
     let long : suc (n - 1) ≡ length gs = omega arith in sym (ap (first_is_deeper k) (placed_last gs (n - 1) g long (sym e)))
 
-pub no_top : (k : ℕ) (gs : List Tree) → length gs ≡ 0 → false ≡ top_is_deeper k gs
-no_top k [] e = refl
-no_top k (g ∷ gs) e = absurd (omega arith)
-
 pub top_there : (k : ℕ) (gs : List Tree) → top_is_deeper k gs ≡ true → 0 < length gs
 top_there k [] e = absurd (cc)
 top_there k (g ∷ gs) e = omega arith
-
-pub none_left : (k : ℕ) (ps : List Placed) → first_is_deeper k ps ≡ false → (deeper k ps ≡ []) × (beside k ps ≡ ps)
-none_left k [] e = (refl, refl)
-none_left k (p ∷ ps) e = (ap (λ b. if b then p.1 ∷ deeper k ps else []) e, ap (λ b. if b then beside k ps else p ∷ ps) e)
 
 -- one more is adopted
 pub record Adopting (k : ℕ) (start gs : List Tree) (kids : List Element) : Type 0 where
@@ -55,11 +46,6 @@ adopt_one k start gs gs' kids kids' m g a test long at gs_is kids_is =
           ∙ sym (append_assoc kids (g.element ∷ []) (deeper k (placed_of gs'))) ∙ ap (λ ks. ks ++ deeper k (placed_of gs')) (sym kids_is);
       rest_is = a.rest_is ∙ ap (beside k) parts ∙ ap (λ b. if b then beside k (placed_of gs') else top_of g ∷ placed_of gs') holds;
     }
-
-pub adopted_all : (k : ℕ) (start gs : List Tree) (kids : List Element) → Adopting k start gs kids → top_is_deeper k gs ≡ false → (kids ≡ deeper k (placed_of start)) × (placed_of gs ≡ beside k (placed_of start))
-adopted_all k start gs kids a test =
-    let n = none_left k (placed_of gs) test in
-    (sym (a.kids_are ∙ ap (λ es. kids ++ es) n.0 ∙ append-nil kids), sym (a.rest_is ∙ n.1))
 
 -- ---- one row more
 

@@ -87,10 +87,6 @@ fewer_left w w' w'' m g kids long at left kids_are stacked =
     let after = ap length next in
     omega (arith, before, after)
 
-pub all_laid : (rs₀ : List Row) (ss₀ : List Side) (es : List Element) (k : ℕ) (rs : List Row) (ss : List Side) (w : List Tree) → Laying rs₀ ss₀ es k rs ss w → w ≡ [] → lines_of rs ss ≡ lines_of rs₀ ss₀ ++ rows_of_all es k
-all_laid rs₀ ss₀ es k rs ss w l none =
-    l.laid ∙ ap (λ ls. lines_of rs₀ ss₀ ++ ls) (sym (l.left ∙ ap (λ w. l.done ++ lines (placed_of w)) none ∙ append-nil l.done))
-
 -- ---- levels
 
 level_bound : (top k : ℕ) (ls : List ℕ) (n l : ℕ) → Steps top k ls → slice_get ls n ≡ Some l → l ≤ k + 1 + n

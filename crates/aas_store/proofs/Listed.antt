@@ -162,9 +162,6 @@ left_behind ks n i left rest x so_far lt at is =
       same = so_far.same ∙ ap (λ es. slice_get es left) (front ks i x lt at) ∙ get_behind (elements x) (elements_of_all (drop (i + 1) ks)) rest left is;
     }
 
-pub left_at_end : (ks : List Element) (n i left : ℕ) → HasLeft ks n i left → length ks ≤ i → left + length (elements_of_all ks) ≡ n
-left_at_end ks n i left so_far le = let none = size_none ks i le in omega (arith, so_far.count, none)
-
 -- the child in the place to which a step leads
 pub spotted : (l : Bool) (ks : List Element) (n : ℕ) (s : PathStep) (i : ℕ) (k : Element) (r : ℕ) (x : Kind) → Some i ≡ place_of l s ks → Some k ≡ slice_get ks i
     → r ≡ n + length (elements_of_all (take i ks)) → x ≡ kind_of k → Some (record { rank = r; kind = x }) ≡ spot_among l ks n s

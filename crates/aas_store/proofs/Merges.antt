@@ -11,8 +11,7 @@ use Rattle.std.proofs.Math.Seq.{append_snoc}
 use Rattle.std.proofs.lemmas.Cmp.{nat_list_cmp_total}
 use Rattle.std.specs.Prelude.{◌↔◌, IsTrue}
 use Rattle.std.specs.Str.{encode_utf8_all}
-use Rattle.std.proofs.lemmas.List.{append-nil, map-append, reverse-append}
-use Rattle.aas_store.specs.Merged.{IsMerged}
+use Rattle.std.proofs.lemmas.List.{map-append, reverse-append}
 use Rattle.aas_store.specs.Shelf.{pairs}
 use Rattle.aas_store.specs.declared.shelf.Entry.{Entry}
 use Rattle.aas_store.proofs.Ordered.{Entries, both, greater, is_below, less, order, parts, same_id, same_some, tail}
@@ -96,13 +95,6 @@ pub record IsMerging {X : Type 0} (older newer left_older left_newer merged : En
   pub found : (q : List ℕ) → option_or (find order q left_newer) (find order q (left_older ++ merged)) ≡ option_or (find order q newer) (find order q older)
 
 module _ {X : Type 0} (older newer : Entries X) where
-  pub begin : T (is_sorted order older) → T (is_sorted order newer) → IsMerging older newer older newer []
-  begin sorted_older sorted_newer = record {
-    older_in_order = subst (λ (es : Entries X). T (is_sorted order es)) (sym (append-nil older)) sorted_older;
-    newer_in_order = subst (λ (es : Entries X). T (is_sorted order es)) (sym (append-nil newer)) sorted_newer;
-    found = λ q. ap (λ (es : Entries X). option_or (find order q newer) (find order q es)) (append-nil older);
-  }
-
   -- the last of the older ones is the greatest of all
   pub older_moved : (os ns ms : Entries X) (x y : List ℕ × X) → IsMerging older newer (os ++ x ∷ []) (ns ++ y ∷ []) ms → order x.0 y.0 ≡ Greater → IsMerging older newer os (ns ++ y ∷ []) (x ∷ ms)
   older_moved os ns ms x y so_far gt = record {
@@ -173,9 +165,6 @@ module _ {X : Type 0} (older newer : Entries X) where
       by q false is =
           ap (option_or (find order q (ns ++ y ∷ [])))
           (sym (found_between q x os ms whole ∙ ap (λ b. cond b (Some x.1) (find order q (os ++ ms))) (ap (eq_by_cmp order q) (same_id x.0 y.0 eq) ∙ is)))
-
-  pub end : (ms : Entries X) → IsMerging older newer [] [] ms → IsMerged older newer ms
-  end ms so_far = record { in_order = so_far.older_in_order; found = so_far.found }
 
 -- ---- the same of entries, where the merged ones stand in turned order
 

@@ -1,8 +1,7 @@
 -- Rows in preorder, one at a time.
-use Rattle.std.proofs.Common.{◌≡◌, ℕ, zero, suc, ◌+◌, ◌-◌, ◌<◌, ◌≤◌, List, [], ◌∷◌, ◌++◌, length, drop, get_or, slice_get, Some, None, Result, Ok, Err, MatchResult, refl, sym, ap, ◌∙◌, arith, length-append}
+use Rattle.std.proofs.Common.{◌≡◌, ℕ, zero, suc, ◌+◌, ◌-◌, ◌<◌, ◌≤◌, List, [], ◌∷◌, ◌++◌, length, drop, get_or, slice_get, Some, None, Result, Ok, Err, MatchResult, sym, ap, ◌∙◌, arith, length-append}
 use Rattle.std.proofs.Math.Seq.{drop-cons}
 use Rattle.std.proofs.Math.Numerals.{add-one}
-use Rattle.std.proofs.lemmas.List.{drop_all}
 use Rattle.std.proofs.lemmas.Option.{slice_get_past}
 use Rattle.aas_model.specs.declared.element.Element.{Element}
 use Rattle.aas_path_trees.specs.Children.{kids_of}
@@ -46,9 +45,6 @@ pub record HasRowsLeft (ks : List Element) (k n i left : ℕ) : Type 0 where
   pub count : left + length (rows_of_all ks k) ≡ n + length (rows_of_all (drop i ks) k)
   pub same : slice_get (rows_of_all ks k) n ≡ slice_get (rows_of_all (drop i ks) k) left
 
-pub begun : (ks : List Element) (k n : ℕ) → HasRowsLeft ks k n 0 n
-begun ks k n = record { fewer = omega arith; count = refl; same = refl }
-
 pub found_here : (ks : List Element) (k n i left : ℕ) (x : Element) (r : Line) → HasRowsLeft ks k n i left → i < length ks → x ≡ get_or ks i x
     → slice_get (rows x k) left ≡ Some r → slice_get (rows_of_all ks k) n ≡ Some r
 found_here ks k n i left x r so_far lt at found =
@@ -63,11 +59,6 @@ left_behind ks k n i left rest x so_far lt at is =
       count = omega (arith, so_far.count, size, is);
       same = so_far.same ∙ ap (λ rs. slice_get rs left) (front ks k i x lt at) ∙ get_behind (rows x k) (rows_of_all (drop (i + 1) ks) k) rest left is;
     }
-
-pub left_at_end : (ks : List Element) (k n i left : ℕ) → HasRowsLeft ks k n i left → length ks ≤ i → left + length (rows_of_all ks k) ≡ n
-left_at_end ks k n i left so_far le =
-    let none : length (rows_of_all (drop i ks) k) ≡ 0 = ap (λ es. length (rows_of_all es k)) (drop_all i ks le) in
-    omega (arith, so_far.count, none)
 
 -- what is left of a rank says that no row has it
 pub no_row : (ks : List Element) (n left : ℕ) → left + length (rows_of_all ks 1) ≡ n → None ≡ slice_get (rows_of_all ks 1) n
