@@ -13,7 +13,6 @@ use Rattle.serde_json.specs.View.{items_view}
 use Rattle.serde_json.specs.declared.value.Value.{Value}
 use Rattle.aas_json_mapping.specs.Parts.{spell_specific_asset_id}
 use Rattle.aas_json_spelling.specs.Values.{HasOrder}
-use Rattle.aas_model.specs.declared.parts.LangText.{LangText}
 use Rattle.aas_model.specs.declared.parts.SpecificAssetId.{SpecificAssetId}
 use Rattle.aas_model.specs.declared.payload.Payload.{Payload}
 use Rattle.aas_model.specs.declared.payload.Payload.TheVariants as p
@@ -24,7 +23,7 @@ use Rattle.aas_model_names.specs.declared.entity_type.EntityType.{EntityType}
 use Rattle.aas_model_names.specs.declared.state_of_event.StateOfEvent.{StateOfEvent}
 use Rattle.aas_model_names.specs.declared.value_type.ValueType.{ValueType}
 use Rattle.aas_value.specs.Single.{single}
-use Rattle.aas_value.specs.ValueForm.{Child, named, in_order, annotation_value, array_of, language_value, text_or_null, reference_or_null, entity_type_or_null}
+use Rattle.aas_value.specs.ValueForm.{Child, named, in_order, annotation_value, array_of, text_or_null, reference_or_null, entity_type_or_null}
 use Rattle.aas_value_update.specs.Json.{is_single, is_string, is_string_or_null, is_reference, is_entity_type, is_array_of, is_specific_asset_id}
 use Rattle.aas_value_update.specs.Kinds.{own, part, form_of}
 use Rattle.aas_value_update.specs.Parts.{Part, object_of, entries_of, value, children, by_name, over, lay_form, members_fit, items_fit, fits_form, fits_if}
@@ -148,18 +147,6 @@ four f g h i o w e = record {
 }
 
 -- ---- kinds
-
-pub property_takes : (t : ValueType) (old new : Option (List ℕ)) (i : Option Reference) (v : Data) → single t new ≡ v
-    → Takes (p.Property t old i) v (p.Property t new i)
-property_takes t old new i v e = record { rest = refl; form = λ xs ys fits named took. ap (λ (d : Data). Some d) e }
-
-pub languages_take : (old new : List LangText) (i : Option Reference) (v : Data) → array_of language_value new ≡ v
-    → Takes (p.MultiLanguageProperty old i) v (p.MultiLanguageProperty new i)
-languages_take old new i v e = record { rest = refl; form = λ xs ys fits named took. ap (λ (d : Data). Some d) e }
-
-pub reference_takes : (old new : Option Reference) (v : Data) → reference_or_null new ≡ v
-    → Takes (p.ReferenceElement old) v (p.ReferenceElement new)
-reference_takes old new v e = record { rest = refl; form = λ xs ys fits named took. ap (λ (d : Data). Some d) e }
 
 pub range_takes : (t : ValueType) (min max min' max' : Option (List ℕ)) (ms : Members)
     → single t max' ≡ unwrap_or (get_member (codes "max") ms) (single t max) → single t min' ≡ unwrap_or (get_member (codes "min") ms) (single t min)
@@ -297,10 +284,6 @@ list_is (p.SubmodelElementList o s t v) y xs vs list same fits = record {
   kids = refl;
 }
 list_is x y xs vs list same fits = absurd (cc)
-
-pub list_unfit : (x : Payload) (xs : List Part) (ds : Items) → is_list_payload x ≡ true → items_fit xs ds ≡ false → fits_form (form_of x xs) (array ds) ≡ false
-list_unfit (p.SubmodelElementList o s t v) xs ds list e = e
-list_unfit x xs ds list e = absurd (cc)
 
 statements_took : (n : List ℕ) (xs ys : List Part) (s : Option Data) → fits_if (fits_form (object_of xs)) s ≡ true
     → Took xs (if_sent (by_names (children xs)) (children xs) s) ys

@@ -7,7 +7,7 @@ use Rattle.std.proofs.lemmas.Bool.Decides.{nat_tests}
 use Rattle.std.proofs.lemmas.List.{drop_all}
 use Rattle.std.specs.Prelude.{if◌then◌else◌}
 use Rattle.std.specs.Str.{encode_utf8_all}
-use Rattle.serde_json.specs.Data.{Data, object, Items, no_items, item, Members, no_members, member}
+use Rattle.serde_json.specs.Data.{Data, object, Items, no_items, Members}
 use Rattle.serde_json.specs.Events.{members_len}
 use Rattle.serde_json.specs.View.{view, items_view}
 use Rattle.serde_json.specs.declared.value.Value.{Value}
@@ -20,7 +20,7 @@ use Rattle.aas_value.specs.ValueForm.{Child, value_form}
 use Rattle.aas_value.proofs.Forms.{name_out}
 use Rattle.aas_value_update.specs.Kinds.{part_of}
 use Rattle.aas_value_update.specs.Parts.{Part, name_is, is_called, entry, children, members_fit, is_empty, item_fits, items_fit, entries_fit, fits_if}
-use Rattle.aas_value_update.specs.Shape.{under_name, next_item, in_turn, by_entries}
+use Rattle.aas_value_update.specs.Shape.{under_name, next_item, in_turn}
 use Rattle.aas_value_update.proofs.Canonical.{order_rises}
 use Rattle.aas_value_update.proofs.Named.{Apart}
 use Rattle.aas_json_spelling.specs.Values.{HasOrder}
@@ -136,47 +136,6 @@ called_kid n k a there name =
     all_right true = refl
     all_right false = refl
 
-abbrev chosen : List ℕ → Data → Items → Bool → Option Data × Items
-chosen n d ds b = if b then (Some d, ds) else (None, item (object (member n d no_members)) ds)
-
-pub entry_called : (c : Child) (n : List ℕ) (d : Data) (ms : Members) (ds : Items) → ms ≡ member n d no_members → is_called n c ≡ true
-    → entry c (item (object ms) ds) ≡ (Some d, ds)
-entry_called c n d ms ds single e = ap (λ z. entry c (item (object z) ds)) single ∙ ap (chosen n d ds) e
-
-pub entry_other : (c : Child) (n : List ℕ) (d : Data) (ms : Members) (ds : Items) → ms ≡ member n d no_members → is_called n c ≡ false
-    → entry c (item (object ms) ds) ≡ (None, item (object ms) ds)
-entry_other c n d ms ds single e =
-    ap (λ z. entry c (item (object z) ds)) single ∙ ap (chosen n d ds) e
-    ∙ ap (λ (z : Members). let p : Option Data × Items = (None, item (object z) ds) in p) (sym single)
-
-pub entry_many : (c : Child) (ms : Members) (ds : Items) → ((n : List ℕ) (d : Data) → ms ≡ member n d no_members → ⊥)
-    → entry c (item (object ms) ds) ≡ (None, item (object ms) ds)
-entry_many c no_members ds h = refl
-entry_many c (member n d no_members) ds h = absurd (h n d refl)
-entry_many c (member n d (member m e ms)) ds h = refl
-
-pub entry_none : (c : Child) (vs : List Value) → length vs < 1 → entry c (items_view vs) ≡ (None, items_view vs)
-entry_none c [] h = refl
-entry_none c (v ∷ vs) h = absurd (omega arith)
-
-pub entry_first : (c : Child) (v u : Value) (vs : List Value) → 0 < length vs → v ≡ get_or vs 0 v
-    → ((ds : Items) → entry c (item (view v) ds) ≡ (Some (view u), ds))
-    → entry c (items_view vs) ≡ (Some (view u), items_view (drop 1 vs))
-entry_first c v u [] long at h = absurd (omega arith)
-entry_first c v u (w ∷ vs) long at h = ap (λ (x : Value). entry c (item (view x) (items_view vs))) (sym at) ∙ h (items_view vs)
-
-pub entry_unlike : (c : Child) (v : Value) (vs : List Value) → 0 < length vs → v ≡ get_or vs 0 v
-    → ((ds : Items) → entry c (item (view v) ds) ≡ (None, item (view v) ds))
-    → entry c (items_view vs) ≡ (None, items_view vs)
-entry_unlike c v [] long at h = absurd (omega arith)
-entry_unlike c v (w ∷ vs) long at h =
-    ap (λ (x : Value). entry c (item (view x) (items_view vs))) (sym at) ∙ h (items_view vs)
-    ∙ ap (λ (x : Value). let p : Option Data × Items = (None, item (view x) (items_view vs)) in p) at
-
-pub entries_next : (k : Element) (cs : List Child) (ds : Items) (o : Option Data) (es : Items) → entry (part_of k).child ds ≡ (o, es)
-    → by_entries ((part_of k).child ∷ cs) ds ≡ o ∷ by_entries cs es
-entries_next k cs ds o es e = ap (λ (p : Option Data × Items). p.0 ∷ by_entries cs p.1) e
-
 -- ---- items that fit
 
 pub fit_past : (k : Element) (xs : List Part) (ds : Items) → is_some (part_of k).child.form ≡ false → items_fit (part_of k ∷ xs) ds ≡ items_fit xs ds
@@ -193,17 +152,6 @@ fit_first k xs [] there long = absurd (omega arith)
 fit_first k xs (v ∷ vs) there long =
     ap (λ b. if b then item_fits (part_of k).fits (items_fit xs) (items_view (v ∷ vs)) else items_fit xs (items_view (v ∷ vs))) there
     ∙ ap (λ (t : Data → Bool). t (view v) && items_fit xs (items_view vs)) (kid_fits k)
-
-pub fit_step : (ks : List Element) (i : ℕ) (k : Element) (ds es : Items) (all : Bool) → i < length ks → k ≡ get_or ks i k
-    → ((xs : List Part) → items_fit (part_of k ∷ xs) ds ≡ items_fit xs es) → items_fit (map part_of (drop i ks)) ds ≡ all
-    → items_fit (map part_of (drop (i + 1) ks)) es ≡ all
-fit_step ks i k ds es all lt at step so_far = sym (step (map part_of (drop (i + 1) ks)))
-    ∙ sym (ap (λ l. items_fit (map part_of l) ds) (front_kid ks i k lt at)) ∙ so_far
-
-pub fit_stop : (ks : List Element) (i : ℕ) (k : Element) (ds : Items) (all : Bool) → i < length ks → k ≡ get_or ks i k
-    → ((xs : List Part) → items_fit (part_of k ∷ xs) ds ≡ false) → items_fit (map part_of (drop i ks)) ds ≡ all → false ≡ all
-fit_stop ks i k ds all lt at stop so_far = sym (stop (map part_of (drop (i + 1) ks))) ∙ sym (ap (λ l. items_fit (map part_of l) ds) (front_kid ks i k lt at))
-    ∙ so_far
 
 is_empty_viewed : (vs : List Value) → is_empty (items_view vs) ≡ (length vs == 0)
 is_empty_viewed [] = refl

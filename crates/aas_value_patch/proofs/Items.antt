@@ -2,7 +2,7 @@
 use Rattle.std.proofs.Common.{◌≡◌, ℕ, suc, ◌+◌, ◌<◌, ◌&&◌, Bool, true, List, [], ◌∷◌, ◌++◌, length, map, drop, get_or, refl, sym, ap, ◌∙◌, subst, arith}
 use Rattle.std.proofs.Math.Seq.{drop-cons}
 use Rattle.std.proofs.Math.Numerals.{add-one}
-use Rattle.serde_json.specs.Data.{Data, array, Items, no_items, item}
+use Rattle.serde_json.specs.Data.{Data, array, Items, item}
 use Rattle.std.specs.Prelude.{String}
 use Rattle.std.specs.declared.alloc.Global.{Global}
 use Rattle.serde_json.specs.Events.{members_len}
@@ -13,10 +13,6 @@ use Rattle.aas_value_update.specs.Json.{has_empty_list, some_has_empty_list, all
 use Rattle.aas_json_members.proofs.Lists.{one_more}
 use Rattle.aas_json_spelling.specs.Values.{IsOrdered, AreOrdered}
 use Rattle.aas_json_table.specs.Spelled.{onto}
-
-pub none_viewed : (vs : List Value) → length vs < 1 → items_view vs ≡ no_items
-none_viewed [] h = refl
-none_viewed (v ∷ vs) h = absurd (omega arith)
 
 pub empty_itself : (vs : List Value) → length vs < 1 → has_empty_list (array (items_view vs)) ≡ true
 empty_itself [] h = refl

@@ -93,10 +93,6 @@ taken_here r c x ks v q seen old mid new so is push fits named takes more =
 
 -- ---- along children
 
-pub reach_first : (ks : List Element) (sent : List (Option Data)) (seen : List Kind) (rows : List PatchRow) (rank : ℕ) → length seen ≡ rank → SoFar seen rows
-    → Reached ks sent seen rows ks sent rank rows
-reach_first ks sent seen rows rank at so = record { now = seen; at = at; fit = so; whole = refl; done = λ new g. g }
-
 pub reach_on : (ks : List Element) (sent : List (Option Data)) (seen : List Kind) (old : List PatchRow) (k : Element) (rest : List Element) (s : Option Data)
     (left : List (Option Data))
     (rank after : ℕ) (rows new : List PatchRow) → Reached ks sent seen old (k ∷ rest) (s ∷ left) rank rows

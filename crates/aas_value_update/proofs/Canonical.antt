@@ -191,10 +191,6 @@ pub says_itself : (s : Sort) (d : Data) → is_part s d ≡ true → IsOrdered d
 says_itself s d e order =
     itself d (one s) (part_fits s d e) order (not_true (has_empty_list d) (and_right (is_none (misfit (one s) d) && is_none (too_deep (one s) d limits)) _ e))
 
--- and can be read
-pub is_read : (s : Sort) (d : Data) → is_part s d ≡ true → is_some (canonical (one s) d) ≡ true
-is_read s d e = fits_one s d (part_fits s d e)
-
 pub part_shallow : (s : Sort) (d : Data) → is_part s d ≡ true → too_deep (one s) d limits ≡ None
 part_shallow s d e =
     let fit = is_none (misfit (one s) d) in

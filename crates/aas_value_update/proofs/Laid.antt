@@ -214,9 +214,6 @@ named_laid xs ys ms fits took = ap object (known (put_children (children ys) no_
 
 -- ---- lists
 
-over_nothing : (f : Data → Data → Data) (o : Option Data) → o ≡ None → over f o None ≡ None
-over_nothing f o e = sym (over_none f o) ∙ e
-
 -- the form of a part that took something, before others
 took_before : (x y : Part) (s : Option Data) (f : Option Data) → TookOne x s y → x.child.form ≡ f → (ds : List Data) → onto (cons_option y.child.form ds) no_items ≡ onto (cons_option (over x.lay f s) ds) no_items
 took_before x y s f took e ds = ap (λ (c : Child). onto (cons_option c.form ds) no_items) took ∙ ap (λ g. onto (cons_option (over x.lay g s) ds) no_items) e
