@@ -1,5 +1,5 @@
 -- Why the import of an environment is refused, and for which document.
-use Rattle.std.proofs.Common.{◌≡◌, ◌≢◌, ◌⊎◌, ⊎_elim, ◌+◌, ℕ, Bool, true, false, List, [], ◌∷◌, Option, Some, None, Result, Ok, Err, refl, sym, ap, ◌∙◌, subst}
+use Rattle.std.proofs.Common.{◌≡◌, ◌≢◌, ◌⊎◌, ⊎_elim, ◌+◌, ℕ, Bool, true, false, List, [], ◌∷◌, Option, Some, None, Ok, Err, refl, sym, ap, ◌∙◌, subst}
 use Rattle.std.specs.Prelude.{if◌then◌else◌, is_some, length, map, option_map, ◌==◌}
 use Rattle.std.specs.Option.{option_map_or, option_or}
 use Rattle.std.proofs.lemmas.Option.{some_pair_parts}
@@ -11,12 +11,10 @@ use Rattle.aas_command.specs.declared.refusal.Refusal.{Refusal}
 use Rattle.aas_command.specs.declared.refusal.Refusal.TheVariants.{Conflict, Constraint, Lexical, StorageFull, TooMany as TooManyElements}
 use Rattle.aas_constraint_rules.specs.Faults.{Document, concept, faults_of, shell, submodel}
 use Rattle.aas_json_mapping.specs.Trees.{environments}
-use Rattle.aas_json_spelling.specs.Reads.{ReadsEachIf, ReadsIf}
+use Rattle.aas_json_spelling.specs.Reads.{ReadsIf}
 use Rattle.aas_json_table.specs.TooDeep.{limits}
 use Rattle.aas_model.specs.declared.documents.Environment.{Environment}
 use Rattle.aas_model.specs.declared.path.Fault.{Fault}
-use Rattle.aas_model.specs.declared.read_fault.ReadFault.{ReadFault}
-use Rattle.aas_model.specs.declared.read_fault.ReadFault.TheVariants as read
 use Rattle.aas_model_names.specs.declared.collection.Collection.TheVariants.{Concepts, Shells, Submodels}
 use Rattle.aas_reference.specs.Rules.{first}
 use Rattle.aas_repo.proofs.Imported.{later_cause}
@@ -33,12 +31,6 @@ use Rattle.aas_environment.specs.declared.import_fault.ImportFault.{ImportFault}
 use Rattle.aas_environment.specs.declared.import_fault.ImportFault.TheVariants.{Full, NoMemory, Read, Rule, Storage, TooMany, Twice}
 
 -- ---- what bytes spell
-
--- the tree that they spell is read of them again
-pub read_again : (value : Option Data) (result : Result Environment ReadFault) (e : Environment) → ReadsIf environments limits (Ok e) value → ReadsEachIf environments limits result value
-    → (result ≡ Ok e) ⊎ (result ≡ Err read.NoMemory)
-read_again None result e spelled each = ⊎_elim (λ (is : Ok e ≡ Err _). absurd (cc)) (λ (is : Ok e ≡ Err _). absurd (cc)) spelled
-read_again (Some j) result e spelled each = each e spelled
 
 pub spelled_whole : (value : Option Data) (e : Environment) → ReadsIf environments limits (Ok e) value → environments.IsWhole limits e
 spelled_whole None e spelled = ⊎_elim (λ (is : Ok e ≡ Err _). absurd (cc)) (λ (is : Ok e ≡ Err _). absurd (cc)) spelled

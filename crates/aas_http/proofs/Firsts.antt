@@ -18,7 +18,6 @@ use Rattle.aas_http.specs.Close.{asks_to_close}
 use Rattle.aas_http.specs.Head.{head_limit, Admits, AdmitsNone, fields_of}
 use Rattle.aas_http.specs.NotImplemented.{is_not_implemented}
 use Rattle.aas_http.specs.FirstRequest.{Message, FirstRequest, Bad, TooLarge, NotImplemented, Whole, ends_line, IsBlank, message, first_with_body, first_by_length, first_of_head, IsFirstRequest}
-use Rattle.aas_http.specs.Steps.{AwaitsBody}
 use Rattle.aas_http.specs.Found.{IsFound}
 use Rattle.std.specs.Str.{IsUtf8}
 use Rattle.std.proofs.lemmas.Str.{IsUtf8-from_ascii}
@@ -70,18 +69,6 @@ module _ (b front : List ℕ) (spans : RequestSpans) (fields : List HeaderSpan) 
     pub not_implemented : n ≤ body_limit → true ≡ is_not_implemented F.head.method (fields_of F.head) → (more : List ℕ) → IsFirstRequest (b ++ more) NotImplemented
     not_implemented within out more = by_head b F.head rest F.some F.admits more NotImplemented (sym (cond-true _ _ _ (sym out)) ∙ by_rest within more)
 
-    pub awaits : n ≤ body_limit → false ≡ is_not_implemented F.head.method (fields_of F.head) → (r : List ℕ) → r ≡ rest → length r < n → AwaitsBody b
-    awaits within kept r is short = record {
-      head = F.head;
-      rest = rest;
-      admits = F.admits;
-      size = n;
-      said = sym said;
-      within = within;
-      supported = sym kept;
-      short = omega (arith, short, ap length is);
-    }
-
     pub whole : n ≤ body_limit → false ≡ is_not_implemented F.head.method (fields_of F.head) → n ≤ length rest → (m : Message) → m ≡ message F.head (take n rest)
         → (more : List ℕ) → IsFirstRequest (b ++ more) (Whole m (drop (spans.len + n) b ++ more))
     whole within kept enough m is more =
@@ -104,9 +91,6 @@ module _ (b front : List ℕ) (spans : RequestSpans) (fields : List HeaderSpan) 
 -- ---- a head in the first 16,384 bytes
 
 module _ (b front : List ℕ) (is_front : front ≡ take (min (length b) head_limit) b) where
-  back : List ℕ
-  back = drop (min (length b) head_limit) b
-
   abbrev joined : front ++ drop (min (length b) head_limit) b ≡ b
   joined = ap (λ (l : List ℕ). l ++ drop (min (length b) head_limit) b) is_front ∙ take-append-drop (min (length b) head_limit) b
 

@@ -3,10 +3,9 @@ use Rattle.std.proofs.Common.{◌≡◌, inr, ℕ, ◌+◌, List, [], ◌∷◌,
 use Rattle.std.specs.Prelude.{codes}
 use Rattle.std.proofs.lemmas.List.{drop_at, append-nil}
 use Rattle.std.proofs.lemmas.List.Elements.{All-nil}
-use Rattle.aas_journal.specs.Causes.{IsDamaged}
-use Rattle.aas_journal.specs.Gates.{IsClosedAt, StandsAt}
-use Rattle.aas_journal.specs.Image.{HasGate, IsHeader, gate_of, records}
-use Rattle.aas_journal.specs.declared.walk.Gate.TheVariants.{Closed, Open, PastEnd}
+use Rattle.aas_journal.specs.Gates.{StandsAt}
+use Rattle.aas_journal.specs.Image.{IsHeader, gate_of, records}
+use Rattle.aas_journal.specs.declared.walk.Gate.TheVariants.{Open}
 use Rattle.aas_journal.proofs.Images.{gate_at_end, records-push, short-push}
 use Rattle.aas_journal.proofs.Records.{Short, size, size_four}
 
@@ -49,24 +48,6 @@ gate_of-push payloads payload =
 module _ (file : List ℕ) (at : ℕ) (meets : Meets file at) where
   abbrev front : List ℕ
   front = meets.header ++ records meets.payloads
-
-  has : (byte : ℕ) (rest : List ℕ) → drop at file ≡ byte ∷ rest → HasGate file meets.payloads byte rest
-  has byte rest is = record {
-    header = meets.header;
-    known = meets.known;
-    is = meets.is ∙ ap (λ (l : List ℕ). front ++ l) is ∙ append_assoc meets.header (records meets.payloads) (byte ∷ rest);
-    short = meets.short;
-  }
-
-  pub closed : StandsAt (drop at file) at Closed → IsClosedAt file at
-  closed here = record {
-    payloads = meets.payloads;
-    image = record { gate = here.0; rest = here.1; has = has here.0 here.1 here.2; closed = here.3 };
-    at_is = meets.at_is;
-  }
-
-  pub damaged : StandsAt (drop at file) at PastEnd → IsDamaged file at
-  damaged here = record { payloads = meets.payloads; rest = here.0; has = has 1 here.0 here.1; passes = here.2; at_is = meets.at_is }
 
   pub further : (next : ℕ) → StandsAt (drop at file) at (Open next) → Meets file next
   further next here =

@@ -13,7 +13,7 @@ use Rattle.base64.specs.Rfc4648.{encode_symbols, padding_len, unpadded_len}
 use Rattle.base64.specs.declared.engine.general_purpose.GeneralPurpose.{GeneralPurpose}
 use Rattle.base64.proofs.EngineFacts.{decode_of-encode_of}
 use Rattle.base64.proofs.RoundTrip.{length-encode_symbols}
-use Rattle.aas_page.specs.Segment.{IsBase64Url, IsCursor, IsIdentifierCode, IsIdentifierText, StandsFor}
+use Rattle.aas_page.specs.Segment.{IsBase64Url, IsIdentifierCode, IsIdentifierText, StandsFor}
 
 same : (e : GeneralPurpose) (a b : List ℕ) → IsConsistent e → IsBytes a → IsBytes b → encode_of e a ≡ encode_of e b → a ≡ b
 same e a b consistent bytes_a bytes_b h =
@@ -65,13 +65,6 @@ stands_for_one segment a b x y =
 pub only : (text utf8 id : List ℕ) → IsBytes utf8 → IsBase64Url text utf8 → IsIdentifierCode text id → IsIdentifierText utf8 id
 only text utf8 id bytes is code =
     subst (λ (u : List ℕ). IsIdentifierText u id) (coded_once text code.utf8 utf8 code.spells.are_bytes bytes code.coded is) code.spells
-
--- the same for a cursor
-pub only_cursor : (cursor utf8 id : List ℕ) → IsBytes utf8 → cursor ≡ encode_of url_safe_no_pad utf8 → IsCursor cursor id
-    → IsIdentifierText utf8 id
-only_cursor cursor utf8 id bytes is code =
-    subst (λ (u : List ℕ). IsIdentifierText u id)
-    (coded_once cursor code.utf8 utf8 code.spells.are_bytes bytes (inl code.coded) (inl is)) code.spells
 
 -- base64url of the UTF-8 of no identifier stands for none
 pub none_coded : (text utf8 : List ℕ) → IsBytes utf8 → IsBase64Url text utf8 → (result : Result (Option (List ℕ)) NoMemory)

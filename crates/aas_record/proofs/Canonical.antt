@@ -1,15 +1,14 @@
 -- Canonical texts and the trees that they are read as.
-use Rattle.std.proofs.Common.{◌≡◌, ◌≢◌, ◌≤◌, ◌⊎◌, ⊎_elim, arith, ℕ, List, Option, Some, None, Result, Ok, Err, sym, ◌∙◌, ap, subst}
+use Rattle.std.proofs.Common.{◌≡◌, ◌≢◌, ◌≤◌, ◌⊎◌, ⊎_elim, arith, ℕ, List, Result, Ok, Err, sym, ◌∙◌, ap, subst}
 use Rattle.std.specs.Prelude.{⊤}
 use Rattle.std.specs.Str.{IsUtf8}
 use Rattle.std.proofs.lemmas.Option.{same_Some}
 use Rattle.std.proofs.Math.Nat.{le_refl}
-use Rattle.serde_json.specs.Data.{Data}
 use Rattle.aas_model.specs.declared.read_fault.ReadFault.{ReadFault}
 use Rattle.aas_model.specs.declared.read_fault.ReadFault.TheVariants.{NoMemory}
 use Rattle.aas_json_table.specs.TooDeep.{Levels, limits}
 use Rattle.aas_json_spelling.specs.Reading.{reading}
-use Rattle.aas_json_spelling.specs.Reads.{ReadsIf, ReadsBytes, ReadsEachIf, ReadsEachOfBytes}
+use Rattle.aas_json_spelling.specs.Reads.{ReadsEachIf, ReadsEachOfBytes}
 use Rattle.aas_json_spelling.specs.Spells.{Trees, Spells, IsWithinLimits, canonical_text}
 use Rattle.aas_json_spelling.proofs.Laws.{Laws, one_tree, reads_back}
 use Rattle.aas_edit_laws.specs.Laws.{at_level}
@@ -20,14 +19,6 @@ at_limits = record { elements = le_refl _; references = le_refl _; kept = le_ref
 
 pub within_level : (n : ℕ) → 1 ≤ n → IsWithinLimits (at_level n)
 within_level n from = record { elements = omega (arith, from); references = le_refl _; kept = le_refl _ }
-
--- what is read is whole
-pub whole_read : {A : Type 0} (trees : Trees A) (left : Levels) (t : A) (bytes : List ℕ) → ReadsBytes trees left (Ok t) bytes → trees.IsWhole left t
-whole_read {A = A} trees left t bytes reads = by_reading (reading bytes) reads
-  where
-    by_reading : (o : Option Data) → ReadsIf {A = A} trees left (Ok t) o → trees.IsWhole left t
-    by_reading None r = absurd (⊎_elim (λ e. cc) (λ e. cc) r)
-    by_reading (Some j) r = r.whole
 
 -- what a reader says that answers the tree whose canonical text it is given
 abbrev pub Answered : {A : Type 0} → Trees A → Levels → Result A ReadFault → List ℕ → Type 0

@@ -1,6 +1,6 @@
 -- What a command comes to, by the causes that were tried.
 use Rattle.std.proofs.Common.{◌≡◌, Bool, true, false, List, [], ◌∷◌, Option, Some, None, refl, sym, ap, ◌∙◌, subst}
-use Rattle.std.specs.Prelude.{◌≢◌, ℕ, ◌==◌, IsTrue, if◌then◌else◌, is_some, option_map}
+use Rattle.std.specs.Prelude.{◌≢◌, ℕ, ◌==◌, if◌then◌else◌, is_some, option_map}
 use Rattle.std.specs.FinMap as map
 use Rattle.std.specs.Option.{option_map_or}
 use Rattle.std.specs.Str.{encode_utf8_all}
@@ -9,7 +9,6 @@ use Rattle.aas_command.specs.declared.command.Command.{Command}
 use Rattle.aas_command.specs.declared.command.Command.TheVariants.{SetAsset}
 use Rattle.aas_command.specs.declared.refusal.Refusal.{Refusal}
 use Rattle.aas_command.specs.declared.refusal.Refusal.TheVariants.{Conflict, Constraint, Lexical, NoMemory, NotFound, StorageFault, StorageFull, TooMany}
-use Rattle.aas_constraint_laws.specs.Valid.{IsValid, is_whole}
 use Rattle.aas_constraint_rules.specs.Faults.{Document, faults_of, shell}
 use Rattle.aas_json_mapping.specs.Whole.{is_whole_shell, whole_asset_information}
 use Rattle.aas_json_table.specs.TooDeep.{limits}
@@ -147,13 +146,6 @@ makes has_room d new c x puts none same = (
   (nothing (faults_of x) (has_too_many x) has_room none).2,
   subst (λ (n : Documents). ComesTo has_room d c (accepted n)) (sym same) (comes has_room d c x None puts none),
 )
-
-pub is_valid : (has_room : Bool) (x : Document) → IsTrue (is_whole x) → None ≡ first_of (later_causes has_room (x ∷ []))
-    → IsValid x × (has_too_many x ≡ false)
-unfolding three
-is_valid has_room x whole none =
-    let clear = nothing (faults_of x) (has_too_many x) has_room none in
-    (record { whole = whole; faultless = clear.0 }, clear.1)
 
 pub refuses : (has_room : Bool) (d new : Documents) (c : Command) (x : Document) (refusal : Refusal) → Makes d c x
     → Some refusal ≡ first_of (later_causes has_room (x ∷ [])) → new ≡ d

@@ -20,7 +20,6 @@ use Rattle.aas_path_trees.specs.Edits.{replaced}
 use Rattle.aas_path_trees.specs.ElementAt.{element_at}
 use Rattle.aas_step.proofs.Validity.{replaced_whole}
 use Rattle.aas_step.specs.Causes.{Cause, absent_of, causes, first_of, replace_causes, unless}
-use Rattle.aas_step.specs.Valid.{AreValid}
 use Rattle.aas_store.specs.Documents.{Documents}
 use Rattle.aas_repo.proofs.Decided.{is_refused_or_no_memory, refused_by}
 use Rattle.aas_repo.specs.Decisions.{Edits, IsDecision, Makes, decision_of}
@@ -57,6 +56,3 @@ module _ (d : Documents) (c : Command) (id : List ℕ) (causes_in : Submodel →
     made = edits.made (submodel (changed s) ∷ []) (sym (ap (λ (o : Option Submodel). option_map_or (λ s. submodel (changed s) ∷ []) o []) is));
     left_are = edits.left_are;
   }
-
-  pub was_whole : (s : Submodel) → map.get d.submodels (encode_utf8_all id) ≡ Some s → AreValid d → is_whole_submodel limits s ≡ true
-  was_whole s is valid = (valid.submodels (encode_utf8_all id) s is).valid.whole

@@ -234,13 +234,6 @@ module _ (d : Documents) (id : List ℕ) (p : Path) (v : Data) (s : Submodel) (t
 
 -- ---- the patch in the store
 
-fits_there : (found : Option Submodel) (P : Submodel → Type 0) (s : Submodel) → found ≡ Some s → P s → MatchOption found ⊥ P
-fits_there found P s is h = subst (λ (o : Option Submodel). MatchOption o ⊥ P) (sym is) h
-
-pub patch_fits : (d : Documents) (id : List ℕ) (p : List PathStep) (v : Data) (rows : List PatchRow) → IsPatchFor d id p v rows
-    → Holds d (encode_utf8_all id) (λ s. FitsAt s p rows)
-patch_fits d id p v rows is = fits_there (map.get d.submodels (encode_utf8_all id)) (λ s. FitsAt s p rows) is.old is.there is.fits
-
 head_stays : (s : Submodel) (p : List PathStep) (rows : List PatchRow) → (patched_at s p rows).head ≡ s.head
 head_stays s [] rows = refl
 head_stays s (t ∷ p) rows = by_found (element_at s (t ∷ p))

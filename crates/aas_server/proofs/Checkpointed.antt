@@ -30,14 +30,6 @@ pub either_opens : (d : Documents) (payloads : List (List ℕ)) (record_of : Lis
 either_opens d payloads record_of image replays alone either =
     ⊎_elim (λ before. (payloads, (before, replays))) (λ after. (record_of ∷ [], (after, alone))) either
 
--- and of a journal that stays as it was
-pub still_opens : (d : Documents) (payloads : List (List ℕ)) (moment : ℕ) (left_at : ℕ → Files → Type 0) → Replays payloads d
-    → ((image : Files) → left_at moment image → IsBankImage image payloads)
-    → (t : ℕ) → moment ≤ t → t ≤ moment → (image : Files) → left_at t image → OpensTo d image
-still_opens d payloads moment left_at replays alone t since until image left =
-    let now : t ≡ moment = omega (arith, since, until) in
-    (payloads, (alone image (subst (λ (at : ℕ). left_at at image) now left), replays))
-
 -- what is said of a line with these bytes, or of why there is none
 abbrev pub IsSaid : {V : Type 0} → (V → List ℕ) → Result V Unmade → Answer → Type 0
 IsSaid items made answer = MatchResult made (λ line. answer ≡ done (items line)) (λ why. IsSaidThen why answer)

@@ -109,11 +109,6 @@ says_moved P status old mid new nothing later says = record {
   memory = λ is. says.memory is ∙ nothing;
 }
 
--- the console failed, and nothing was given
-pub says_failed : (P : Answer → Type 0) (old new : ConsoleState) → new.sent ≡ old.sent → Rose old.faults new.faults → Says P 3 old new
-says_failed P old new nothing fault =
-    record { given = λ not3 not10. absurd (not3 refl); front = λ is. inl nothing; fault = λ is. fault; memory = λ is. nothing }
-
 -- ---- from an earlier moment on
 
 module _ (accepted_replay : AcceptedReplay) (room : Room) {I : Type 0} (stands stands_then : I → List (List ℕ) → Type 0)

@@ -1,7 +1,7 @@
 -- A part of a storage that grows at its end and loses its front.
-use Rattle.std.proofs.Common.{◌≡◌, ℕ, ◌+◌, ◌≤◌, List, ◌++◌, length, take, drop, ap, ◌∙◌, arith, subst}
+use Rattle.std.proofs.Common.{◌≡◌, ℕ, ◌+◌, ◌≤◌, List, ◌++◌, length, take, drop, ap, ◌∙◌, arith}
 use Rattle.std.specs.List.{slice_range}
-use Rattle.std.proofs.lemmas.List.{take-append-le, length-take-le, take_all, append-nil}
+use Rattle.std.proofs.lemmas.List.{take-append-le, length-take-le, take_all}
 use Rattle.bytes.proofs.Ranges.{slice_range_grown, take-append_past}
 
 module _ (items xs buf post : List ℕ) (s e len : ℕ) (ordered : s ≤ e) (within : e ≤ length xs) (is : xs ≡ items)
@@ -16,7 +16,3 @@ module _ (items xs buf post : List ℕ) (s e len : ℕ) (ordered : s ≤ e) (wit
       (take-append_past (take e xs) (buf ++ post) n (e + n) (omega (arith, length-take-le e xs within))
       ∙ ap (λ (l : List ℕ). take e xs ++ l) (take-append-le n buf post fits))
       ∙ ap (λ (l : List ℕ). slice_range l s e ++ take n buf) is
-
-  pub same_part : slice_range (take len ((take e xs ++ (buf ++ post)) ++ drop (length (take e xs ++ (buf ++ post))) items)) s e ≡ slice_range items s e
-  same_part = let P : ℕ → Type 0 = λ k. slice_range (take len ((take e xs ++ (buf ++ post)) ++ drop (length (take e xs ++ (buf ++ post))) items)) s k ≡ slice_range items s e in
-      subst P (omega arith) (grown 0 (omega arith) ∙ append-nil (slice_range items s e))

@@ -20,13 +20,6 @@ pub record Reaches (listed : List Parameter) (all left : List Pair) (given : Giv
   pub bad : (p : Parameter) → IsFirstBad given (filter_map (setting_of listed) left) p
       → IsFirstBad nothing_given (filter_map (setting_of listed) all) p
 
-pub starts : (listed : List Parameter) (all left : List Pair) → left ≡ all → Reaches listed all left nothing_given
-starts listed all left is =
-    record {
-      gives = λ m. subst (λ pairs. TakesAll nothing_given (read listed pairs) m) is;
-      bad = λ p. subst (λ pairs. IsFirstBad nothing_given (read listed pairs) p) is;
-    }
-
 module _ (listed : List Parameter) (all left : List Pair) (pair : Pair) (given : Given) (r : Reaches listed all (pair ∷ left) given) where
   -- one setting more
   next_by : (s : Option Setting) (more : Given) → setting_of listed pair ≡ s → TakesIfListed given s more → Reaches listed all left more
