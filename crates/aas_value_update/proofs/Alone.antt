@@ -8,7 +8,8 @@ use Rattle.aas_model.specs.declared.payload.Payload.TheVariants as p
 use Rattle.aas_json_mapping.proofs.Elements.{made, made_out}
 use Rattle.aas_path_trees.specs.Children.{kids_of}
 use Rattle.aas_constraint_laws.specs.Values.{without_values}
-use Rattle.aas_value_update.specs.LeftAlone.{has_value, shows_children, left_alone}
+use Rattle.aas_value.specs.ValueForm.{shows_children}
+use Rattle.aas_value_update.specs.LeftAlone.{has_value, left_alone}
 use Rattle.aas_value_update.proofs.Elements.{kids_alone, alone_at}
 
 -- ---- the members of an element

@@ -14,10 +14,10 @@ use Rattle.aas_json_mapping.proofs.Elements.{made, made_out, by_children}
 use Rattle.aas_json_spelling.specs.Lists.{Each}
 use Rattle.aas_path_trees.specs.Children.{kids_of}
 use Rattle.aas_constraint_laws.specs.Values.{without_values}
-use Rattle.aas_value.specs.ValueForm.{Child, as_child, child_of, value_over}
+use Rattle.aas_value.specs.ValueForm.{Child, as_child, child_of, value_over, shows_children}
 use Rattle.aas_value_update.specs.Parts.{Part, value, children}
 use Rattle.aas_value_update.specs.Kinds.{form_of, child_part, part_over, part_of}
-use Rattle.aas_value_update.specs.LeftAlone.{shows_children, Left, left_over, left_alone}
+use Rattle.aas_value_update.specs.LeftAlone.{Left, left_over, left_alone}
 
 -- ---- elements as parts
 

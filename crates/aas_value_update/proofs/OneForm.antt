@@ -12,10 +12,10 @@ use Rattle.aas_json_mapping.proofs.Elements.{made, made_out, by_children}
 use Rattle.aas_json_spelling.specs.Lists.{Each}
 use Rattle.aas_path_trees.specs.Children.{kids_of, id_short_of, is_list_payload}
 use Rattle.aas_path_trees.specs.Places.{element_in, Differ}
-use Rattle.aas_value.specs.ValueForm.{Child, value_form, value_over}
+use Rattle.aas_value.specs.ValueForm.{Child, value_form, value_over, shows_children}
 use Rattle.aas_value_update.specs.Parts.{children}
 use Rattle.aas_value_update.specs.Kinds.{part_of}
-use Rattle.aas_value_update.specs.LeftAlone.{has_value, shows_children, left_alone}
+use Rattle.aas_value_update.specs.LeftAlone.{has_value, left_alone}
 use Rattle.aas_value_update.specs.Laws.{NamesDiffer, OneForm}
 use Rattle.aas_value_update.specs.Took.{AreNamed, NamedIn}
 use Rattle.aas_value_update.proofs.Alone.{Level, level, whole, value_bare}

@@ -16,7 +16,8 @@ use Rattle.aas_path_trees.specs.WithElement.{with_element}
 use Rattle.aas_path_trees.specs.Children.{kids_of, id_short_of, is_list, is_list_payload}
 use Rattle.aas_path_trees.specs.Places.{element_in, Differ}
 use Rattle.aas_constraint_laws.specs.Values.{without_values}
-use Rattle.aas_value_update.specs.LeftAlone.{shows_children, left_alone}
+use Rattle.aas_value.specs.ValueForm.{shows_children}
+use Rattle.aas_value_update.specs.LeftAlone.{left_alone}
 use Rattle.aas_value_update.specs.Update.{IsElementUpdate, IsUpdateAt, no_attributes, body}
 use Rattle.aas_value_update.specs.Laws.{NamesDiffer, OneElementUpdate, OneValueUpdate}
 use Rattle.aas_value_update.proofs.Alone.{level, kids_made}

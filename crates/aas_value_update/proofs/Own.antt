@@ -10,8 +10,7 @@ use Rattle.aas_model.specs.declared.payload.Payload.{Payload}
 use Rattle.aas_model.specs.declared.payload.Payload.TheVariants as p
 use Rattle.aas_constraint_laws.specs.Values.{without_values}
 use Rattle.aas_value.specs.Single.{single}
-use Rattle.aas_value.specs.ValueForm.{Child, value_over, named, in_order, forms_of, annotation_value, array_of, language_value, text_or_null, reference_or_null, entity_type_or_null}
-use Rattle.aas_value_update.specs.LeftAlone.{shows_children}
+use Rattle.aas_value.specs.ValueForm.{Child, value_over, named, in_order, forms_of, annotation_value, array_of, language_value, text_or_null, reference_or_null, entity_type_or_null, shows_children}
 use Rattle.aas_value_update.proofs.Named.{Apart, Alike, same_named}
 use Rattle.aas_value_update.proofs.Slots.{same_text_or_null, same_entity_type, same_single, same_reference_or_null, same_array, same_language}
 

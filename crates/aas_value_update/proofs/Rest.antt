@@ -13,7 +13,8 @@ use Rattle.aas_json_mapping.proofs.Elements.{made, made_out, by_children, seen, 
 use Rattle.aas_json_spelling.specs.Lists.{Each}
 use Rattle.aas_path_trees.specs.Children.{kids_of}
 use Rattle.aas_constraint_laws.specs.Values.{without_values, bare_over, bare, DifferInValues}
-use Rattle.aas_value_update.specs.LeftAlone.{has_value, Unshown, unshown_over, unshown, shows_children, left_alone}
+use Rattle.aas_value.specs.ValueForm.{shows_children}
+use Rattle.aas_value_update.specs.LeftAlone.{has_value, Unshown, unshown_over, unshown, left_alone}
 use Rattle.aas_value_update.proofs.Elements.{kids_alone, alone_at}
 use Rattle.aas_value_update.proofs.Alone.{SameFields, fields, kids_made, Level, level, whole, shows_bare, value_bare}
 

@@ -9,10 +9,9 @@ use Rattle.aas_model_names.specs.declared.modifiers.Extent.TheVariants as extent
 use Rattle.aas_model.specs.declared.payload.Payload.{Payload}
 use Rattle.aas_model.specs.declared.payload.Payload.TheVariants as p
 use Rattle.aas_constraint_laws.specs.Values.{without_values}
-use Rattle.aas_value.specs.ValueForm.{Child, named, in_order, forms_of, annotation_value, put_children, reference_or_null, value_over}
+use Rattle.aas_value.specs.ValueForm.{Child, named, in_order, forms_of, annotation_value, put_children, reference_or_null, value_over, shows_children}
 use Rattle.aas_value_update.specs.Parts.{Part, object_of, list_of, entries_of, name_is, by_name, children, later, over, laid, laid_items, laid_entries, entry, value, lay_form, fits_form}
 use Rattle.aas_value_update.specs.Kinds.{form_of}
-use Rattle.aas_value_update.specs.LeftAlone.{shows_children}
 use Rattle.aas_value_update.specs.Shape.{by_names, next_item, in_turn, by_entries, items_in, nothing_sent, if_sent, sent}
 use Rattle.aas_value_update.specs.Took.{Took, AreNamed, NamedIn}
 use Rattle.aas_value_update.proofs.Laid.{form, get_children, get_laid, sent_fits, over_none, named_laid, items_laid, entries_laid}

@@ -19,11 +19,11 @@ use Rattle.aas_model.specs.declared.payload.Payload.{Payload}
 use Rattle.aas_model.specs.declared.payload.Payload.TheVariants as p
 use Rattle.aas_path_trees.specs.Children.{kids_of}
 use Rattle.aas_path_trees.specs.Places.{element_in}
-use Rattle.aas_value.specs.ValueForm.{Child, value_form}
+use Rattle.aas_value.specs.ValueForm.{Child, value_form, shows_children}
 use Rattle.aas_value_update.specs.Parts.{Part, children, over, value, lay_form, fits_form}
 use Rattle.aas_value_update.specs.Kinds.{form_of, part_of, lay}
 use Rattle.aas_value_update.specs.Laws.{NamesDiffer, IsInOrder}
-use Rattle.aas_value_update.specs.LeftAlone.{shows_children, left_alone}
+use Rattle.aas_value_update.specs.LeftAlone.{left_alone}
 use Rattle.aas_value_update.specs.Shape.{sent, first_misshapen}
 use Rattle.aas_value_update.specs.Update.{IsElementUpdate}
 use Rattle.aas_value_update.proofs.Alone.{Level, level, kids_made}

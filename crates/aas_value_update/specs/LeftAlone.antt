@@ -5,6 +5,7 @@ use Rattle.aas_model.specs.declared.element.Element.{Element, roll-Element, fold
 use Rattle.aas_model.specs.declared.element.Element.TheOpen.{Element-F}
 use Rattle.aas_model.specs.declared.payload.Payload.{Payload}
 use Rattle.aas_model.specs.declared.payload.Payload.TheVariants as p
+use Rattle.aas_value.specs.ValueForm.{shows_children}
 use Rattle.aas_constraint_laws.specs.Values.{without_values}
 
 -- ---- in one list: Operations and Capabilities
@@ -29,14 +30,6 @@ unfoldable pub unshown : Element → List Element
 unshown e = (fold-Element Unshown unshown_over e).unshown
 
 -- ---- in one tree
-
--- whose children are in the value form; an Operation's aren't
-abbrev pub shows_children : Payload → Bool
-shows_children (p.AnnotatedRelationshipElement first second) = true
-shows_children (p.Entity t g ids) = true
-shows_children p.SubmodelElementCollection = true
-shows_children (p.SubmodelElementList o s t v) = true
-shows_children _ = false
 
 -- an element, and what an update of its values leaves alone
 pub record Left : Type 0 where
