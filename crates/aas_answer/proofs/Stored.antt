@@ -18,7 +18,8 @@ use Rattle.aas_rows.proofs.Edited.{count_at}
 use Rattle.aas_step.specs.Laws.{ValidIsStorable}
 use Rattle.aas_step.specs.Valid.{AreValid}
 use Rattle.aas_store.specs.Documents.{Documents, Identifier, without_children}
-use Rattle.aas_store.specs.Storable.{IsStorable, element_count}
+use Rattle.aas_path_trees.specs.Patched.{element_count}
+use Rattle.aas_store.specs.Storable.{IsStorable}
 use Rattle.aas_answer.specs.Answers.{submodel_shown}
 use Rattle.aas_answer.specs.Shown.{show_at}
 use Rattle.aas_answer.proofs.Low.{rows_are_low}

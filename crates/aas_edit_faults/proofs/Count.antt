@@ -13,12 +13,12 @@ use Rattle.aas_model_names.specs.declared.kind.Kind.{Kind}
 use Rattle.aas_path_trees.specs.Children.{kids_of, role_of, with_role}
 use Rattle.aas_path_trees.specs.Edits.{role_at, role_under_found, with_last, with_last_at, inserted, replaced, removed}
 use Rattle.aas_path_trees.specs.ElementAt.{element_at}
-use Rattle.aas_path_trees.specs.Patched.{kinds, kinds_of_all}
+use Rattle.aas_path_trees.specs.Patched.{kinds, kinds_of_all, element_count}
 use Rattle.aas_path_trees.specs.WithElement.{with_element}
 use Rattle.aas_path_trees.proofs.Patches.{kinds_out}
 use Rattle.aas_rows.specs.Rows.{Line, rows}
 use Rattle.aas_rows.proofs.Edited.{count_at, have_edited_rows}
-use Rattle.aas_edit_faults.specs.Laws.{element_count, count_of, EditsCount}
+use Rattle.aas_edit_faults.specs.Laws.{count_of, EditsCount}
 use Rattle.aas_edit_faults.proofs.Walks.{kids_with_kids}
 
 -- ---- one element

@@ -17,12 +17,12 @@ use Rattle.aas_constraint_rules.specs.Rules.{name_of, semantics_of}
 use Rattle.aas_constraint_rules.specs.Sites.{Own, own_of, sites, step_to, tree_of}
 use Rattle.aas_path_trees.specs.Children.{id_short_of, kids_of, role_of, is_list, with_kids, with_role}
 use Rattle.aas_path_trees.specs.Edits.{role_under_found, with_last, with_last_at}
-use Rattle.aas_path_trees.specs.ElementAt.{child_by, element_at, element_below}
+use Rattle.aas_path_trees.specs.ElementAt.{child_by, element_at, element_below, children_at}
 use Rattle.aas_path_trees.specs.WithElement.{with_below, with_among, with_child, with_element}
 use Rattle.aas_path_trees.proofs.Paths.{child_by-there, element_among-append, with_among-append, with_element-same}
 use Rattle.aas_constraint_laws.specs.Law.{behind}
 use Rattle.aas_edit_laws.proofs.Edits.{insert_keeps_whole, replace_keeps_whole, remove_keeps_whole}
-use Rattle.aas_edit_faults.specs.Laws.{child_at, children_at, faults_alone, faults_as_child, FaultsOfInserted, FaultsOfReplaced, RemovingKeepsFaultless, EditsKeepValid}
+use Rattle.aas_edit_faults.specs.Laws.{child_at, faults_alone, faults_as_child, FaultsOfInserted, FaultsOfReplaced, RemovingKeepsFaultless, EditsKeepValid}
 use Rattle.aas_edit_faults.specs.Laws.{InsertedStandsAlone, ListsHaveNoNames, ReplacedStandsAlone}
 use Rattle.aas_edit_faults.proofs.Alone.{child_alone}
 use Rattle.aas_edit_faults.proofs.NewName.{new_name, names_in_list}

@@ -2,7 +2,6 @@
 -- checked by what comes in alone. IDTA-01002-3-0 names the operations on an element, and not what they make of a document;
 -- at which element a broken constraint stands is this profile's own rule.
 use Rattle.std.specs.Prelude.{◌≡◌, ℕ, ◌+◌, true, false, IsTrue, List, [], ◌∷◌, ◌++◌, map, flat_map, length, take, Option, Some, None, option_and_then, option_map}
-use Rattle.std.specs.Option.{option_map_or}
 use Rattle.aas_model.specs.declared.documents.Submodel.{Submodel}
 use Rattle.aas_model.specs.declared.element.Element.{Element}
 use Rattle.aas_model.specs.declared.element.Role.{Role}
@@ -14,17 +13,13 @@ use Rattle.aas_constraint_rules.specs.Rules.{agree, first_some, name_of, semanti
 use Rattle.aas_constraint_rules.specs.Sites.{own_of, sites, sites_among, stands_in_list, step_to, tree_of, trees}
 use Rattle.aas_path_trees.specs.Children.{id_short_of, kids_of, role_of, is_list, with_role}
 use Rattle.aas_path_trees.specs.Edits.{fits_role, role_at, inserted, replaced, removed}
-use Rattle.aas_path_trees.specs.ElementAt.{child_by, element_at, place_named}
-use Rattle.aas_path_trees.specs.Patched.{kinds, kinds_of_all}
+use Rattle.aas_path_trees.specs.ElementAt.{child_by, children_at, element_at, place_named}
+use Rattle.aas_path_trees.specs.Patched.{element_count, kinds}
 use Rattle.aas_constraint_laws.specs.Law.{behind}
 use Rattle.aas_constraint_laws.specs.Valid.{IsValid}
 use Rattle.aas_edit_laws.specs.Laws.{at_level}
 
 -- ---- what stands below a path; the empty path leads to the submodel itself
-
-abbrev pub children_at : Submodel → List PathStep → List Element
-children_at d [] = d.kids
-children_at d (s ∷ p) = option_map_or kids_of (element_at d (s ∷ p)) []
 
 -- the child to which one more step leads, behind its place
 abbrev pub child_at : Submodel → List PathStep → PathStep → Option (ℕ × Element)
@@ -100,10 +95,7 @@ pub record EditsKeepValid : Type 0 where
       → faults_as_child d p (take i (children_at d p)) (with_role e (role_of o)) ≡ [] → IsValid (submodel (replaced d (p ++ s ∷ []) e))
   pub removed : (d : Submodel) (p : List PathStep) → IsValid (submodel d) → IsValid (submodel (removed d p))
 
--- ---- how many elements there are, at all levels: as many as kinds in preorder
-
-abbrev pub element_count : Submodel → ℕ
-element_count d = length (kinds_of_all d.kids)
+-- ---- how many elements there are, at all levels
 
 -- an element, and all below it
 abbrev pub count_of : Element → ℕ

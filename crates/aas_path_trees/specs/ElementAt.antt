@@ -44,6 +44,11 @@ abbrev pub element_at : Submodel → List PathStep → Option Element
 element_at d [] = None
 element_at d (s ∷ p) = element_among false s p d.kids
 
+-- the children of what a path leads to; the empty path leads to the submodel itself
+abbrev pub children_at : Submodel → List PathStep → List Element
+children_at d [] = d.kids
+children_at d (s ∷ p) = option_map_or kids_of (element_at d (s ∷ p)) []
+
 -- how many steps of a path lead to an element, from e
 unfoldable pub depth_below : List PathStep → Element → ℕ
 depth_below [] e = 0

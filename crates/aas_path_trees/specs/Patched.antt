@@ -1,6 +1,6 @@
 -- Trees with new attributes for some elements, which are named by their places in preorder. This profile's own rule, for
 -- the value updates of IDTA-01002-3-0.
-use Rattle.std.specs.Prelude.{◌≡◌, ℕ, ◌+◌, ◌<◌, ◌==◌, if◌then◌else◌, List, [], ◌∷◌, All, map, slice_get, Some}
+use Rattle.std.specs.Prelude.{◌≡◌, ℕ, ◌+◌, ◌<◌, ◌==◌, if◌then◌else◌, List, [], ◌∷◌, All, length, map, slice_get, Some}
 use Rattle.std.specs.List.{flat_map}
 use Rattle.aas_model.specs.Payload.{kind_of}
 use Rattle.aas_model.specs.declared.documents.Submodel.{Submodel}
@@ -18,6 +18,10 @@ kinds = fold-Element (List Kind) kinds_over
 
 abbrev pub kinds_of_all : List Element → List Kind
 kinds_of_all ks = flat_map kinds ks
+
+-- how many elements a submodel has, at all levels: as many as kinds in preorder
+abbrev pub element_count : Submodel → ℕ
+element_count d = length (kinds_of_all d.kids)
 
 -- each rank is above the one before, and the first above k
 abbrev pub RiseFrom : ℕ → List PatchRow → Type 0

@@ -20,7 +20,8 @@ use Rattle.aas_step.specs.Step.{later_causes}
 use Rattle.aas_step.specs.Valid.{AreValid}
 use Rattle.aas_store.specs.Documents.{Documents}
 use Rattle.aas_store.specs.Edited.{Holds, with_changed}
-use Rattle.aas_store.specs.Storable.{IsStorable, element_count}
+use Rattle.aas_path_trees.specs.Patched.{element_count}
+use Rattle.aas_store.specs.Storable.{IsStorable}
 use Rattle.aas_repo.proofs.Decided.{makes, refuses}
 use Rattle.aas_repo.proofs.Edited.{makes_one}
 use Rattle.aas_repo.specs.Accepted.{IsAccepted}

@@ -19,7 +19,7 @@ use Rattle.aas_constraint_rules.proofs.Elements.{under_fault}
 use Rattle.aas_lemmas.proofs.Lists.{no_first, no_second}
 use Rattle.aas_path_trees.specs.Children.{kids_of}
 use Rattle.aas_path_trees.specs.ElementAt.{child_by, element_at}
-use Rattle.aas_path_trees.specs.Patched.{kinds_over, kinds, kinds_of_all}
+use Rattle.aas_path_trees.specs.Patched.{kinds_over, kinds, kinds_of_all, element_count}
 use Rattle.aas_path_trees.specs.WithElement.{with_element}
 use Rattle.aas_path_trees.proofs.Paths.{child_by-there}
 use Rattle.aas_constraint_laws.specs.Law.{local_faults}
@@ -31,7 +31,6 @@ use Rattle.aas_constraint_laws.proofs.StaysWhole.{same_changed, same_with, same_
 use Rattle.aas_value_update.specs.Update.{body, no_attributes}
 use Rattle.aas_value_update.proofs.Alone.{fields, kids_made}
 use Rattle.aas_value_update.proofs.Rest.{bare_at}
-use Rattle.aas_store.specs.Storable.{element_count}
 
 -- ---- children that differ in values alone
 

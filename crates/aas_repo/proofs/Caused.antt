@@ -18,13 +18,13 @@ use Rattle.aas_model.specs.declared.path.Path.{Path}
 use Rattle.aas_model.specs.declared.path.PathStep.{PathStep}
 use Rattle.aas_path_trees.specs.Children.{id_short_of, role_of}
 use Rattle.aas_path_trees.specs.Edits.{fits_role, if_fits, role_at, role_under_found, role_within}
-use Rattle.aas_path_trees.specs.ElementAt.{depth_found, element_at}
+use Rattle.aas_path_trees.specs.ElementAt.{depth_found, element_at, children_at}
 use Rattle.aas_rows.specs.Rows.{Line}
 use Rattle.aas_rows.specs.declared.view.RowView.{RowView}
 use Rattle.aas_step.specs.Causes.{Cause, causes, first_of, in_submodel, is_container, is_lost, is_named_among, leads, unless, when}
 use Rattle.aas_store.specs.Documents.{Documents}
 use Rattle.aas_store.specs.Edited.{Holds, LeadsNowhere}
-use Rattle.aas_store.specs.Reads.{IsRowOf, children_at}
+use Rattle.aas_store.specs.Reads.{IsRowOf}
 use Rattle.aas_repo.proofs.Accepted.{holds_at, holds_then}
 use Rattle.aas_repo.proofs.Decided.{refused_by}
 use Rattle.aas_repo.proofs.Reached.{found_there}

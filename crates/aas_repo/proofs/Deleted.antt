@@ -23,7 +23,7 @@ use Rattle.aas_step.specs.Valid.{AreValid}
 use Rattle.aas_store.specs.Documents.{Documents}
 use Rattle.aas_store.specs.Edited.{Holds, LeadsNowhere, with_changed}
 use Rattle.aas_store.specs.Reads.{IsRowOf}
-use Rattle.aas_store.specs.Storable.{element_count}
+use Rattle.aas_path_trees.specs.Patched.{element_count}
 use Rattle.aas_repo.proofs.Accepted as accepted
 use Rattle.aas_repo.proofs.Accepted.{holds_at, holds_then, some_steps}
 use Rattle.aas_repo.proofs.Edited as edited

@@ -28,16 +28,16 @@ use Rattle.aas_model.specs.declared.path.PathStep.{PathStep}
 use Rattle.aas_model.specs.declared.reference.Reference.{Reference}
 use Rattle.aas_path_trees.specs.Children.{id_short_of, with_role}
 use Rattle.aas_path_trees.specs.Edits.{if_fits, inserted, role_at, role_under_found, role_within}
-use Rattle.aas_path_trees.specs.ElementAt.{element_at, place_named}
-use Rattle.aas_path_trees.specs.Patched.{kinds}
+use Rattle.aas_path_trees.specs.ElementAt.{element_at, place_named, children_at}
+use Rattle.aas_path_trees.specs.Patched.{kinds, element_count}
 use Rattle.aas_step.specs.Causes.{Cause, causes, first_of, insert_causes, is_container, is_named_among, unless, when}
 use Rattle.aas_step.specs.Laws.{ValidIsStorable}
 use Rattle.aas_step.specs.Valid.{AreValid}
 use Rattle.aas_store.specs.Documents.{Documents}
 use Rattle.aas_store.specs.Edited.{Holds, with_changed}
 use Rattle.aas_store.specs.Reads as reads
-use Rattle.aas_store.specs.Reads.{IsRowOf, children_at}
-use Rattle.aas_store.specs.Storable.{IsStorable, element_count}
+use Rattle.aas_store.specs.Reads.{IsRowOf}
+use Rattle.aas_store.specs.Storable.{IsStorable}
 use Rattle.aas_repo.proofs.Accepted as accepted
 use Rattle.aas_repo.proofs.Accepted.{holds_at, holds_then}
 use Rattle.aas_repo.specs.Accepted.{IsAccepted}

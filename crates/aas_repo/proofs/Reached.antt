@@ -12,10 +12,9 @@ use Rattle.aas_model.specs.declared.path.PathStep.{PathStep}
 use Rattle.aas_path.specs.Refusals.{IsMissing, IsNoContainer, IsUnfit}
 use Rattle.aas_path_trees.specs.Children.{id_short_of, role_of}
 use Rattle.aas_path_trees.specs.Edits.{fits_role, role_at, role_under, role_under_found}
-use Rattle.aas_path_trees.specs.ElementAt.{depth_found, element_at}
+use Rattle.aas_path_trees.specs.ElementAt.{depth_found, element_at, children_at}
 use Rattle.aas_path_trees.specs.PathRule.{KeepsRule}
 use Rattle.aas_model.specs.declared.element.Role.{Role}
-use Rattle.aas_store.specs.Reads.{children_at}
 use Rattle.aas_step.specs.Causes.{Cause, first_of, insert_causes, is_container, is_lost, is_named_among, replace_causes, unless, when}
 
 pub some_steps : (p : List PathStep) → KeepsRule p → 0 < length p

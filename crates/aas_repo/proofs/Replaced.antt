@@ -12,7 +12,7 @@ use Rattle.aas_constraint_laws.specs.Valid.{IsValid}
 use Rattle.aas_constraint_rules.specs.Faults.{submodel}
 use Rattle.aas_constraint_rules.specs.Rules.{name_of, semantics_of}
 use Rattle.aas_constraint_rules.specs.Sites.{own_of}
-use Rattle.aas_edit_faults.specs.Laws.{EditsCount, EditsKeepValid, ReplacedStandsAlone, child_at, children_at, faults_as_child}
+use Rattle.aas_edit_faults.specs.Laws.{EditsCount, EditsKeepValid, ReplacedStandsAlone, child_at, faults_as_child}
 use Rattle.aas_edit_laws.proofs.Attributes.{replace_keeps_attributes}
 use Rattle.aas_edit_laws.specs.Laws.{at_level}
 use Rattle.aas_json_mapping.specs.Whole.{is_whole_element}
@@ -25,8 +25,8 @@ use Rattle.aas_model.specs.declared.path.PathStep.{PathStep}
 use Rattle.aas_path_trees.proofs.Paths.{element_among-append}
 use Rattle.aas_path_trees.specs.Children.{id_short_of, is_list, kids_of, role_of, with_role}
 use Rattle.aas_path_trees.specs.Edits.{fits_role, replaced}
-use Rattle.aas_path_trees.specs.ElementAt.{child_by, element_at, element_below}
-use Rattle.aas_path_trees.specs.Patched.{kinds}
+use Rattle.aas_path_trees.specs.ElementAt.{child_by, element_at, element_below, children_at}
+use Rattle.aas_path_trees.specs.Patched.{kinds, element_count}
 use Rattle.aas_rows.specs.Rows.{Line}
 use Rattle.aas_rows.specs.Views.{line_of}
 use Rattle.aas_rows.specs.declared.view.RowView.{RowView}
@@ -36,7 +36,7 @@ use Rattle.aas_step.specs.Valid.{AreValid}
 use Rattle.aas_store.specs.Documents.{Documents}
 use Rattle.aas_store.specs.Edited.{CanReplace, Holds, with_changed}
 use Rattle.aas_store.specs.Reads.{IsRowOf, semantic_id_of}
-use Rattle.aas_store.specs.Storable.{IsStorable, element_count}
+use Rattle.aas_store.specs.Storable.{IsStorable}
 use Rattle.aas_repo.proofs.Accepted as accepted
 use Rattle.aas_repo.proofs.Accepted.{holds_at, holds_then}
 use Rattle.aas_repo.proofs.Counted.{count_out}

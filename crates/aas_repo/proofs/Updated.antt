@@ -31,7 +31,7 @@ use Rattle.aas_model_names.specs.declared.collection.Collection.TheVariants.{Sub
 use Rattle.aas_model_names.specs.declared.modifiers.Extent.TheVariants as extent
 use Rattle.aas_path_trees.specs.Children.{kids_of}
 use Rattle.aas_path_trees.specs.ElementAt.{element_at}
-use Rattle.aas_path_trees.specs.Patched.{Fits, kinds, kinds_of_all, patched, patched_submodel}
+use Rattle.aas_path_trees.specs.Patched.{Fits, kinds, kinds_of_all, patched, patched_submodel, element_count}
 use Rattle.aas_path_trees.specs.WithElement.{with_element}
 use Rattle.aas_reference.specs.Rules.{first}
 use Rattle.aas_step.specs.Causes.{Cause, absent_of, causes, first_of, has_too_many, is_lost, unless, update_causes, when}
@@ -39,7 +39,6 @@ use Rattle.aas_step.specs.Step.{later_causes}
 use Rattle.aas_step.specs.Valid.{AreValid}
 use Rattle.aas_store.specs.Documents.{Documents, with_submodel}
 use Rattle.aas_store.specs.Edited.{FitsAt, Holds, LeadsNowhere, patched_at, with_changed}
-use Rattle.aas_store.specs.Storable.{element_count}
 use Rattle.aas_value.specs.ValueForm.{Child, as_child, child_of, value_form, value_over}
 use Rattle.aas_value_patch.specs.Prepared.{Breaks, IsValueFault}
 use Rattle.aas_value_patch.specs.declared.preparing.ValueFault.{ValueFault}

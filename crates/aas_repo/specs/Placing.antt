@@ -12,11 +12,10 @@ use Rattle.aas_model.specs.declared.path.PathStep.{PathStep}
 use Rattle.aas_model.specs.declared.reference.Reference.{Reference}
 use Rattle.aas_path_trees.specs.Children.{role_of}
 use Rattle.aas_path_trees.specs.Edits.{fits_role, if_fits, inserted, replaced, role_within}
-use Rattle.aas_path_trees.specs.ElementAt.{element_at}
+use Rattle.aas_path_trees.specs.ElementAt.{element_at, children_at}
 use Rattle.aas_step.specs.Causes.{insert_causes, leads, replace_causes}
 use Rattle.aas_store.specs.Documents.{Documents}
 use Rattle.aas_store.specs.Edited.{Holds}
-use Rattle.aas_store.specs.Reads.{children_at}
 use Rattle.aas_repo.specs.Accepted.{IsAccepted}
 use Rattle.aas_repo.specs.declared.placing.Parent.{Parent}
 

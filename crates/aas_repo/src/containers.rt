@@ -2,7 +2,7 @@
 ghost use Rattle.std.specs.Prelude.{◌≡◌, ◌&&◌};
 ghost use Rattle.aas_path_trees.specs.Children.{id_short_of};
 ghost use Rattle.aas_step.specs.Causes.{is_container, is_named_among};
-ghost use Rattle.aas_store.specs.Reads.{children_at};
+ghost use Rattle.aas_path_trees.specs.ElementAt.{children_at};
 
 use aas_model::{Element, Path, Submodel};
 use aas_path::{at, place_named, role_within};

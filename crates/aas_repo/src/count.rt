@@ -1,7 +1,6 @@
 // How many elements a submodel has.
 ghost use Rattle.std.specs.Prelude.{◌≡◌, ◌+◌, ◌<◌, length, nat_lt, MatchOption};
-ghost use Rattle.aas_path_trees.specs.Patched.{kinds, kinds_of_all};
-ghost use Rattle.aas_store.specs.Storable.{element_count};
+ghost use Rattle.aas_path_trees.specs.Patched.{kinds, kinds_of_all, element_count};
 
 use aas_model::{Element, Submodel};
 

@@ -13,7 +13,7 @@ ghost use Rattle.aas_path_trees.specs.Children.{id_short_of};
 ghost use Rattle.aas_step.specs.Causes.{causes, first_of, is_named_among};
 ghost use Rattle.aas_step.specs.Valid.{AreValid};
 ghost use Rattle.aas_store.specs.Edited.{Holds};
-ghost use Rattle.aas_store.specs.Reads.{children_at};
+ghost use Rattle.aas_path_trees.specs.ElementAt.{children_at};
 ghost use Rattle.aas_repo.specs.Decisions.{IsDecision};
 ghost use Rattle.aas_repo.specs.Placing.{IsInsertable, IsLead, IsParent, IsTaking, own_of_parent, role_below};
 

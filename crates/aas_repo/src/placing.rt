@@ -8,10 +8,9 @@ ghost use Rattle.aas_command.specs.declared.refusal.Refusal.TheVariants.{NotFoun
 ghost use Rattle.aas_constraint_rules.specs.Faults.{is_template};
 ghost use Rattle.aas_path_trees.specs.Children.{with_role};
 ghost use Rattle.aas_path_trees.specs.Edits.{fits_role};
-ghost use Rattle.aas_path_trees.specs.Patched.{kinds};
+ghost use Rattle.aas_path_trees.specs.Patched.{kinds, element_count};
 ghost use Rattle.aas_step.specs.Valid.{AreValid};
 ghost use Rattle.aas_store.specs.Edited.{Holds};
-ghost use Rattle.aas_store.specs.Storable.{element_count};
 ghost use Rattle.aas_repo.specs.Placing.{IsFaultless, IsParent};
 
 use crate::count::has_more_below;

@@ -30,7 +30,7 @@ use Rattle.aas_path_trees.specs.ElementAt.{child_by, element_at, element_below, 
 use Rattle.aas_reference.specs.Rules.{is_external, is_fragment}
 use Rattle.aas_store.specs.Documents.{Documents, Identifier}
 use Rattle.aas_store.specs.Spots.{elements, elements_of_all, spot_among, spot_below}
-use Rattle.aas_store.specs.Storable.{element_count}
+use Rattle.aas_path_trees.specs.Patched.{element_count}
 use Rattle.aas_store.specs.declared.spot.Spot.{Spot}
 use Rattle.aas_resolve.specs.Laws.{ElementsLeadBack, LeadsTo, ShellsLeadBack, SubmodelsLeadBack, rank_at, rank_below}
 use Rattle.aas_resolve.specs.Resolved.{HaveFewElements, admits, along, child_named, child_of, collection_named, if_admitted, is_list, is_list_at, lost, number, rank_of, reached, resolved, resolved_by, stays, step_spelled}

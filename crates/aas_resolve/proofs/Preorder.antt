@@ -5,9 +5,8 @@ use Rattle.aas_model.specs.declared.documents.Submodel.{Submodel}
 use Rattle.aas_model.specs.declared.element.Element.{Element, out-Element, roll-Element, out-roll-Element, roll-out-Element, fold-Element, fold_out-Element, ind-Element}
 use Rattle.aas_path_trees.proofs.Patches.{kinds_out}
 use Rattle.aas_path_trees.specs.Children.{kids_of}
-use Rattle.aas_path_trees.specs.Patched.{kinds, kinds_of_all}
+use Rattle.aas_path_trees.specs.Patched.{kinds, kinds_of_all, element_count}
 use Rattle.aas_store.specs.Spots.{Listed, listed_over, elements, elements_of_all}
-use Rattle.aas_store.specs.Storable.{element_count}
 
 abbrev Known : (Element → Type 0) → Type 0
 Known P = (e : Element) × P e

@@ -14,7 +14,7 @@ use Rattle.aas_path_trees.specs.Children.{kids_of, is_list}
 use Rattle.aas_path_trees.specs.ElementAt.{child_by, place_of}
 use Rattle.aas_store.specs.Documents.{Documents, Identifier}
 use Rattle.aas_store.specs.Spots.{elements_of_all, spot_among, spot_below}
-use Rattle.aas_store.specs.Storable.{element_count}
+use Rattle.aas_path_trees.specs.Patched.{element_count}
 use Rattle.aas_store.specs.declared.spot.Spot.{Spot}
 use Rattle.aas_resolve.specs.Resolved.{HaveFewElements, child_named, child_of, if_admitted, is_list_at, number, rank_of, step_spelled}
 use Rattle.aas_resolve.proofs.Preorder.{few_kids}

@@ -25,7 +25,7 @@ use Rattle.aas_model_names.specs.declared.kind.Kind.TheVariants as kind
 use Rattle.aas_reference.specs.Rules.{is_digit, is_external, is_fragment}
 use Rattle.aas_store.specs.Documents.{Documents, Identifier, has}
 use Rattle.aas_store.specs.Spots.{spot_below}
-use Rattle.aas_store.specs.Storable.{element_count}
+use Rattle.aas_path_trees.specs.Patched.{element_count}
 use Rattle.aas_store.specs.declared.spot.Spot.{Spot}
 use Rattle.aas_resolve.specs.declared.target.Target.{Target}
 use Rattle.aas_resolve.specs.declared.target.Unresolved.{Unresolved}

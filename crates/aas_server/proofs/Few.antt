@@ -7,7 +7,7 @@ use Rattle.aas_model.specs.declared.documents.Submodel.{Submodel}
 use Rattle.aas_resolve.specs.Resolved.{HaveFewElements}
 use Rattle.aas_step.specs.Valid.{AreValid}
 use Rattle.aas_store.specs.Documents.{Documents}
-use Rattle.aas_store.specs.Storable.{element_count}
+use Rattle.aas_path_trees.specs.Patched.{element_count}
 
 not_above : (n : ℕ) → nat_lt 65536 n ≡ false → n ≤ 65536
 not_above n above = grind (arith, nat_tests)

@@ -8,7 +8,7 @@ use Rattle.aas_model.specs.declared.path.PathStep.{PathStep}
 use Rattle.aas_model.specs.declared.path.PathStep.TheVariants.{Name}
 use Rattle.aas_model.specs.declared.reference.Reference.{Reference}
 use Rattle.aas_path_trees.specs.Children.{id_short_of, kids_of}
-use Rattle.aas_path_trees.specs.ElementAt.{child_by, element_among, element_at, is_text, place_named, place_of}
+use Rattle.aas_path_trees.specs.ElementAt.{child_by, element_among, element_at, is_text, place_named, place_of, children_at}
 use Rattle.aas_rows.proofs.Edited.{no_rank_among}
 use Rattle.aas_rows.proofs.Ranked.{StandsAt, followed, led, stands_at_path}
 use Rattle.aas_rows.proofs.Stepping.{position_inside}
@@ -25,7 +25,7 @@ use Rattle.aas_sheet_rows.proofs.Standing.{no_side, own_side, spot_of}
 use Rattle.aas_sheet_rows.specs.Found.{Among}
 use Rattle.aas_sheet_rows.specs.Table.{line_of, lines_of, IsTable}
 use Rattle.aas_sheet_rows.specs.declared.row.Row.{Row}
-use Rattle.aas_store.specs.Reads.{IsRowOf, children_at, first_semantic_id, semantic_id_of}
+use Rattle.aas_store.specs.Reads.{IsRowOf, first_semantic_id, semantic_id_of}
 use Rattle.aas_store.specs.Spots.{rank_at, spot_among}
 use Rattle.aas_store.proofs.Paths.{from_zero, no_element}
 

@@ -11,11 +11,10 @@ use Rattle.aas_model.specs.declared.path.PathStep.{PathStep}
 use Rattle.aas_path_trees.specs.Children.{kids_of, role_of, with_role}
 use Rattle.aas_path_trees.specs.Edits.{fits_role, if_fits, inserted, removed, replaced, removed_among, role_at, role_under, role_within, with_last, with_last_at}
 use Rattle.aas_path_trees.specs.ElementAt.{element_among, element_at}
-use Rattle.aas_path_trees.specs.Patched.{kinds}
+use Rattle.aas_path_trees.specs.Patched.{kinds, element_count}
 use Rattle.aas_path_trees.specs.WithElement.{with_among, with_element}
 use Rattle.aas_path_trees.proofs.Patches.{kinds_out}
 use Rattle.aas_path_trees.proofs.Removed.{removed_among-none}
-use Rattle.aas_store.specs.Storable.{element_count}
 use Rattle.aas_rows.specs.Edits.{StandsIn, count}
 use Rattle.aas_rows.specs.Rows.{Line, line_at, rows, rows_of_all, sizes}
 use Rattle.aas_rows.proofs.Edited.{count_at, have_edited_rows, no_rank_among, row_of_with_kids}

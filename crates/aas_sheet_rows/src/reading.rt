@@ -5,7 +5,8 @@ ghost use Rattle.aas_model.specs.declared.documents.Submodel.{Submodel};
 ghost use Rattle.aas_model.specs.declared.element.Element.{Element};
 ghost use Rattle.aas_sheet_rows.specs.Found.{Among, AreBelow};
 ghost use Rattle.aas_sheet_rows.specs.Table.{IsTable};
-ghost use Rattle.aas_store.specs.Reads.{children_at, first_semantic_id};
+ghost use Rattle.aas_path_trees.specs.ElementAt.{children_at};
+ghost use Rattle.aas_store.specs.Reads.{first_semantic_id};
 
 use crate::finding::{find_among, rank_behind};
 use crate::row::Kept;

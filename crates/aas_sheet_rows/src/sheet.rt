@@ -50,7 +50,7 @@ impl Model for Sheet {
 impl Sheet {
     ghost use Rattle.std.specs.Borrow.{LendsIf, sem};
     ghost use Rattle.aas_path_trees.specs.Edits.{inserted, removed, replaced, role_at};
-    ghost use Rattle.aas_path_trees.specs.ElementAt.{depth_found, element_at, place_named};
+    ghost use Rattle.aas_path_trees.specs.ElementAt.{depth_found, element_at, place_named, children_at};
     ghost use Rattle.aas_rows.specs.Children.{is_at, nth_where};
     ghost use Rattle.aas_rows.specs.Rows.{rows_of_all};
     ghost use Rattle.aas_rows.specs.Views.{line_of};
@@ -58,9 +58,9 @@ impl Sheet {
     ghost use Rattle.aas_sheet_rows.specs.Lent.{sheet_type, row_type};
     ghost use Rattle.aas_store.specs.Documents.{without_children};
     ghost use Rattle.aas_store.specs.Edited.{FitsAt, patched_at};
-    ghost use Rattle.aas_store.specs.Reads.{IsRowOf, children_at, first_semantic_id};
+    ghost use Rattle.aas_store.specs.Reads.{IsRowOf, first_semantic_id};
     ghost use Rattle.aas_store.specs.Spots.{elements_of_all, rank_at, spot_below, step_of};
-    ghost use Rattle.aas_store.specs.Storable.{element_count};
+    ghost use Rattle.aas_path_trees.specs.Patched.{element_count};
 
     /// The submodel as a table. Its elements are moved, not copied. That there are at most 65,536 bounds the levels.
     pub fn from_submodel(submodel: Submodel) -> Result<Sheet, NoMemory>

@@ -15,7 +15,7 @@ use Rattle.aas_constraint_laws.proofs.Siblings.{own_names, own_names_below}
 use Rattle.aas_constraint_laws.proofs.StaysWhole.{all_at}
 use Rattle.aas_constraint_laws.specs.Valid.{IsValid}
 use Rattle.aas_constraint_rules.specs.Faults.{submodel}
-use Rattle.aas_store.specs.Storable.{element_count}
+use Rattle.aas_path_trees.specs.Patched.{element_count}
 use Rattle.aas_step.specs.Laws.{ValidIsStorable}
 
 -- ---- levels

@@ -29,13 +29,12 @@ use Rattle.aas_command.specs.declared.refusal.Refusal.{Refusal}
 use Rattle.aas_command.specs.declared.refusal.Refusal.TheVariants.{NotFound, Conflict, NotAContainer, NoValueForm, Shape, TooMany}
 use Rattle.aas_path_trees.specs.Children.{id_short_of, kids_of, role_of}
 use Rattle.aas_path_trees.specs.Edits.{fits_role, role_at, role_within}
-use Rattle.aas_path_trees.specs.ElementAt.{depth_found, element_at, place_named}
+use Rattle.aas_path_trees.specs.ElementAt.{depth_found, element_at, place_named, children_at}
 use Rattle.aas_value.specs.ValueForm.{value_form}
 use Rattle.aas_value_update.specs.Shape.{first_misshapen}
 use Rattle.aas_value_update.specs.Update.{valued_at}
 use Rattle.aas_store.specs.Documents.{Documents, has}
-use Rattle.aas_store.specs.Reads.{children_at}
-use Rattle.aas_store.specs.Storable.{element_count}
+use Rattle.aas_path_trees.specs.Patched.{element_count}
 
 -- a refusal, where it applies
 abbrev pub Cause : Type 0

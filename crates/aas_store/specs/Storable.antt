@@ -3,16 +3,12 @@ use Rattle.std.specs.Prelude.{◌≡◌, ℕ, ◌≤◌, List, length, slice_get
 use Rattle.aas_model.specs.declared.documents.Submodel.{Submodel}
 use Rattle.aas_model.specs.declared.element.Element.{Element}
 use Rattle.aas_path_trees.specs.Children.{kids_of, id_short_of}
-use Rattle.aas_path_trees.specs.Patched.{kinds_of_all}
+use Rattle.aas_path_trees.specs.Patched.{element_count}
 use Rattle.aas_path_trees.specs.Places.{element_in_all}
 
 -- no two have the same idShort (IDTA-01001-3-0, AASd-022)
 abbrev pub HaveOwnNames : List Element → Type 0
 HaveOwnNames es = (i j : ℕ) (e f : Element) (n : List ℕ) → slice_get es i ≡ Some e → slice_get es j ≡ Some f → id_short_of e ≡ Some n → id_short_of f ≡ Some n → i ≡ j
-
--- how many elements a submodel has, at all levels: as many as kinds in preorder
-abbrev pub element_count : Submodel → ℕ
-element_count d = length (kinds_of_all d.kids)
 
 -- at most 65,536 elements, none at a level above 30, and no two children of one parent with the same idShort; an
 -- element's level is the length of its place

@@ -2,13 +2,13 @@
 ghost use Rattle.std.specs.Prelude.{◌≡◌, ◌≢◌, ◌↔◌, ◌≤◌, Err, IfOk, MatchOption, None, Some};
 ghost use Rattle.std.specs.Option.{option_copied};
 ghost use Rattle.aas_model.specs.declared.path.Missing.{Missing};
-ghost use Rattle.aas_path_trees.specs.ElementAt.{depth_found, element_at};
+ghost use Rattle.aas_path_trees.specs.ElementAt.{depth_found, element_at, children_at};
 ghost use Rattle.aas_rows.specs.Children.{is_at, nth_where};
 ghost use Rattle.aas_rows.specs.Rows.{rows_of_all};
 ghost use Rattle.aas_store.specs.Edited.{LeadsNowhere};
-ghost use Rattle.aas_store.specs.Reads.{IsRowOf, children_at, first_semantic_id};
+ghost use Rattle.aas_store.specs.Reads.{IsRowOf, first_semantic_id};
 ghost use Rattle.aas_store.specs.Spots.{rank_at};
-ghost use Rattle.aas_store.specs.Storable.{element_count};
+ghost use Rattle.aas_path_trees.specs.Patched.{element_count};
 
 use crate::lack::Lack;
 use crate::spots::{MOST, behind_all, find_among};

@@ -2,7 +2,7 @@
 ghost use Rattle.std.specs.Prelude.{◌≡◌, ◌+◌, ◌<◌, ◌≤◌, ◌^◌, length, option_map, slice_get, MatchResult, Some};
 ghost use Rattle.aas_rows.specs.Rows.{line_at, rows, rows_of_all};
 ghost use Rattle.aas_rows.specs.Views.{line_of};
-ghost use Rattle.aas_store.specs.Storable.{element_count};
+ghost use Rattle.aas_path_trees.specs.Patched.{element_count};
 
 use crate::spots::MOST;
 use aas_model::{Element, Submodel};

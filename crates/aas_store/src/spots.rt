@@ -5,7 +5,7 @@ ghost use Rattle.std.specs.Str.{chars};
 ghost use Rattle.aas_rows.specs.Edits.{rank_among};
 ghost use Rattle.aas_store.specs.Ranked.{IsRanked};
 ghost use Rattle.aas_store.specs.Spots.{elements, elements_of_all, spot_among, spot_below, step_of};
-ghost use Rattle.aas_store.specs.Storable.{element_count};
+ghost use Rattle.aas_path_trees.specs.Patched.{element_count};
 
 use crate::spot::{Spot, StepRef};
 use aas_model::{Element, PathStep, Payload, Submodel, same_text};

@@ -6,7 +6,7 @@ use Rattle.aas_sheet_rows.specs.Found.{Among, AreBelow}
 use Rattle.aas_sheet_rows.specs.declared.row.Row.{Row}
 use Rattle.aas_store.proofs.Paths.{no_steps}
 use Rattle.aas_sheet_rows.proofs.Below.{found_below, nothing_below}
-use Rattle.aas_store.specs.Reads.{children_at}
+use Rattle.aas_path_trees.specs.ElementAt.{children_at}
 use Rattle.aas_sheet_rows.proofs.reading.below.Goals as goal
 
 pub returns-in_default-clause-rows : goal.returns-in_default-clause-rows

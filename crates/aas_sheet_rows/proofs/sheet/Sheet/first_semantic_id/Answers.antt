@@ -2,7 +2,8 @@ use Rattle.std.proofs.Common.{List, refl, sym, ap, subst}
 use Rattle.aas_sheet_index.specs.declared.side.Side.{Side}
 use Rattle.aas_sheet_rows.specs.Found.{Among}
 use Rattle.aas_sheet_rows.specs.declared.row.Row.{Row}
-use Rattle.aas_store.specs.Reads.{children_at, first_semantic_id}
+use Rattle.aas_path_trees.specs.ElementAt.{children_at}
+use Rattle.aas_store.specs.Reads.{first_semantic_id}
 use Rattle.aas_sheet_rows.proofs.Standing.{all_among, viewed}
 use Rattle.aas_sheet_rows.proofs.sheet.Sheet.first_semantic_id.Goals as goal
 

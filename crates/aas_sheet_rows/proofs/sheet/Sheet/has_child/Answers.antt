@@ -1,8 +1,7 @@
 use Rattle.std.proofs.Common.{List, is_some, refl, sym, ap, ◌∙◌}
 use Rattle.std.specs.Str.{chars}
-use Rattle.aas_path_trees.specs.ElementAt.{place_named}
+use Rattle.aas_path_trees.specs.ElementAt.{place_named, children_at}
 use Rattle.aas_sheet_rows.specs.declared.row.Row.{Row}
-use Rattle.aas_store.specs.Reads.{children_at}
 use Rattle.aas_sheet_rows.proofs.Below.{spot_named}
 use Rattle.aas_sheet_rows.proofs.Standing.{all_among, viewed}
 use Rattle.aas_sheet_rows.proofs.sheet.Sheet.has_child.Goals as goal
