@@ -3,10 +3,10 @@ use Rattle.std.proofs.Common.{◌≡◌, ℕ, Bool, true, false, not, ◌&&◌, 
 use Rattle.std.specs.Prelude.{is_some, is_none}
 use Rattle.std.specs.List.{AllByRecursion, cons_option}
 use Rattle.aas_reference.specs.Rules.{Rule, failing, if_any}
-use Rattle.aas_model.specs.Payload.{kind_of}
+use Rattle.aas_model.specs.Payload.{kind_of, is_operation}
 use Rattle.aas_model.specs.declared.payload.Payload.{Payload}
 use Rattle.aas_model.specs.declared.payload.Payload.TheVariants as p
-use Rattle.aas_constraint_rules.specs.Rules.{ElementSentence, local, placed, rules, name_of, semantics_of, is_operation, stands_in_operation, is_repeat, first_some, agree, list_semantics, list_type, list_value_type, of_parent, type_admits, is_typed, value_type_of, same_type, list_is_typed, has_list_value_type}
+use Rattle.aas_constraint_rules.specs.Rules.{ElementSentence, local, placed, rules, name_of, semantics_of, stands_in_operation, is_repeat, first_some, agree, list_semantics, list_type, list_value_type, of_parent, type_admits, is_typed, value_type_of, same_type, list_is_typed, has_list_value_type}
 use Rattle.aas_constraint_rules.specs.Sites.{Own, Site}
 use Rattle.aas_constraint_rules.specs.Texts.{is_among}
 use Rattle.aas_constraint_laws.specs.Values.{without_values}

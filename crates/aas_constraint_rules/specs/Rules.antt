@@ -18,7 +18,7 @@ use Rattle.aas_model_names.specs.declared.value_type.ValueType.{ValueType}
 use Rattle.aas_reference.specs.Rules.{Rule, row, if_any, is_external, levels_of}
 use Rattle.aas_reference.specs.Same.{same}
 use Rattle.aas_json_spelling.specs.Lists.{is_any}
-use Rattle.aas_model.specs.Payload.{kind_of}
+use Rattle.aas_model.specs.Payload.{kind_of, is_operation}
 use Rattle.aas_model.specs.declared.reference.Semantics.{Semantics}
 use Rattle.aas_model.specs.declared.parts.Qualifier.{Qualifier}
 use Rattle.aas_model.specs.declared.reference.Reference.{Reference, out-Reference}
@@ -42,10 +42,6 @@ abbrev pub first_some : {X : Type 0} → List (Option X) → Option X
 first_some [] = None
 first_some (None ∷ xs) = first_some xs
 first_some (Some x ∷ xs) = Some x
-
-abbrev pub is_operation : Payload → Bool
-is_operation p.Operation = true
-is_operation _ = false
 
 abbrev pub stands_in_operation : Option Own → Bool
 stands_in_operation None = false

@@ -10,6 +10,7 @@ use Rattle.aas_json_mapping.specs.Elements.{is_input, is_output, is_inoutput, el
 use Rattle.aas_json_table.specs.Spelled.{attribute}
 use Rattle.aas_json_table.specs.Table.{text}
 use Rattle.aas_model.specs.declared.element.Role.{Role}
+use Rattle.aas_model.specs.Payload.{is_operation}
 use Rattle.aas_model.specs.declared.payload.Payload.{Payload}
 use Rattle.aas_model.specs.declared.payload.Payload.TheVariants as p
 use Rattle.aas_rows.specs.Rows.{Line}
@@ -79,10 +80,6 @@ stop_name j =
     else if j == 3 then codes "outputVariables"
     else if j == 2 then codes "statements"
     else codes "value"
-
-abbrev pub is_operation : Payload → Bool
-is_operation p.Operation = true
-is_operation p = false
 
 abbrev pub has_annotations : Payload → Bool
 has_annotations (p.AnnotatedRelationshipElement a b) = true

@@ -1,5 +1,6 @@
 -- The kind of an element, which its own attributes decide: each kind has attributes of its own.
 -- IDTA-01001-3-0, the classes under SubmodelElement that are not abstract.
+use Rattle.std.specs.Prelude.{Bool, true, false}
 use Rattle.aas_model.specs.declared.payload.Payload.{Payload}
 use Rattle.aas_model.specs.declared.payload.Payload.TheVariants as payload
 use Rattle.aas_model_names.specs.declared.kind.Kind.{Kind}
@@ -20,3 +21,7 @@ kind_of payload.Capability = kind.Capability
 kind_of payload.Operation = kind.Operation
 kind_of payload.SubmodelElementCollection = kind.SubmodelElementCollection
 kind_of (payload.SubmodelElementList _ _ _ _) = kind.SubmodelElementList
+
+abbrev pub is_operation : Payload → Bool
+is_operation payload.Operation = true
+is_operation _ = false
