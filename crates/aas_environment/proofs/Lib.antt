@@ -1,4 +1,3 @@
-mod Above
 mod Blamed
 mod Payload
 mod Poured

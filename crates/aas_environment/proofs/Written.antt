@@ -27,7 +27,7 @@ use Rattle.aas_store.specs.Documents.{Documents, Identifier, Map, count, first_a
 use Rattle.aas_environment.specs.Environments.{environment_of}
 use Rattle.aas_answer.specs.Shown.{document_shown}
 use Rattle.aas_environment.specs.Members.{has_member, member_text, name_of, name_text, spellings}
-use Rattle.aas_environment.proofs.Above.{above, all_above_none, ids_rise, next, none_above}
+use Rattle.aas_store.proofs.Above.{above, all_above_none, ids_rise, next, none_above}
 
 -- ---- the array of a collection
 

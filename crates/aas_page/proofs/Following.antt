@@ -10,8 +10,8 @@ use Rattle.std.specs.declared.cmp.Ordering.TheVariants.{Less, Equal, Greater}
 use Rattle.std.specs.FinMap as fin
 use Rattle.std.proofs.lemmas.Cmp.{nat_list_cmp_total, tied_itself}
 use Rattle.std.proofs.lemmas.List.Elements.{Contains-append_right}
-use Rattle.aas_lemmas.proofs.Truth.{Less-from_is_lt}
 use Rattle.aas_store.specs.Documents.{Identifier, Map, first_above, is_above}
+use Rattle.aas_store.proofs.Above.{above_both}
 use Rattle.aas_store.proofs.Ordered.{order, greater, head_below, same_id, same_some, tail}
 use Rattle.aas_page.specs.Pages.{left_after}
 use Rattle.aas_page.specs.Walks.{Rise}
@@ -23,10 +23,6 @@ abbrev pub ids_of : {X : Type 0} → Entries X → List Identifier
 ids_of es = map (λ e. e.0) es
 
 -- ---- identifiers above one
-
-pub above_both : (after : Option Identifier) (a b : Identifier) → is_above after a ≡ true → order a b ≡ Less → is_above after b ≡ true
-above_both None a b above less = refl
-above_both (Some id) a b above less = ap is_lt (nat_list_cmp_total.trans id a b (Less-from_is_lt (order id a) above) less)
 
 not_above_itself : (id : Identifier) → is_above (Some id) id ≡ false
 not_above_itself id = ap is_lt (tied_itself nat_list_cmp_total id)

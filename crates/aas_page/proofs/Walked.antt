@@ -13,7 +13,8 @@ use Rattle.aas_store.specs.Documents.{Identifier, Map, is_above}
 use Rattle.aas_store.proofs.Ordered.{order}
 use Rattle.aas_page.specs.Pages.{left_after}
 use Rattle.aas_page.specs.Walks.{IsWalk, ListsEachOnce, Look, Rise, Stays, listed, page_at}
-use Rattle.aas_page.proofs.Following.{above_both, contains_first, contains_more, following, following_is, has_following, ids_of, rises}
+use Rattle.aas_store.proofs.Above.{above_both}
+use Rattle.aas_page.proofs.Following.{contains_first, contains_more, following, following_is, has_following, ids_of, rises}
 
 -- ---- identifiers that rise
 

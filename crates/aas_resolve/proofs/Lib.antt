@@ -1,4 +1,3 @@
-pub mod Above
 pub mod InTurn
 pub mod Keys
 pub mod LeadsBack
@@ -6,3 +5,4 @@ pub mod Numbers
 pub mod Preorder
 pub mod Sites
 pub mod TooFar
+pub mod UpTo

@@ -1,3 +1,4 @@
+pub mod Above
 pub mod InPlace
 pub mod Listed
 pub mod Merges

@@ -1,7 +1,7 @@
 use Rattle.std.proofs.Common.{is_some, sym, ap, ◌∙◌}
 use Rattle.std.specs.Option.{option_copied}
 use Rattle.serde_json.specs.Written.{comma_if}
-use Rattle.aas_environment.proofs.Above.{fewer_left}
+use Rattle.aas_store.proofs.Above.{fewer_left}
 use Rattle.aas_environment.proofs.Poured.{begun, ended, more}
 use Rattle.aas_environment.proofs.pouring.pour_documents.Goals as goal
 

@@ -1,7 +1,7 @@
 use Rattle.std.proofs.Common.{length, is_some}
 use Rattle.std.specs.Option.{option_copied}
 use Rattle.aas_store.specs.Documents.{ids}
-use Rattle.aas_environment.proofs.Above.{above}
+use Rattle.aas_store.proofs.Above.{above}
 use Rattle.aas_environment.proofs.Poured.{Underway}
 use Rattle.aas_environment.proofs.pouring.pour_documents.Given as goal
 

@@ -1,7 +1,8 @@
 use Rattle.std.proofs.Common.{length}
 use Rattle.std.specs.Option.{option_copied}
 use Rattle.aas_store.specs.Documents.{ids}
-use Rattle.aas_resolve.proofs.Above.{UpTo, above}
+use Rattle.aas_store.proofs.Above.{above}
+use Rattle.aas_resolve.proofs.UpTo.{UpTo}
 use Rattle.aas_resolve.proofs.dangling_references.add_collection.Given as goal
 
 abbrev pub invariant-loop-id : goal.invariant-loop-id

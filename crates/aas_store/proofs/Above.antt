@@ -1,41 +1,26 @@
 -- Identifiers in order, and those of them above another one.
-use Rattle.std.proofs.Common.{◌≡◌, ℕ, suc, ◌+◌, ◌<◌, ◌≤◌, Bool, true, false, cond, ◌&&◌, T, List, [], ◌∷◌, ◌++◌, length, map, flat_map, Option, Some, None, refl, sym, ap, ap₂, ◌∙◌, subst, append_assoc, arith}
+use Rattle.std.proofs.Common.{◌≡◌, suc, ◌<◌, Bool, true, false, cond, T, List, [], ◌∷◌, length, map, Option, Some, None}
+use Rattle.std.proofs.Common.{refl, sym, ap, ◌∙◌, subst, arith}
 use Rattle.std.specs.Prelude.{filter}
 use Rattle.std.specs.List.{AllByRecursion, find}
 use Rattle.std.specs.List.Sorted.{IsStrictlySortedBy}
-use Rattle.std.specs.Ordering.{is_lt, nat_cmp, ordering_reverse}
-use Rattle.std.specs.declared.cmp.Ordering.{Ordering}
-use Rattle.std.specs.declared.cmp.Ordering.TheVariants.{Less, Equal, Greater}
-use Rattle.std.specs.Cmp.Lexicographic.{slice_cmp}
+use Rattle.std.specs.Ordering.{is_lt, ordering_reverse}
+use Rattle.std.specs.declared.cmp.Ordering.TheVariants.{Less, Greater}
 use Rattle.std.specs.FinMap as fin
 use Rattle.std.specs.FinMap.{entries_sorted}
 use Rattle.std.specs.FinMap.Entries.{below_all, is_sorted}
 use Rattle.std.proofs.lemmas.Cmp.{nat_list_cmp_total, tied_itself}
-use Rattle.std.proofs.lemmas.List.{append-nil}
 use Rattle.std.proofs.lemmas.Map.Keys.{sorted_head, sorted_tail}
 use Rattle.aas_lemmas.proofs.Truth.{Less-from_is_lt}
 use Rattle.aas_model_names.specs.declared.collection.Collection.{Collection}
 use Rattle.aas_model_names.specs.declared.collection.Collection.TheVariants.{Shells, Submodels, Concepts}
-use Rattle.aas_store.specs.Documents.{Documents, Identifier, Map, first_above, ids, is_above}
-use Rattle.aas_resolve.specs.Dangling.{dangling_among, dangling_in}
-use Rattle.aas_resolve.specs.declared.report.Dangling.{Dangling}
-
-abbrev order : Identifier → Identifier → Ordering
-order = slice_cmp nat_cmp
+use Rattle.aas_store.specs.Documents.{Documents, Identifier, first_above, ids, is_above}
+use Rattle.aas_store.proofs.Ordered.{less, order, parts}
 
 abbrev AreAbove : Identifier → List Identifier → Type 0
 AreAbove id ids = AllByRecursion (λ other. order id other ≡ Less) ids
 
 -- ---- the identifiers of a collection rise
-
-parts : (a b : Bool) → T (a && b) → T a × T b
-parts true b h = (tt, h)
-parts false b h = absurd h
-
-less : (r : Ordering) → T (is_lt r) → r ≡ Less
-less Less h = refl
-less Equal h = absurd h
-less Greater h = absurd h
 
 keys_above : {X : Type 0} (id : Identifier) (es : List (Identifier × X)) → T (below_all order id es) → AreAbove id (map (λ (e : Identifier × X). e.0) es)
 keys_above id [] h = tt
@@ -46,7 +31,7 @@ unfolding IsStrictlySortedBy
 keys_rise [] h = tt
 keys_rise (e ∷ es) h = let both = parts (below_all order e.0 es) (is_sorted order es) h in (keys_above e.0 es both.0, keys_rise es both.1)
 
-ids_rise : (c : Collection) (m : Documents) → IsStrictlySortedBy order (ids c m)
+pub ids_rise : (c : Collection) (m : Documents) → IsStrictlySortedBy order (ids c m)
 ids_rise Shells m = keys_rise (fin.entries m.shells) (entries_sorted m.shells)
 ids_rise Submodels m = keys_rise (fin.entries m.submodels) (entries_sorted m.submodels)
 ids_rise Concepts m = keys_rise (fin.entries m.concepts) (entries_sorted m.concepts)
@@ -56,11 +41,11 @@ ids_rise Concepts m = keys_rise (fin.entries m.concepts) (entries_sorted m.conce
 abbrev pub above : Option Identifier → List Identifier → List Identifier
 above after all = filter (is_above after) all
 
-all_above_none : (all : List Identifier) → above None all ≡ all
+pub all_above_none : (all : List Identifier) → above None all ≡ all
 all_above_none [] = refl
 all_above_none (x ∷ xs) = ap (λ l. x ∷ l) (all_above_none xs)
 
-above_both : (after : Option Identifier) (a b : Identifier) → is_above after a ≡ true → order a b ≡ Less → is_above after b ≡ true
+pub above_both : (after : Option Identifier) (a b : Identifier) → is_above after a ≡ true → order a b ≡ Less → is_above after b ≡ true
 above_both None a b high lower = refl
 above_both (Some id) a b high lower = ap is_lt (nat_list_cmp_total.trans id a b (Less-from_is_lt (order id a) high) lower)
 
@@ -82,7 +67,7 @@ found_above test id x (y ∷ ys) h is = by (found_above test id x ys h.1) (test 
     by rest false is = rest is
 
 -- the first of those above
-next : (after : Option Identifier) (id : Identifier) (all : List Identifier) → IsStrictlySortedBy order all → first_above after all ≡ Some id → above after all ≡ id ∷ above (Some id) all
+pub next : (after : Option Identifier) (id : Identifier) (all : List Identifier) → IsStrictlySortedBy order all → first_above after all ≡ Some id → above after all ≡ id ∷ above (Some id) all
 next after id [] rise is = absurd (cc)
 next after id (x ∷ xs) rise is = by (next after id xs (sorted_tail order x xs rise)) (is_above after x) refl is
   where
@@ -98,7 +83,7 @@ next after id (x ∷ xs) rise is = by (next after id xs (sorted_tail order x xs 
         let lower : order id x ≡ Greater = nat_list_cmp_total.antisymm id x ∙ ap ordering_reverse (found_above (is_above after) x id xs (sorted_head order x xs rise) is) in
         rest is ∙ ap (λ r. id ∷ cond (is_lt r) (x ∷ above (Some id) xs) (above (Some id) xs)) (sym lower)
 
-none_above : (after : Option Identifier) (all : List Identifier) → first_above after all ≡ None → above after all ≡ []
+pub none_above : (after : Option Identifier) (all : List Identifier) → first_above after all ≡ None → above after all ≡ []
 none_above after [] is = refl
 none_above after (x ∷ xs) is = by (none_above after xs) (is_above after x) is
   where
@@ -106,27 +91,6 @@ none_above after (x ∷ xs) is = by (none_above after xs) (is_above after x) is
     by rest true is = absurd (cc)
     by rest false is = rest is
 
--- ---- a loop over the documents of a collection
-
--- the dangling references of those up to an identifier were added to what was found at first
-abbrev pub UpTo : Documents → Collection → List Dangling → List Dangling → Option Identifier → Type 0
-UpTo m c start now after = start ++ dangling_among m c ≡ now ++ flat_map (dangling_in m c) (above after (ids c m))
-
-pub at_first : (m : Documents) (c : Collection) (start : List Dangling) → UpTo m c start start None
-at_first m c start = ap (λ all. start ++ flat_map (dangling_in m c) all) (sym (all_above_none (ids c m)))
-
-pub one_more : (m : Documents) (c : Collection) (start now new : List Dangling) (after : Option Identifier) (id : Identifier)
-    → first_above after (ids c m) ≡ Some id → new ≡ now ++ dangling_in m c id → UpTo m c start now after → UpTo m c start new (Some id)
-one_more m c start now new after id is added so_far =
-    let rest = flat_map (dangling_in m c) (above (Some id) (ids c m)) in
-    so_far ∙ ap (λ all. now ++ flat_map (dangling_in m c) all) (next after id (ids c m) (ids_rise c m) is)
-    ∙ sym (append_assoc now (dangling_in m c id) rest) ∙ ap (λ l. l ++ rest) (sym added)
-
-pub all_done : (m : Documents) (c : Collection) (start now : List Dangling) (after : Option Identifier)
-    → first_above after (ids c m) ≡ None → UpTo m c start now after → now ≡ start ++ dangling_among m c
-all_done m c start now after is so_far =
-    sym (so_far ∙ ap (λ all. now ++ flat_map (dangling_in m c) all) (none_above after (ids c m) is) ∙ append-nil now)
-
-pub fewer_left : (m : Documents) (c : Collection) (after : Option Identifier) (id : Identifier) → first_above after (ids c m) ≡ Some id
+pub fewer_left : (c : Collection) (m : Documents) (after : Option Identifier) (id : Identifier) → first_above after (ids c m) ≡ Some id
     → length (above (Some id) (ids c m)) < length (above after (ids c m))
-fewer_left m c after id is = let more : length (above after (ids c m)) ≡ suc (length (above (Some id) (ids c m))) = ap length (next after id (ids c m) (ids_rise c m) is) in omega (arith, more)
+fewer_left c m after id is = let more : length (above after (ids c m)) ≡ suc (length (above (Some id) (ids c m))) = ap length (next after id (ids c m) (ids_rise c m) is) in omega (arith, more)
