@@ -2,7 +2,6 @@
 use Rattle.std.proofs.Common.{◌≡◌, ◌↔◌, ℕ, ◌+◌, List, [], ◌∷◌, Bool, true, false, Option, Some, None, option_map, is_some, if◌then◌else◌, inl, inr, subst, refl, sym, ap, ap₂, ◌∙◌, true≢false}
 use Rattle.std.specs.List.{All}
 use Rattle.std.proofs.lemmas.List.Elements.{All-nil, All-cons, All-head, All-tail}
-use Rattle.aas_lemmas.proofs.Options.{some_there}
 use Rattle.serde_json.specs.Data.{Data, null, boolean, number, string, array, object, Items, no_items, item, Members, no_members, member}
 use Rattle.serde_json.specs.Find.{get_member}
 use Rattle.aas_json_table.specs.Names.{has}
@@ -36,6 +35,10 @@ items_clear left f n (item d ds) each =
 record MembersClear (left : Levels) (rows : List Row) (ms : Members) : Type 0 where
   fit : misfit_members ms rows ≡ None
   low : too_deep_members ms rows left ≡ None
+
+some_there : {A : Type 0} (o : Option A) → is_some o ≡ true → (x : A) × (o ≡ Some x)
+some_there None e = absurd (true≢false (sym e))
+some_there (Some x) e = (x, refl)
 
 members_clear : (left : Levels) (rows : List Row) (ms : Members) → HasRows rows ms → ((n : List ℕ) (j : Data) (r : Row) → IsMember n j ms → row_named n rows ≡ Some r → IsClear left r.member_type j) → MembersClear left rows ms
 members_clear left rows no_members known each = record { fit = refl; low = refl }

@@ -13,9 +13,6 @@ pub no_map : {X Y : Type 0} (f : X → Y) (xs : List X) → map f xs ≡ [] → 
 no_map f [] e = refl
 no_map f (x ∷ xs) e = cc
 
-pub same_tails : {X : Type 0} (x y : X) (xs ys : List X) → x ∷ xs ≡ y ∷ ys → xs ≡ ys
-same_tails x y xs ys e = cc
-
 -- an item at the end is the first of what follows
 pub append_one : {X : Type 0} (xs : List X) (x : X) (rest : List X) → (xs ++ x ∷ []) ++ rest ≡ xs ++ x ∷ rest
 append_one xs x rest = append_assoc xs (x ∷ []) rest

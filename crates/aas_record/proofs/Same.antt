@@ -2,7 +2,6 @@
 use Rattle.std.proofs.Common.{◌≡◌, ◌⊎◌, ◌+◌, inl, inr, subst, ℕ, List, [], ◌∷◌, length, Result, Ok, Err, refl, sym, ◌∙◌, ap, arith}
 use Rattle.std.specs.Prelude.{flat_map, MatchResult}
 use Rattle.std.proofs.lemmas.Str.{encodes_same}
-use Rattle.aas_lemmas.proofs.Lists.{same_tails}
 use Rattle.aas_json_spelling.specs.Lists.{Each}
 use Rattle.aas_json_spelling.specs.Mapped.{AnyShape}
 use Rattle.aas_json_mapping.specs.Shape.{IsShaped, IsShapedEnvironment, IsShapedSubmodel}
@@ -38,6 +37,9 @@ same_fields (f ∷ fs) (g ∷ gs) a b e =
 
 first : (a b : List ℕ) (others more : List (List ℕ)) → a ∷ others ≡ b ∷ more → a ≡ b
 first a b others more e = cc
+
+same_tails : {X : Type 0} (x y : X) (xs ys : List X) → x ∷ xs ≡ y ∷ ys → xs ≡ ys
+same_tails x y xs ys e = cc
 
 -- commands of one tag, with the same fields, are the same
 same_tagged : (c d : Command) → IsWellFormed c → IsWellFormed d → HasFields c → (tagged_of c).tag ≡ (tagged_of d).tag → (tagged_of c).fields ≡ (tagged_of d).fields → c ≡ d
