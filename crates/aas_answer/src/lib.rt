@@ -23,6 +23,5 @@ mod texts;
 pub use asking::tell;
 pub use lost::not_found;
 pub use planning::plan;
-pub use plans::{Plan, PlanText, measure_plan, pour_plan};
+pub use plans::{Plan, measure_plan, pour_plan};
 pub use pouring::pour_document;
-pub use stored_rows::StoredRows;

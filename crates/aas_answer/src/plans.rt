@@ -114,7 +114,7 @@ fn pour_entries<S: Store, O: Out>(so_far: Pouring, store: &S, plan: &Plan, out: 
 ///
 /// Contracts see it as this text.
 #[derive(Drop)]
-pub struct PlanText<'a, S: Store> {
+pub(crate) struct PlanText<'a, S: Store> {
     store: &'a S,
     plan: &'a Plan,
 }
@@ -132,7 +132,7 @@ impl<'a, S: Store> Model for PlanText<'a, S> {
 }
 
 impl<'a, S: Store> PlanText<'a, S> {
-    pub fn new(store: &'a S, plan: &'a Plan) -> PlanText<'a, S>
+    pub(crate) fn new(store: &'a S, plan: &'a Plan) -> PlanText<'a, S>
         requires { AreValid (S.documents store.now) }
         ensures { result ≡ plan_text (S.documents store.now) plan.now }
     {

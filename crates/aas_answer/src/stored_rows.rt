@@ -12,7 +12,7 @@ use std::marker::Model;
 ///
 /// Contracts see it as these rows.
 #[derive(Drop)]
-pub struct StoredRows<'a, S: Store> {
+pub(crate) struct StoredRows<'a, S: Store> {
     table: &'a S::Table,
 }
 
@@ -33,7 +33,7 @@ impl<'a, S: Store> Model for StoredRows<'a, S> {
 }
 
 impl<'a, S: Store> StoredRows<'a, S> {
-    pub fn new(table: &'a S::Table) -> StoredRows<'a, S>
+    pub(crate) fn new(table: &'a S::Table) -> StoredRows<'a, S>
         requires { length (S.rows table.now) ≤ 65536 }
         ensures { result ≡ S.rows table.now }
     {

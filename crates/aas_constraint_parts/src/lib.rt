@@ -27,4 +27,4 @@ pub use parts::{
 };
 pub use references::{HoldsReferences, fault_among};
 pub use strings::{HoldsTexts, are_strings};
-pub use texts::{is_id_short, is_name};
+pub use texts::is_id_short;

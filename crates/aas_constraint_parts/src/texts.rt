@@ -49,7 +49,7 @@ pub(crate) fn is_utc_date_time(text: &Text) -> bool
 }
 
 /// Whether the text is a name. AASd-002.
-pub fn is_name(text: &Text) -> bool
+pub(crate) fn is_name(text: &Text) -> bool
     ensures { result ≡ is_name text.now }
 {
     aas_lexical::is_name(text.as_str())

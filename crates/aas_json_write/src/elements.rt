@@ -13,7 +13,7 @@ use std::alloc::Global;
 /// The value that spells an element. The kept data in it is in order.
 #[cycle(element)]
 #[tactic(auto, using(crate::proofs::Levels::kept_within, crate::proofs::Levels::kids_within))]
-pub fn element_json(alloc: Global, element: &Element) -> Result<Exact, NoMemory>
+pub(crate) fn element_json(alloc: Global, element: &Element) -> Result<Exact, NoMemory>
     requires { element_in_order element.now ≡ true }
     ensures { IfOk result (λ exact. data_of exact ≡ spell_element element.now) }
 {

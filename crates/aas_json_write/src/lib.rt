@@ -18,7 +18,6 @@ mod kinds;
 mod laws;
 mod write;
 
-pub use elements::element_json;
 pub use laws::{forms_are_in_order, whole_trees_are_in_order};
 pub use write::{
     write_asset_information, write_concept, write_element, write_environment, write_shell,

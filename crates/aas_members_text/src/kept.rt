@@ -15,7 +15,7 @@ use aas_model::{Many, Plain, PlainPair};
 use aas_out::{Out, Pouring, add};
 
 /// Kept data: any JSON value without numbers.
-pub struct Plains;
+pub(crate) struct Plains;
 
 impl Poured for Plains {
     type Tree = Plain;

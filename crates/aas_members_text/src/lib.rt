@@ -20,7 +20,6 @@ mod references;
 
 pub use documents::{Concepts, Shells, begin_submodel, end_submodel, pour_concept, pour_shell};
 pub use elements::CanonicalMembers;
-pub use kept::Plains;
 pub use laws::{
     rows_give_the_canonical_text, shown_submodels_have_the_canonical_text,
     submodels_have_the_canonical_text, trees_have_the_canonical_text,
