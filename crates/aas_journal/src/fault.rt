@@ -14,18 +14,22 @@ pub enum InitFault {
 }
 
 /// Why a journal isn't opened, or a payload not read.
-#[derive(Clone, Copy, Debug, PartialEq, Eq)]
+#[derive(Clone, Copy, Debug, PartialEq, Eq, Error)]
 pub enum OpenFault {
     /// The chosen file has fewer than 9 bytes or another header.
+    #[error("the journal isn't initialised")]
     NotInitialised,
     /// A gate is open and its record passes the end of the file.
+    #[error("the journal is damaged at byte {at}")]
     Damaged {
         /// The place of the gate, in bytes from the front of the file.
         at: u64,
     },
     /// A call of the disk failed. The disk's count of faults says so too.
+    #[error("the disk failed")]
     Failed,
     /// Memory was refused.
+    #[error("memory was refused")]
     NoMemory,
 }
 

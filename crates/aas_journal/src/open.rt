@@ -12,9 +12,11 @@ use crate::walk::find_end;
 use crate::{Journal, OpenFault};
 use aas_outside::Keeper;
 use aas_outside_disk::Disk;
+use thiserror::Error;
 
 /// A journal that isn't opened, and its disk.
-#[derive(Drop)]
+#[derive(Debug, Drop, Error)]
+#[error("{fault}")]
 pub struct NotOpened<D> {
     pub fault: OpenFault,
     pub disk: D,
