@@ -14,13 +14,16 @@ ghost use Rattle.aas_session.specs.declared.machine.Stop.TheVariants.{StorageFau
 use aas_http::{Reply, Request};
 use aas_out::Out;
 use aas_outside::Failed;
+use thiserror::Error;
 
 /// Why a request has no answer of its own.
-#[derive(Clone, Copy, Debug, PartialEq, Eq, Drop)]
+#[derive(Clone, Copy, Debug, PartialEq, Eq, Drop, Error)]
 pub enum Stop {
     /// Memory was refused, and nothing has changed.
+    #[error("memory was refused")]
     NoMemory,
     /// The keeper failed.
+    #[error("the keeper failed")]
     StorageFault,
 }
 
