@@ -1,5 +1,5 @@
 /// A parameter of a query (IDTA-01002-3-0, HTTP/REST API).
-#[derive(Clone, Copy)]
+#[derive(Clone, Copy, Debug)]
 pub enum Parameter {
     IdShort,
     AssetIds,

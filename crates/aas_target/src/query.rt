@@ -11,12 +11,15 @@ use crate::parameter::Parameter;
 use crate::values::ValueFault;
 use form_urlencoded::{decode, raw_pairs};
 use std::alloc::{AllocError, Global};
+use thiserror::Error;
 
 /// Why a query gives nothing.
-#[derive(Clone, Copy)]
+#[derive(Clone, Copy, Debug, Error)]
 pub enum QueryFault {
     /// A parameter that is listed isn't of its form, or is given again.
+    #[error("the parameter `{}` isn't of its form, or is given again", .parameter.name())]
     BadQuery { parameter: Parameter },
+    #[error("memory was refused")]
     NoMemory,
 }
 
