@@ -1,4 +1,5 @@
 use aas_model::{NoMemory, Path};
+use thiserror::Error;
 
 /// Why nothing was made of a value.
 #[derive(Clone, Copy, Drop)]
@@ -39,12 +40,15 @@ impl From<NoMemory> for Stop {
 }
 
 /// Why there is no patch for a sent value.
-#[derive(Debug, Drop)]
+#[derive(Debug, Drop, Error)]
 pub enum PatchFault {
     /// The element has no value form: it is a Capability or an Operation.
+    #[error("the element has no value form")]
     NoValueForm,
     /// The element to which the path leads is the first in preorder whose own part of the value has the wrong shape.
+    #[error("the value has the wrong shape")]
     Shape { path: Path },
+    #[error("memory was refused")]
     NoMemory,
 }
 

@@ -21,18 +21,24 @@ use aas_path::{apply, apply_all};
 use serde_json::Value;
 use std::alloc::Global;
 use std::mem;
+use thiserror::Error;
 
 /// Why a sent value can't be taken.
-#[derive(Debug, Drop)]
+#[derive(Debug, Drop, Error)]
 pub enum ValueFault {
     /// The element has no value form: it is a Capability or an Operation.
+    #[error("the element has no value form")]
     NoValueForm,
     /// The element to which the path leads is the first in preorder whose own part of the value has the wrong shape.
+    #[error("the value has the wrong shape")]
     Shape { path: Path },
     /// The element to which the path leads would have a text without the form of its type, and no fault comes before it.
+    #[error("a text would not have the form of its type")]
     Lexical { path: Path },
     /// The first rule that would be broken, of those that an element breaks wherever it stands.
+    #[error("the constraint AASd-{:03} would be broken", .0.number)]
     Constraint(Fault),
+    #[error("memory was refused")]
     NoMemory,
 }
 
