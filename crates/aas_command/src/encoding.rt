@@ -19,12 +19,15 @@ use aas_model::{Element, NoMemory, Path, Text};
 use aas_outside::Frame;
 use aas_path::print_path;
 use std::alloc::{AllocError, Global};
+use thiserror::Error;
 
 /// Why a command has no frame.
-#[derive(Debug, Drop)]
+#[derive(Debug, Drop, Error)]
 pub enum EncodeFault {
     /// Its payload has 2^32 bytes or more.
+    #[error("the payload is too long for a frame")]
     TooLong,
+    #[error("memory was refused")]
     NoMemory,
 }
 
