@@ -10,13 +10,16 @@ use aas_out::{Failed, Link, PieceBuffer, give_poured, measure};
 use aas_outside::Keeper;
 use aas_repo::Repo;
 use aas_store::Store;
+use thiserror::Error;
 
 /// Why an export has no end.
-#[derive(Debug, Drop)]
+#[derive(Debug, Drop, Error)]
 pub enum ExportFault {
     /// The link failed.
+    #[error("the link failed")]
     Failed,
     /// The text has 2^64 bytes or more.
+    #[error("the text has 2^64 bytes or more")]
     TooLong,
 }
 
