@@ -17,9 +17,9 @@ use thiserror::Error;
 #[derive(Debug, Drop, Error)]
 pub enum SegmentFault {
     /// It stands for none.
-    #[error("bad identifier")]
+    #[error("the segment stands for no identifier")]
     BadIdentifier,
-    #[error("out of memory")]
+    #[error("memory was refused")]
     NoMemory,
 }
 
