@@ -1,9 +1,13 @@
-// Heads at their limits, and a reply.
+// Heads at their limits, and a reply, which goes to the link at once.
 use crate::{Reply, Step, next_request, reply};
 use aas_model_text::{Many, Text};
 use aas_outside::MemLink;
 use std::alloc::Global;
 use std::test::Fail;
+
+/// The head of a reply that has all fields, and a body of 3,900 bytes.
+const HEAD: &[u8] = b"HTTP/1.1 405 Method Not Allowed\r\nContent-Type: application/json\r\n\
+    Content-Length: 3900\r\nAllow: GET, PUT\r\nConnection: close\r\n\r\n";
 
 /// Whether a head with so many fields and bytes of a value is that of a request.
 fn is_served(alloc: Global, fields: usize, value: usize) -> Result<bool, Fail> {
@@ -29,29 +33,26 @@ fn heads_at_their_limits(rt: HostRuntime) -> Result<(), Fail> {
     Ok(())
 }
 
+// A second call on the link would fail.
 #[test]
-fn a_reply(rt: HostRuntime) -> Result<(), Fail> {
+fn a_long_reply_is_given_at_once(rt: HostRuntime) -> Result<(), Fail> {
     let alloc = rt.alloc();
     let mut body = Many::new(alloc);
-    body.push(b'{')?;
-    body.push(b'}')?;
-    let allow = Text::from_str(alloc, "GET, PUT")?;
+    for _ in 0..3_900 {
+        body.push(b'7')?;
+    }
     let not_allowed = Reply {
         status: 405,
         body,
         later: 0,
-        allow,
+        allow: Text::from_str(alloc, "GET, PUT")?,
         close: true,
     };
-    let mut link = MemLink::new(alloc, b"", 4096, 4096, &[2])?;
-    assert_eq!(rt; reply(&not_allowed, &mut link), Ok(()), "given at once");
-    assert!(rt;
-        link.sent()
-            .starts_with(b"HTTP/1.1 405 Method Not Allowed\r\n")
-    );
-    assert!(rt;
-        link.sent()
-            .ends_with(b"Allow: GET, PUT\r\nConnection: close\r\n\r\n{}")
+    let mut link = MemLink::new(alloc, b"", 8192, 8192, &[2])?;
+    assert_eq!(rt; reply(&not_allowed, &mut link), Ok(()));
+    assert_eq!(rt;
+        link.sent().strip_prefix(HEAD),
+        Some(not_allowed.body.as_slice())
     );
     Ok(())
 }
