@@ -3,8 +3,10 @@
 use crate::console::ConsoleLink;
 use crate::file_disk::FileDisk;
 use crate::tcp_wire::TcpWire;
-use aas_outside::{Failed, Link, Wire};
-use aas_outside_disk::{Disk, Part};
+use aas_model_text::{Many, Text};
+use aas_outside::{Failed, Link, MemLink, Wire};
+use aas_outside_disk::{Disk, MemDisk, Part};
+use aas_server::run;
 use std::fs::{File, Files};
 use std::io::{ErrorKind, Read, Write};
 use std::net::{Net, TcpStream};
@@ -58,14 +60,17 @@ fn a_console_that_is_interrupted(rt: HostRuntime) {
     assert_eq!(rt; console.give(b"b"), Err(Failed), "nothing is taken");
 }
 
-/// The first of some addresses at which the wire can listen.
-fn listens<N: Net>(wire: &mut TcpWire<N>) -> Option<&'static str> {
-    for address in ["127.0.0.1:23791", "127.0.0.1:23792", "127.0.0.1:23793"] {
+/// The first of these addresses at which the wire can listen.
+fn listens<N: Net>(
+    wire: &mut TcpWire<N>,
+    addresses: [&'static str; 3],
+) -> Result<&'static str, Fail> {
+    for address in addresses {
         if wire.listen(address).is_ok() {
-            return Some(address);
+            return Ok(address);
         }
     }
-    None
+    Err(Fail::from("no address is free"))
 }
 
 /// Whether four bytes go each way.
@@ -97,12 +102,38 @@ fn serves_second<N: Net>(
 #[test]
 fn a_wire_whose_first_peer_is_silent(rt: HostRuntime) -> Result<(), Fail> {
     let mut wire = TcpWire::new(rt.clone()?);
-    let Some(address) = listens(&mut wire) else {
-        return Err(Fail::from("no address is free"));
-    };
+    let addresses = ["127.0.0.1:23791", "127.0.0.1:23792", "127.0.0.1:23793"];
+    let address = listens(&mut wire, addresses)?;
     let mut first = TcpStream::connect(&rt, address)?;
     let mut second = TcpStream::connect(&rt, address)?;
     assert!(rt; serves_second(&mut wire, &mut first, &mut second)?);
+    Ok(())
+}
+
+/// How a run ends that serves one connection to this address, where it has listened there in vain before.
+fn end_of_serving(rt: &HostRuntime, address: &str) -> Result<Option<u8>, Fail> {
+    let alloc = rt.alloc();
+    let mut wire = TcpWire::new(rt.clone()?);
+    if wire.listen(address).is_ok() {
+        return Ok(None);
+    }
+    let mut console = MemLink::new(alloc, b"", 1, 0, &[])?;
+    let disk = MemDisk::new(alloc, b"AASJ0002\0", b"", b"", 4096, &[], 0)?;
+    let mut words = Many::new(alloc);
+    for word in ["serve", address, "1"] {
+        words.push(Text::from_str(alloc, word)?)?;
+    }
+    Ok(Some(run(alloc, &words, &mut console, &mut wire, disk).status))
+}
+
+#[test]
+fn addresses_that_nothing_can_listen_at(rt: HostRuntime) -> Result<(), Fail> {
+    let mut other = TcpWire::new(rt.clone()?);
+    let addresses = ["127.0.0.1:23794", "127.0.0.1:23795", "127.0.0.1:23796"];
+    let taken = listens(&mut other, addresses)?;
+    for address in [taken, "127.0.0.1"] {
+        assert_eq!(rt; end_of_serving(&rt, address)?, Some(3), "at {address}");
+    }
     Ok(())
 }
 
