@@ -1,11 +1,17 @@
 // The further columns of an example. Each is `NAME=VALUE`, with tabs between them. `disk.rt` says what those of the disk mean, `runs.rt` those of
-// the console.
+// the console, `fronts.rt` what `ends` means.
 use crate::not_run::NotRun;
 use std::alloc::Global;
 
 /// What a column may be named.
-const NAMES: [&str; 9] = [
-    "files", "main", "spare", "selector", "fails", "stop", "leaves", "piece", "lost",
+const NAMES: [&str; 11] = [
+    "files", "main", "spare", "selector", "fails", "stop", "leaves", "piece", "lost", "input",
+    "ends",
+];
+
+/// The columns without which a run begins with what `init` leaves, and no call fails.
+const OTHERWISE: [&str; 7] = [
+    "files", "main", "spare", "selector", "fails", "stop", "lost",
 ];
 
 /// Whether each column has one of the names.
@@ -22,7 +28,7 @@ fn is_column(column: &str) -> bool {
 
 /// Whether the run begins with what `init` leaves, and no call fails.
 pub(crate) fn begins_empty(columns: &str) -> bool {
-    NAMES.iter().all(|name| *name == "leaves" || column(columns, name).is_none())
+    OTHERWISE.iter().all(|name| column(columns, name).is_none())
 }
 
 /// What a column says, where it is there.

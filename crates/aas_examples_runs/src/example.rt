@@ -1,5 +1,5 @@
 // An example, as a line says it.
-use crate::columns::are_columns;
+use crate::columns::{are_columns, column};
 use crate::not_run::NotRun;
 use aas_model::{Many, NoMemory, Text};
 use serde_json::Value;
@@ -12,7 +12,7 @@ pub(crate) struct Example<'a> {
     /// What the console gets.
     pub console: String,
     /// What the console is given.
-    pub input: String,
+    pub input: Vec<u8>,
     /// What the line says of the disk, and of the console's calls.
     pub columns: &'a str,
 }
@@ -30,7 +30,7 @@ impl<'a> Example<'a> {
             status: status.parse().map_err(|_| NotRun::Unreadable)?,
             words: words_of(alloc, words)?,
             console: string(alloc, console)?,
-            input: string(alloc, input)?,
+            input: bytes(alloc, input, columns)?,
             columns,
         })
     }
@@ -42,6 +42,24 @@ fn string(alloc: Global, json: &str) -> Result<String, NotRun> {
         Ok(Value::String(text)) => Ok(String::from_str(alloc, text.as_str())?),
         _ => Err(NotRun::Unreadable),
     }
+}
+
+/// The bytes that a JSON string spells: its UTF-8, or a byte for each character up to U+00FF where the column `input` is `bytes`.
+fn bytes(alloc: Global, json: &str, columns: &str) -> Result<Vec<u8>, NotRun> {
+    let text = string(alloc, json)?;
+    match column(columns, "input") {
+        None => Ok(text.into_bytes()),
+        Some("bytes") => bytes_of_characters(alloc, &text),
+        Some(_) => Err(NotRun::Unreadable),
+    }
+}
+
+fn bytes_of_characters(alloc: Global, text: &str) -> Result<Vec<u8>, NotRun> {
+    let mut bytes = Vec::new(alloc);
+    for character in text.chars() {
+        bytes.push(u8::try_from(character).map_err(|_| NotRun::Unreadable)?)?;
+    }
+    Ok(bytes)
 }
 
 /// Words with spaces between them.

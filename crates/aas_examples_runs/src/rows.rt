@@ -34,7 +34,7 @@ pub(crate) fn failure(alloc: Global, example: &Example<'_>) -> Result<Option<Str
         return Err(NotRun::Unreadable);
     };
     let mut store = SheetStore::new(alloc);
-    store.put_submodel(stored(alloc, example.input.as_bytes())?)?;
+    store.put_submodel(stored(alloc, &example.input)?)?;
     match store.row_mut(ID, number_of(rank.as_str())?) {
         Some(row) => write(alloc, row)?,
         None => return Err(NotRun::Unreadable),

@@ -2,9 +2,11 @@
 //
 // - `piece`: how many bytes each of its calls moves at most. Without it a run goes by the size that all such runs have.
 // - `lost`: the numbers of its calls that fail, with commas between them.
+// - `input`: `bytes` says that each character of what it is given, up to U+00FF, is one byte (`example.rt`).
 use crate::columns::{number, numbers};
 use crate::disk::{beginning, initialised, is_after_crash, unexpected};
 use crate::example::Example;
+use crate::fronts::fronts;
 use crate::not_run::NotRun;
 use aas_model::NoMemory;
 use aas_outside::{MemLink, MemWire};
@@ -31,34 +33,43 @@ impl Runs {
         })
     }
 
-    /// What a run of the example gives, where that isn't what is expected.
+    /// What a run of the example gives, or of a front of its input, where that isn't what is expected.
     pub(crate) fn failure(
         &mut self,
         alloc: Global,
         example: &Example<'_>,
     ) -> Result<Option<String>, NotRun> {
-        let mut console = self.console(alloc, example)?;
-        let ran = self.ran(alloc, example, &mut console)?;
+        for front in fronts(alloc, example)? {
+            let (console, ran) = self.ran(alloc, example, &front.input)?;
+            if ran.status != 0 || *console.sent() != *front.console {
+                let given = told(alloc, ran.status, console.sent())?;
+                let count = front.input.len();
+                return Ok(Some(format!(in alloc; "of {count} bytes, {given}")?));
+            }
+        }
+        let (console, ran) = self.ran(alloc, example, &example.input)?;
         let given = difference(alloc, example, ran.status, console.sent(), &ran.disk);
         self.leave(example, ran.disk);
         given
     }
 
-    fn console(&self, alloc: Global, example: &Example<'_>) -> Result<MemLink, NotRun> {
-        let input = example.input.as_bytes();
-        let piece = number(example.columns, "piece", self.piece)?;
-        let lost = numbers(alloc, example.columns, "lost")?;
-        Ok(MemLink::new(alloc, input, (piece as usize).max(1), CAPACITY, &lost)?)
-    }
-
+    /// A run of the example with this input, and its console.
     fn ran(
         &self,
         alloc: Global,
         example: &Example<'_>,
-        console: &mut MemLink,
-    ) -> Result<Ran<MemDisk>, NotRun> {
+        input: &[u8],
+    ) -> Result<(MemLink, Ran<MemDisk>), NotRun> {
+        let mut console = self.console(alloc, example.columns, input)?;
         let disk = beginning(alloc, example.columns, &self.left)?;
-        ran_on(alloc, example, console, disk)
+        let ran = ran_on(alloc, example, &mut console, disk)?;
+        Ok((console, ran))
+    }
+
+    fn console(&self, alloc: Global, columns: &str, input: &[u8]) -> Result<MemLink, NotRun> {
+        let piece = number(columns, "piece", self.piece)?;
+        let lost = numbers(alloc, columns, "lost")?;
+        Ok(MemLink::new(alloc, input, (piece as usize).max(1), CAPACITY, &lost)?)
     }
 
     fn leave(&mut self, example: &Example<'_>, disk: MemDisk) {
@@ -88,6 +99,10 @@ fn difference(
     if status == example.status && *console == *example.console.as_bytes() {
         return unexpected(alloc, example.columns, disk);
     }
+    Ok(Some(told(alloc, status, console)?))
+}
+
+fn told(alloc: Global, status: u8, console: &[u8]) -> Result<String, NotRun> {
     let text = str::from_utf8(console).unwrap_or("not UTF-8");
-    Ok(Some(format!(in alloc; "status {status}, {text}")?))
+    Ok(format!(in alloc; "status {status}, {text}")?)
 }

@@ -27,7 +27,7 @@ pub(crate) fn failure(alloc: Global, example: &Example<'_>) -> Result<Option<Str
     if example.status != 0 || !is_pipe(&example.words) || !begins_empty(example.columns) {
         return Ok(None);
     }
-    let mut console = MemLink::new(alloc, example.input.as_bytes(), PIECE, CAPACITY, &[])?;
+    let mut console = MemLink::new(alloc, &example.input, PIECE, CAPACITY, &[])?;
     no_documents_are_valid();
     let (_, ended) = served(alloc, TreeStore::new(alloc), &mut console)?;
     if ended == Ended::Closed && *console.sent() == *example.console.as_bytes() {
