@@ -1,12 +1,24 @@
 // The further columns of an example. Each is `NAME=VALUE`, with tabs between them. `disk.rt` says what those of the disk mean, `runs.rt` those of
-// the console, `fronts.rt` what `ends` means.
+// the console, `fronts.rt` what `ends` means, and `capabilities.rt` what `capabilities` means.
 use crate::not_run::NotRun;
 use std::alloc::Global;
 
 /// What a column may be named.
-const NAMES: [&str; 11] = [
-    "files", "main", "spare", "selector", "fails", "stop", "leaves", "piece", "lost", "input",
+const NAMES: [&str; 14] = [
+    "files",
+    "main",
+    "spare",
+    "selector",
+    "fails",
+    "stop",
+    "leaves",
+    "room",
+    "piece",
+    "lost",
+    "least",
+    "input",
     "ends",
+    "capabilities",
 ];
 
 /// The columns without which a run begins with what `init` leaves, and no call fails.

@@ -5,14 +5,15 @@
 // - `main`, `spare`, `selector`: what this file holds, in hexadecimal.
 // - `fails`: the numbers of the disk's calls that fail, with commas between them. `stop`: that of the call from which on all fail.
 // - `leaves`: what the main file holds after the run, in hexadecimal.
+// - `room`: the most bytes that each file holds. Without it they are 65,536.
 use crate::columns::{column, number, numbers};
 use crate::not_run::NotRun;
 use aas_model::NoMemory;
 use aas_outside_disk::{Crash, MemDisk, Part};
 use std::alloc::Global;
 
-/// The most bytes that a file holds.
-const CAPACITY: usize = 65_536;
+/// The most bytes that a file holds, where no column says so.
+const ROOM: u64 = 65_536;
 
 /// A disk with what `init` leaves.
 pub(crate) fn initialised(alloc: Global) -> Result<MemDisk, NoMemory> {
@@ -21,7 +22,7 @@ pub(crate) fn initialised(alloc: Global) -> Result<MemDisk, NoMemory> {
 
 /// A disk with this main file alone.
 fn holding(alloc: Global, main: &[u8]) -> Result<MemDisk, NoMemory> {
-    MemDisk::new(alloc, main, b"", b"", CAPACITY, &[], 0)
+    MemDisk::new(alloc, main, b"", b"", ROOM as usize, &[], 0)
 }
 
 /// The disk with which the run begins, behind an example that left another.
@@ -32,12 +33,18 @@ pub(crate) fn beginning(alloc: Global, columns: &str, left: &MemDisk) -> Result<
 
 /// A disk with these files, but for those that the columns give.
 fn disk_over(alloc: Global, columns: &str, files: &MemDisk) -> Result<MemDisk, NotRun> {
+    let room = room(columns)? as usize;
     let stop = number(columns, "stop", 0)?;
     let fails = numbers(alloc, columns, "fails")?;
     let main = file(alloc, columns, "main", files.contents(Part::Main))?;
     let spare = file(alloc, columns, "spare", files.contents(Part::Spare))?;
     let selector = file(alloc, columns, "selector", files.contents(Part::Selector))?;
-    Ok(MemDisk::new(alloc, &main, &spare, &selector, CAPACITY, &fails, stop)?)
+    Ok(MemDisk::new(alloc, &main, &spare, &selector, room, &fails, stop)?)
+}
+
+/// The most bytes that each file holds.
+pub(crate) fn room(columns: &str) -> Result<u64, NotRun> {
+    number(columns, "room", ROOM)
 }
 
 /// Whether examples behind this one begin with what the one before it left.

@@ -1,4 +1,5 @@
 // An example, as a line says it.
+use crate::capabilities::with_capabilities;
 use crate::columns::{are_columns, column};
 use crate::not_run::NotRun;
 use aas_model::{Many, NoMemory, Text};
@@ -29,11 +30,16 @@ impl<'a> Example<'a> {
         Ok(Example {
             status: status.parse().map_err(|_| NotRun::Unreadable)?,
             words: words_of(alloc, words)?,
-            console: string(alloc, console)?,
+            console: text(alloc, console, columns)?,
             input: bytes(alloc, input, columns)?,
             columns,
         })
     }
+}
+
+/// The text that a JSON string spells, with what a column puts in it.
+fn text(alloc: Global, json: &str, columns: &str) -> Result<String, NotRun> {
+    with_capabilities(alloc, string(alloc, json)?, columns)
 }
 
 /// The text that a JSON string spells.
@@ -44,9 +50,9 @@ fn string(alloc: Global, json: &str) -> Result<String, NotRun> {
     }
 }
 
-/// The bytes that a JSON string spells: its UTF-8, or a byte for each character up to U+00FF where the column `input` is `bytes`.
+/// The bytes of that text: its UTF-8, or a byte for each character up to U+00FF where the column `input` is `bytes`.
 fn bytes(alloc: Global, json: &str, columns: &str) -> Result<Vec<u8>, NotRun> {
-    let text = string(alloc, json)?;
+    let text = text(alloc, json, columns)?;
     match column(columns, "input") {
         None => Ok(text.into_bytes()),
         Some("bytes") => bytes_of_characters(alloc, &text),

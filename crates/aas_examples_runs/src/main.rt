@@ -7,6 +7,7 @@
 
 #![tactic(auto)]
 
+mod capabilities;
 mod columns;
 mod disk;
 mod example;

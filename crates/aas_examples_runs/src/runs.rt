@@ -2,8 +2,9 @@
 //
 // - `piece`: how many bytes each of its calls moves at most. Without it a run goes by the size that all such runs have.
 // - `lost`: the numbers of its calls that fail, with commas between them.
+// - `least`: the console gets only a front of what the line says, of at least so many bytes.
 // - `input`: `bytes` says that each character of what it is given, up to U+00FF, is one byte (`example.rt`).
-use crate::columns::{number, numbers};
+use crate::columns::{column, number, number_of, numbers};
 use crate::disk::{beginning, initialised, is_after_crash, unexpected};
 use crate::example::Example;
 use crate::fronts::fronts;
@@ -14,8 +15,8 @@ use aas_outside_disk::MemDisk;
 use aas_server::{Ran, run};
 use std::alloc::Global;
 
-/// The most bytes that the console takes.
-const CAPACITY: usize = 1_000_000;
+/// How many bytes more the console takes than it should get.
+const MORE: usize = 65_536;
 
 /// Runs whose console moves its bytes in pieces of one size.
 #[derive(Drop)]
@@ -60,16 +61,22 @@ impl Runs {
         example: &Example<'_>,
         input: &[u8],
     ) -> Result<(MemLink, Ran<MemDisk>), NotRun> {
-        let mut console = self.console(alloc, example.columns, input)?;
+        let mut console = self.console(alloc, example, input)?;
         let disk = beginning(alloc, example.columns, &self.left)?;
         let ran = ran_on(alloc, example, &mut console, disk)?;
         Ok((console, ran))
     }
 
-    fn console(&self, alloc: Global, columns: &str, input: &[u8]) -> Result<MemLink, NotRun> {
-        let piece = number(columns, "piece", self.piece)?;
-        let lost = numbers(alloc, columns, "lost")?;
-        Ok(MemLink::new(alloc, input, (piece as usize).max(1), CAPACITY, &lost)?)
+    fn console(
+        &self,
+        alloc: Global,
+        example: &Example<'_>,
+        input: &[u8],
+    ) -> Result<MemLink, NotRun> {
+        let piece = number(example.columns, "piece", self.piece)?;
+        let lost = numbers(alloc, example.columns, "lost")?;
+        let capacity = example.console.len().saturating_add(MORE);
+        Ok(MemLink::new(alloc, input, (piece as usize).max(1), capacity, &lost)?)
     }
 
     fn leave(&mut self, example: &Example<'_>, disk: MemDisk) {
@@ -96,10 +103,21 @@ fn difference(
     console: &[u8],
     disk: &MemDisk,
 ) -> Result<Option<String>, NotRun> {
-    if status == example.status && *console == *example.console.as_bytes() {
+    if status == example.status && is_expected(example, console)? {
         return unexpected(alloc, example.columns, disk);
     }
     Ok(Some(told(alloc, status, console)?))
+}
+
+/// Whether the console gets what the line says, or so much of it.
+fn is_expected(example: &Example<'_>, console: &[u8]) -> Result<bool, NotRun> {
+    let whole = example.console.as_bytes();
+    match column(example.columns, "least") {
+        None => Ok(*console == *whole),
+        Some(least) => {
+            Ok(number_of(least)? <= console.len() as u64 && whole.starts_with(console))
+        }
+    }
 }
 
 fn told(alloc: Global, status: u8, console: &[u8]) -> Result<String, NotRun> {
