@@ -21,11 +21,6 @@ const NAMES: [&str; 14] = [
     "capabilities",
 ];
 
-/// The columns without which a run begins with what `init` leaves, and no call fails.
-const OTHERWISE: [&str; 7] = [
-    "files", "main", "spare", "selector", "fails", "stop", "lost",
-];
-
 /// Whether each column has one of the names.
 pub(crate) fn are_columns(columns: &str) -> bool {
     columns.is_empty() || columns.split('\t').all(is_column)
@@ -36,11 +31,6 @@ fn is_column(column: &str) -> bool {
         Some((name, _)) => NAMES.iter().any(|known| *known == name),
         None => false,
     }
-}
-
-/// Whether the run begins with what `init` leaves, and no call fails.
-pub(crate) fn begins_empty(columns: &str) -> bool {
-    OTHERWISE.iter().all(|name| column(columns, name).is_none())
 }
 
 /// What a column says, where it is there.

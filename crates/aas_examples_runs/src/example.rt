@@ -35,6 +35,11 @@ impl<'a> Example<'a> {
             columns,
         })
     }
+
+    /// How many bytes the console takes: more than it should get.
+    pub(crate) fn room_for_console(&self) -> usize {
+        self.console.len().saturating_add(65_536)
+    }
 }
 
 /// The text that a JSON string spells, with what a column puts in it.

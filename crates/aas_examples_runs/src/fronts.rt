@@ -40,6 +40,9 @@ pub(crate) fn fronts(alloc: Global, example: &Example<'_>) -> Result<Vec<Front>,
         }
         whole = next;
     }
+    if whole.request != example.input.len() || whole.reply != example.console.len() {
+        return Err(NotRun::Unreadable);
+    }
     Ok(fronts)
 }
 

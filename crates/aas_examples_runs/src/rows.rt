@@ -5,10 +5,12 @@ ghost use Rattle.aas_store.specs.Storable.{IsStorable};
 use crate::columns::number_of;
 use crate::example::Example;
 use crate::not_run::NotRun;
-use crate::trees::served;
+use aas_api_service::Service;
 use aas_model::{NoMemory, Path, Payload, Submodel, Text, ValueType};
-use aas_outside::MemLink;
+use aas_outside::{MemKeeper, MemLink};
 use aas_path::parse_path;
+use aas_repo::Repo;
+use aas_session::{Intake, serve_connection};
 use aas_sheet::SheetStore;
 use aas_sheet_rows::Row;
 use aas_step::{no_documents_are_valid, valid_submodels_are_storable};
@@ -19,6 +21,9 @@ const ID: &str = "urn:x1";
 
 /// The most bytes that the console takes.
 const CAPACITY: usize = 1_000_000;
+
+/// The most bytes of frames that the keeper takes.
+const ROOM: usize = 65_536;
 
 /// The most bytes that a call of the console moves.
 const PIECE: usize = 4096;
@@ -50,14 +55,23 @@ pub(crate) fn failure(alloc: Global, example: &Example<'_>) -> Result<Option<Str
 fn stored(alloc: Global, requests: &[u8]) -> Result<Submodel, NotRun>
     ensures { IfOk result (λ submodel. IsStorable submodel) }
 {
-    no_documents_are_valid();
     valid_submodels_are_storable();
-    let mut console = MemLink::new(alloc, requests, PIECE, CAPACITY, &[])?;
-    let (service, _) = served(alloc, SheetStore::new(alloc), &mut console)?;
+    let service = served(alloc, requests)?;
     match service.repo.store().submodel(ID)? {
         Some(submodel) => Ok(submodel),
         None => Err(NotRun::Unreadable),
     }
+}
+
+/// A repository of tables behind its interface, which has served these requests.
+fn served(alloc: Global, requests: &[u8]) -> Result<Service<SheetStore, MemKeeper>, NotRun> {
+    no_documents_are_valid();
+    let mut console = MemLink::new(alloc, requests, PIECE, CAPACITY, &[])?;
+    let keeper = MemKeeper::new(alloc, ROOM, &[])?;
+    let mut service = Service::new(alloc, Repo::new(alloc, SheetStore::new(alloc), keeper));
+    let mut intake = Intake::new(alloc)?;
+    serve_connection(&mut service, &mut console, &mut intake);
+    Ok(service)
 }
 
 /// Puts a text as the row's value, and an idShort, which counts for nothing.

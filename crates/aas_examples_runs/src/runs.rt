@@ -15,15 +15,12 @@ use aas_outside_disk::MemDisk;
 use aas_server::{Ran, run};
 use std::alloc::Global;
 
-/// How many bytes more the console takes than it should get.
-const MORE: usize = 65_536;
-
 /// Runs whose console moves its bytes in pieces of one size.
 #[derive(Drop)]
 pub(crate) struct Runs {
     piece: u64,
     /// The disk as the last run left it that doesn't itself begin after a crash.
-    left: MemDisk,
+    pub left: MemDisk,
 }
 
 impl Runs {
@@ -75,8 +72,8 @@ impl Runs {
     ) -> Result<MemLink, NotRun> {
         let piece = number(example.columns, "piece", self.piece)?;
         let lost = numbers(alloc, example.columns, "lost")?;
-        let capacity = example.console.len().saturating_add(MORE);
-        Ok(MemLink::new(alloc, input, (piece as usize).max(1), capacity, &lost)?)
+        let room = example.room_for_console();
+        Ok(MemLink::new(alloc, input, (piece as usize).max(1), room, &lost)?)
     }
 
     fn leave(&mut self, example: &Example<'_>, disk: MemDisk) {
