@@ -36,7 +36,7 @@ pub(crate) fn fronts(alloc: Global, example: &Example<'_>) -> Result<Vec<Front>,
     for ends in list.split(',') {
         let next = ends_of(ends)?;
         for count in whole.request..next.request {
-            fronts.push(front(alloc, example, count, whole)?)?;
+            fronts.push(front_of(alloc, example, count, whole)?)?;
         }
         whole = next;
     }
@@ -47,7 +47,12 @@ pub(crate) fn fronts(alloc: Global, example: &Example<'_>) -> Result<Vec<Front>,
 }
 
 /// The front of so many bytes, behind whole requests that end there.
-fn front(alloc: Global, example: &Example<'_>, count: usize, whole: Ends) -> Result<Front, NotRun> {
+fn front_of(
+    alloc: Global,
+    example: &Example<'_>,
+    count: usize,
+    whole: Ends,
+) -> Result<Front, NotRun> {
     let input = example.input.get(..count).ok_or(NotRun::Unreadable)?;
     let replies = example
         .console
