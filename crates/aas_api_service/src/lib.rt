@@ -9,5 +9,9 @@ mod refusals;
 mod replies;
 mod service;
 
-pub use laws::{asks_are_well_formed, requests_come_to_one_outcome, sessions_stay_valid};
+pub use laws::{
+    asks_are_well_formed, own_replies_are_of_refusals, requests_come_to_one_outcome,
+    sessions_stay_valid,
+};
+pub use refusals::refused;
 pub use service::{Service, answer};

@@ -10,4 +10,5 @@ mod laying;
 mod reading;
 mod sheet_store;
 
+pub use aas_sheet_rows::Row;
 pub use sheet_store::SheetStore;
