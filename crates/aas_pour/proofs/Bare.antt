@@ -1,12 +1,13 @@
 -- Elements below which nothing is shown.
 use Rattle.std.proofs.Common.{◌≡◌, ℕ, zero, suc, ◌+◌, ◌≤◌, ◌==◌, ◌||◌, not, Bool, true, false, nat_lt, List, [], ◌∷◌, ◌++◌, length, length-append, refl, sym, ap, ◌∙◌, subst, append_assoc, arith, if◌then◌else◌}
+use Rattle.aas_model.specs.Payload.{is_operation}
 use Rattle.aas_model.specs.declared.payload.Payload.{Payload}
 use Rattle.aas_out.specs.Adds.{Adds}
 use Rattle.aas_out.specs.Told.{Told}
 use Rattle.aas_out.specs.declared.pouring.Pouring.{Pouring}
 use Rattle.aas_out.proofs.Adding.{adds_both, adds_nothing, adds_same}
 use Rattle.aas_rows.specs.Rows.{Line}
-use Rattle.aas_members_text.specs.Members.{fields_text, has_annotations, has_members, has_statements, has_stop, is_operation, later_after, part, stop_name}
+use Rattle.aas_members_text.specs.Members.{fields_text, has_annotations, has_members, has_statements, has_stop, later_after, part, stop_name}
 use Rattle.aas_members_text.specs.Script.{Spoken, at_stop, is_any, listed_text, script}
 use Rattle.aas_members_text.specs.declared.members.Show.{Show}
 use Rattle.aas_pour.proofs.Going.{passed}
