@@ -13,7 +13,6 @@ use Rattle.aas_constraint_rules.specs.Faults.{broken, fault, faults_at}
 use Rattle.aas_constraint_rules.specs.Rules.{agree, first_some, is_repeat, semantics_of}
 use Rattle.aas_constraint_rules.specs.Sites.{Own, Site, own_of, sites, sites_among, stands_in_list, step_to, tree_of, trees, under}
 use Rattle.aas_edit_faults.specs.Laws.{EditsCount, EditsKeepValid, InsertedStandsAlone, IsNewName, faults_as_child}
-use Rattle.aas_edit_faults.specs.Laws as laws
 use Rattle.aas_edit_laws.proofs.Attributes.{insert_keeps_attributes}
 use Rattle.aas_edit_laws.specs.Laws.{at_level}
 use Rattle.aas_json_mapping.specs.Whole.{is_whole_element}
@@ -46,13 +45,6 @@ use Rattle.aas_repo.proofs.Placed.{common_with_role, none_alone}
 use Rattle.aas_repo.specs.Placing.{IsAbove, IsFaultless, IsInsertable, IsLead, IsParent, own_of_parent, role_below}
 use Rattle.aas_repo.specs.declared.placing.Parent.{Parent}
 use Rattle.aas_repo.specs.declared.decision.Decision.TheVariants as decision
-
--- ---- the place
-
--- the same children, as the laws of edits call them
-same_children : (s : Submodel) (p : List PathStep) → children_at s p ≡ laws.children_at s p
-same_children s [] = refl
-same_children s (t ∷ p) = refl
 
 -- ---- the first semanticId
 
@@ -100,18 +92,18 @@ agrees None z is = refl
 agrees (Some r) z is = ap (agree (Some r)) is
 
 none_as_child : (s : Submodel) (p : List PathStep) (x : Parent) (e : Element) (lead : Option Reference) → InsertedStandsAlone → IsParent p x s
-    → is_named_among (id_short_of e) (children_at s p) ≡ false → (stands_in_list (own_of_parent x) ≡ true → id_short_of e ≡ None) → IsLead p (own_of_parent x) e lead s → IsFaultless x lead e → faults_as_child s p (laws.children_at s p) e ≡ []
+    → is_named_among (id_short_of e) (children_at s p) ≡ false → (stands_in_list (own_of_parent x) ≡ true → id_short_of e ≡ None) → IsLead p (own_of_parent x) e lead s → IsFaultless x lead e → faults_as_child s p (children_at s p) e ≡ []
 none_as_child s p x e lead law parent new unnamed lead_is faultless =
-    let ks = laws.children_at s p in
+    let ks = children_at s p in
     ⊎_elim
     (λ list.
     let b = each own_of ks in
-    let none = faultless b (ap (is_repeat b) (unnamed list.0)) (list.1 ∙ ap (λ l. first_some (each semantics_of (each own_of l))) (same_children s p)) in
+    let none = faultless b (ap (is_repeat b) (unnamed list.0)) list.1 in
     ap (λ (fs : List Fault). each (behind p) fs)
     (ap₂ (λ (u : Bool) (o : Option Own). flat_map faults_at (sites_among u o b (trees (tree_of e ∷ [])))) (sym parent.template) parent.above.own
     ∙ among_none x.in_template (own_of_parent x) b e none))
     (λ nothing.
-    law s p e (new_name ks (id_short_of e) (ap (is_named_among (id_short_of e)) (sym (same_children s p)) ∙ new))
+    law s p e (new_name ks (id_short_of e) new)
     (λ list. agrees (first_some (each semantics_of (each own_of ks))) (semantics_of (own_of e)) (nothing.1 (ap stands_in_list (sym parent.above.own) ∙ list)))
     ∙ none_alone s p (step_to (option_map own_of (element_at s p)) (length ks) (own_of e)) x e lead parent faultless nothing.0)
     lead_is
@@ -185,7 +177,7 @@ is_insertable d id p x e child r lead law keep count valid clear whole role same
         (λ list. name ∙ unnamed list) lead_is faultless in record {
           no_cause = none;
           valid = keep.inserted s p.steps e r (valid.submodels (encode_utf8_all id) s is).valid role_at_is whole
-              (ap (faults_as_child s p.steps (laws.children_at s p.steps)) (sym same) ∙ faultless_there);
+              (ap (faults_as_child s p.steps (children_at s p.steps)) (sym same) ∙ faultless_there);
           few = within _ _ _ (count.inserted s p.steps e r role_at_is) few;
         }
 
