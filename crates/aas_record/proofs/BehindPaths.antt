@@ -8,7 +8,7 @@ use Rattle.aas_edit_laws.specs.Laws.{at_level}
 use Rattle.aas_path.specs.PathText.{path_text}
 use Rattle.aas_path_trees.specs.PathRule.{KeepsRule}
 use Rattle.aas_command.specs.Commands.{IsPlace}
-use Rattle.aas_record.specs.Forms.{HasForm, IsCanonical, child, element}
+use Rattle.aas_record.specs.FieldTypes.{HasType, IsCanonical, child, element}
 use Rattle.aas_record.specs.Reading.{IsLastFault}
 use Rattle.aas_record.specs.declared.fault.RecordFault.{RecordFault}
 use Rattle.aas_record.specs.declared.fault.RecordFault.TheVariants.{NotARecord, NoMemory}
@@ -17,29 +17,29 @@ use Rattle.aas_record.proofs.Places.{is_place, one_place}
 pub whole_below : (l m : ℕ) (e : Element) → at_level l ≡ at_level m → elements.IsWhole (at_level l) e → elements.IsWhole (at_level m) e
 whole_below l m e same whole = subst (λ (left : Levels). elements.IsWhole left e) same whole
 
--- ---- the form, by the one path of the text before it
+-- ---- the type, by the one path of the text before it
 
 child_form : (id content : List ℕ) (p : List PathStep) (l : ℕ) → IsPlace p → at_level l ≡ at_level (length p + 1)
-    → HasForm child (id ∷ path_text p ∷ []) content → IsCanonical elements (at_level l) content
+    → HasType child (id ∷ path_text p ∷ []) content → IsCanonical elements (at_level l) content
 child_form id content p l keeps same (q, other, text, is) =
     let one = one_place p q keeps other text in
     subst (λ (left : Levels). IsCanonical elements left content) (sym (same ∙ ap (λ (o : List PathStep). at_level (length o + 1)) one)) is
 
 element_form : (id content : List ℕ) (p : List PathStep) (l : ℕ) → KeepsRule p → at_level l ≡ at_level (length p)
-    → HasForm element (id ∷ path_text p ∷ []) content → IsCanonical elements (at_level l) content
+    → HasType element (id ∷ path_text p ∷ []) content → IsCanonical elements (at_level l) content
 element_form id content p l keeps same (q, other, text, is) =
     let one = one_place p q (is_place p keeps) (is_place q other) text in
     subst (λ (left : Levels). IsCanonical elements left content) (sym (same ∙ ap (λ (o : List PathStep). at_level (length o)) one)) is
 
 pub is_child : (id content : List ℕ) (p : List PathStep) (l : ℕ) → IsPlace p → at_level l ≡ at_level (length p + 1)
-    → IsCanonical elements (at_level l) content → HasForm child (id ∷ path_text p ∷ []) content
+    → IsCanonical elements (at_level l) content → HasType child (id ∷ path_text p ∷ []) content
 is_child id content p l keeps same is = (p, keeps, refl, subst (λ (left : Levels). IsCanonical elements left content) same is)
 
 pub is_element : (id content : List ℕ) (p : List PathStep) (l : ℕ) → KeepsRule p → at_level l ≡ at_level (length p)
-    → IsCanonical elements (at_level l) content → HasForm element (id ∷ path_text p ∷ []) content
+    → IsCanonical elements (at_level l) content → HasType element (id ∷ path_text p ∷ []) content
 is_element id content p l keeps same is = (p, keeps, refl, subst (λ (left : Levels). IsCanonical elements left content) same is)
 
--- ---- a last field that isn't of a form isn't of another that gives it
+-- ---- a last field that isn't of a type isn't of another that gives it
 
 module _ (F G : List ℕ → Type 0) (to : (content : List ℕ) → F content → G content) (from : (content : List ℕ) → G content → F content) where
   pub same_fault : (at : ℕ) (bytes : List ℕ) (fault : RecordFault) → IsLastFault G at bytes fault → IsLastFault F at bytes fault
@@ -50,13 +50,13 @@ module _ (F G : List ℕ → Type 0) (to : (content : List ℕ) → F content �
   same_fault at bytes NoMemory fails = tt
 
 pub fault_below : (id bytes : List ℕ) (p : List PathStep) (l at : ℕ) (fault : RecordFault) → IsPlace p → at_level l ≡ at_level (length p + 1)
-    → IsLastFault (IsCanonical elements (at_level l)) at bytes fault → IsLastFault (HasForm child (id ∷ path_text p ∷ [])) at bytes fault
+    → IsLastFault (IsCanonical elements (at_level l)) at bytes fault → IsLastFault (HasType child (id ∷ path_text p ∷ [])) at bytes fault
 fault_below id bytes p l at fault keeps same fails =
-    same_fault (HasForm child (id ∷ path_text p ∷ [])) (IsCanonical elements (at_level l))
+    same_fault (HasType child (id ∷ path_text p ∷ [])) (IsCanonical elements (at_level l))
     (λ content. child_form id content p l keeps same) (λ content. is_child id content p l keeps same) at bytes fault fails
 
 pub fault_here : (id bytes : List ℕ) (p : List PathStep) (l at : ℕ) (fault : RecordFault) → KeepsRule p → at_level l ≡ at_level (length p)
-    → IsLastFault (IsCanonical elements (at_level l)) at bytes fault → IsLastFault (HasForm element (id ∷ path_text p ∷ [])) at bytes fault
+    → IsLastFault (IsCanonical elements (at_level l)) at bytes fault → IsLastFault (HasType element (id ∷ path_text p ∷ [])) at bytes fault
 fault_here id bytes p l at fault keeps same fails =
-    same_fault (HasForm element (id ∷ path_text p ∷ [])) (IsCanonical elements (at_level l))
+    same_fault (HasType element (id ∷ path_text p ∷ [])) (IsCanonical elements (at_level l))
     (λ content. element_form id content p l keeps same) (λ content. is_element id content p l keeps same) at bytes fault fails

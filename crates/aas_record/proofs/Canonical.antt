@@ -12,7 +12,7 @@ use Rattle.aas_json_spelling.specs.Reads.{ReadsEachIf, ReadsEachOfBytes}
 use Rattle.aas_json_spelling.specs.Spells.{Trees, Spells, IsWithinLimits, canonical_text}
 use Rattle.aas_json_spelling.proofs.Laws.{Laws, one_tree, reads_back}
 use Rattle.aas_edit_laws.specs.Laws.{at_level}
-use Rattle.aas_record.specs.Forms.{IsCanonical}
+use Rattle.aas_record.specs.FieldTypes.{IsCanonical}
 
 pub at_limits : IsWithinLimits limits
 at_limits = record { elements = le_refl _; references = le_refl _; kept = le_refl _ }
@@ -22,15 +22,15 @@ within_level n from = record { elements = omega (arith, from); references = le_r
 
 -- what a reader says that answers the tree whose canonical text it is given
 abbrev pub Answered : {A : Type 0} → Trees A → Levels → Result A ReadFault → List ℕ → Type 0
-Answered trees left result bytes = (form : IsCanonical trees left bytes) → (result ≡ Ok form.1.0) ⊎ (result ≡ Err NoMemory)
+Answered trees left result bytes = (type : IsCanonical trees left bytes) → (result ≡ Ok type.1.0) ⊎ (result ≡ Err NoMemory)
 
 -- where it answers another tree, or a fault, it was given none
 pub another_tree : {A : Type 0} (trees : Trees A) (left : Levels) (result : Result A ReadFault) (t : A) (text bytes : List ℕ) → Answered trees left result bytes → result ≡ Ok t
     → text ≡ canonical_text trees t → text ≢ bytes → ¬ (IsCanonical trees left bytes)
-another_tree trees left result t text bytes answered read is differs form = ⊎_elim
-    (λ e. let same : t ≡ form.1.0 = cc in differs (is ∙ ap (canonical_text trees) same ∙ sym form.1.2))
+another_tree trees left result t text bytes answered read is differs type = ⊎_elim
+    (λ e. let same : t ≡ type.1.0 = cc in differs (is ∙ ap (canonical_text trees) same ∙ sym type.1.2))
     (λ e. cc)
-    (answered form)
+    (answered type)
 
 -- a fault of what was read
 abbrev pub IsOfInput : ReadFault → Type 0
@@ -39,7 +39,7 @@ IsOfInput fault = ⊤
 
 pub a_fault : {A : Type 0} (trees : Trees A) (left : Levels) (result : Result A ReadFault) (fault : ReadFault) (bytes : List ℕ) → Answered trees left result bytes → result ≡ Err fault → IsOfInput fault
     → ¬ (IsCanonical trees left bytes)
-a_fault trees left result fault bytes answered read of_input form = ⊎_elim (λ e. cc) (λ e. let same : fault ≡ NoMemory = cc in subst IsOfInput same of_input) (answered form)
+a_fault trees left result fault bytes answered read of_input type = ⊎_elim (λ e. cc) (λ e. let same : fault ≡ NoMemory = cc in subst IsOfInput same of_input) (answered type)
 
 module _ {A : Type 0} (trees : Trees A) (Shape : A → Type 0) (laws : Laws trees Shape) (left : Levels) (within : IsWithinLimits left) where
   -- a reader answers the tree whose canonical text it is given

@@ -1,4 +1,4 @@
--- The payloads of commands have their forms, and what is read of a payload with its forms.
+-- The payloads of commands have their types, and what is read of a payload with its types.
 use Rattle.std.proofs.Common.{◌≡◌, inl, inr, ℕ, zero, List, [], ◌∷◌, ◌++◌, ◌+◌, ◌-◌, length, length-append, arith, Option, Some, None, Result, Ok, Err, IsErr, IsErrAnd, MatchResult, refl, sym, ◌∙◌, ap, subst}
 use Rattle.std.specs.Str.{IsUtf8}
 use Rattle.std.specs.List.{IsFirstAndRest}
@@ -9,25 +9,25 @@ use Rattle.aas_command.specs.Encoding.{HasFields, IsField}
 use Rattle.aas_command.specs.declared.command.Command.{Command}
 use Rattle.aas_command.specs.declared.command.Command.TheVariants.{CreateShell, CreateSubmodel, CreateConcept, ReplaceShell, ReplaceSubmodel, ReplaceConcept, DeleteShell, DeleteSubmodel, DeleteConcept, SetAsset, AddReference, DropReference, InsertElement, ReplaceElement, DeleteElement, UpdateValue, Import}
 use Rattle.aas_record.specs.Fields.{Begins}
-use Rattle.aas_record.specs.Forms.{Form, identifier, shell, submodel, concept, asset_information, reference, path, place, element, child, value, environment, HasForm, forms_of}
+use Rattle.aas_record.specs.FieldTypes.{FieldType, identifier, shell, submodel, concept, asset_information, reference, path, place, element, child, value, environment, HasType, types_of}
 use Rattle.aas_record.specs.Records.{IsRecord, IsNoRecord, IsRecordFault, FailsAt}
 use Rattle.aas_record.specs.Reading.{IsFieldFault, IsLastFault}
 use Rattle.aas_record.specs.declared.fault.RecordFault.{RecordFault}
 use Rattle.aas_record.specs.declared.fault.RecordFault.TheVariants.{NotARecord, NoMemory}
 use Rattle.aas_record.proofs.Once.{AreFields, nowhere, once}
 
--- ---- the payload of a command has its forms
+-- ---- the payload of a command has its types
 
 begins : (content rest : List ℕ) → IsField content → Begins (field content ++ rest) content rest
 begins content rest is = record { short = is.short; bytes_are = refl }
 
 -- one field
-alone : (form : Form) (content : List ℕ) → IsField content → HasForm form [] content → AreFields (form ∷ []) [] (field content ++ [])
-alone form content is has = (content, [], begins content [] is, has, refl)
+alone : (type : FieldType) (content : List ℕ) → IsField content → HasType type [] content → AreFields (type ∷ []) [] (field content ++ [])
+alone type content is has = (content, [], begins content [] is, has, refl)
 
-right_fields : (tag : ℕ) (forms : List Form) (bytes : List ℕ) (at : ℕ) → forms_of tag ≡ Some forms → AreFields forms [] bytes → ¬ (IsNoRecord (tag ∷ bytes) at)
+right_fields : (tag : ℕ) (types : List FieldType) (bytes : List ℕ) (at : ℕ) → types_of tag ≡ Some types → AreFields types [] bytes → ¬ (IsNoRecord (tag ∷ bytes) at)
 unfolding IsNoRecord
-right_fields tag forms bytes at row are wrong = nowhere forms [] 1 at bytes are (subst (λ o. MatchOption o (at ≡ 0) (λ forms. FailsAt forms [] 1 bytes at)) row wrong)
+right_fields tag types bytes at row are wrong = nowhere types [] 1 at bytes are (subst (λ o. MatchOption o (at ≡ 0) (λ types. FailsAt types [] 1 bytes at)) row wrong)
 
 right_payload : (c : Command) (at : ℕ) → IsWellFormed c → HasFields c → ¬ (IsNoRecord (payload_of c) at)
 unfolding IsWellFormed HasFields payload_of
@@ -64,11 +64,11 @@ right payload c at is wrong = right_payload c at is.well_formed is.fields (subst
 pub one_place : (payload : List ℕ) (at other : ℕ) → IsNoRecord payload at → IsNoRecord payload other → at ≡ other
 unfolding IsNoRecord
 one_place [] at other a b = a ∙ sym b
-one_place (tag ∷ bytes) at other a b = by_forms (forms_of tag) a b
+one_place (tag ∷ bytes) at other a b = by_forms (types_of tag) a b
   where
-    by_forms : (o : Option (List Form)) → MatchOption o (at ≡ 0) (λ forms. FailsAt forms [] 1 bytes at) → MatchOption o (other ≡ 0) (λ forms. FailsAt forms [] 1 bytes other) → at ≡ other
+    by_forms : (o : Option (List FieldType)) → MatchOption o (at ≡ 0) (λ types. FailsAt types [] 1 bytes at) → MatchOption o (other ≡ 0) (λ types. FailsAt types [] 1 bytes other) → at ≡ other
     by_forms None a b = a ∙ sym b
-    by_forms (Some forms) a b = once forms [] 1 at other bytes a b
+    by_forms (Some types) a b = once types [] 1 at other bytes a b
 
 -- ---- what is read
 
@@ -114,14 +114,14 @@ nothing [] e = refl
 nothing (b ∷ bs) e = absurd (omega (arith, e))
 
 -- no command has the tag
-pub no_row : (payload bytes : List ℕ) (t : ℕ) → IsFirstAndRest payload t bytes → forms_of t ≡ None → IsNoRecord payload 0
+pub no_row : (payload bytes : List ℕ) (t : ℕ) → IsFirstAndRest payload t bytes → types_of t ≡ None → IsNoRecord payload 0
 unfolding IsNoRecord
-no_row payload bytes t split row = subst (λ p. IsNoRecord p 0) (sym split.0) (subst (λ o. MatchOption o (zero ≡ zero) (λ forms. FailsAt forms [] 1 bytes 0)) (sym row) refl)
+no_row payload bytes t split row = subst (λ p. IsNoRecord p 0) (sym split.0) (subst (λ o. MatchOption o (zero ≡ zero) (λ types. FailsAt types [] 1 bytes 0)) (sym row) refl)
 
-wrong : (payload bytes : List ℕ) (t at : ℕ) (forms : List Form) → IsFirstAndRest payload t bytes → forms_of t ≡ Some forms → FailsAt forms [] 1 bytes at → IsNoRecord payload at
+wrong : (payload bytes : List ℕ) (t at : ℕ) (types : List FieldType) → IsFirstAndRest payload t bytes → types_of t ≡ Some types → FailsAt types [] 1 bytes at → IsNoRecord payload at
 unfolding IsNoRecord
-wrong payload bytes t at forms split row fails =
-    subst (λ p. IsNoRecord p at) (sym split.0) (subst (λ o. MatchOption o (at ≡ 0) (λ forms. FailsAt forms [] 1 bytes at)) (sym row) fails)
+wrong payload bytes t at types split row fails =
+    subst (λ p. IsNoRecord p at) (sym split.0) (subst (λ o. MatchOption o (at ≡ 0) (λ types. FailsAt types [] 1 bytes at)) (sym row) fails)
 
 -- a fault is handed on
 module _ (payload bytes : List ℕ) (t tag : ℕ) (r : Result Command RecordFault) (fault : RecordFault) (split : IsFirstAndRest payload t bytes) (is : t ≡ tag) (handed : IsErr r × IsErrAnd r (λ f. f ≡ fault)) where
@@ -129,29 +129,29 @@ module _ (payload bytes : List ℕ) (t tag : ℕ) (r : Result Command RecordFaul
   handed_on (Ok c) given fails = absurd given.1
   handed_on (Err f) given fails = subst (IsRecordFault payload) (sym given.1) fails
 
-  at_tag : (forms : List Form) → forms_of tag ≡ Some forms → forms_of t ≡ Some forms
-  at_tag forms row = ap forms_of is ∙ row
+  at_tag : (types : List FieldType) → types_of tag ≡ Some types → types_of t ≡ Some types
+  at_tag types row = ap types_of is ∙ row
 
   -- that of the one field
-  pub wrong_one : (form : Form) → forms_of tag ≡ Some (form ∷ []) → IsLastFault (HasForm form []) 1 bytes fault → MatchResult r (IsRecord payload) (IsRecordFault payload)
-  wrong_one form row fails = handed_on r handed (by_fault fault fails)
+  pub wrong_one : (type : FieldType) → types_of tag ≡ Some (type ∷ []) → IsLastFault (HasType type []) 1 bytes fault → MatchResult r (IsRecord payload) (IsRecordFault payload)
+  wrong_one type row fails = handed_on r handed (by_fault fault fails)
     where
-      by_fault : (f : RecordFault) → IsLastFault (HasForm form []) 1 bytes f → IsRecordFault payload f
-      by_fault (NotARecord at) g = wrong payload bytes t at (form ∷ []) split (at_tag (form ∷ []) row) g
+      by_fault : (f : RecordFault) → IsLastFault (HasType type []) 1 bytes f → IsRecordFault payload f
+      by_fault (NotARecord at) g = wrong payload bytes t at (type ∷ []) split (at_tag (type ∷ []) row) g
       by_fault NoMemory g = tt
 
   -- that of the first of several
-  pub wrong_first : (form : Form) (forms : List Form) → forms_of tag ≡ Some (form ∷ forms) → IsFieldFault (HasForm form []) 1 bytes fault → MatchResult r (IsRecord payload) (IsRecordFault payload)
-  wrong_first form forms row fails = handed_on r handed (by_fault fault fails)
+  pub wrong_first : (type : FieldType) (types : List FieldType) → types_of tag ≡ Some (type ∷ types) → IsFieldFault (HasType type []) 1 bytes fault → MatchResult r (IsRecord payload) (IsRecordFault payload)
+  wrong_first type types row fails = handed_on r handed (by_fault fault fails)
     where
-      by_fault : (f : RecordFault) → IsFieldFault (HasForm form []) 1 bytes f → IsRecordFault payload f
-      by_fault (NotARecord at) g = wrong payload bytes t at (form ∷ forms) split (at_tag (form ∷ forms) row) (inl g)
+      by_fault : (f : RecordFault) → IsFieldFault (HasType type []) 1 bytes f → IsRecordFault payload f
+      by_fault (NotARecord at) g = wrong payload bytes t at (type ∷ types) split (at_tag (type ∷ types) row) (inl g)
       by_fault NoMemory g = tt
 
   -- that of the second of two
-  pub wrong_second : (first rest : List ℕ) (at : ℕ) (form last : Form) → forms_of tag ≡ Some (form ∷ last ∷ []) → Begins bytes first rest → HasForm form [] first → at ≡ length payload - length rest
-      → IsLastFault (HasForm last (first ∷ [])) at rest fault → MatchResult r (IsRecord payload) (IsRecordFault payload)
-  wrong_second first rest at form last row begins has stands fails = handed_on r handed (by_fault fault fails)
+  pub wrong_second : (first rest : List ℕ) (at : ℕ) (type last : FieldType) → types_of tag ≡ Some (type ∷ last ∷ []) → Begins bytes first rest → HasType type [] first → at ≡ length payload - length rest
+      → IsLastFault (HasType last (first ∷ [])) at rest fault → MatchResult r (IsRecord payload) (IsRecordFault payload)
+  wrong_second first rest at type last row begins has stands fails = handed_on r handed (by_fault fault fails)
     where
       behind : length bytes ≡ 4 + length first + length rest
       behind = ap length begins.bytes_are ∙ omega (arith, length-append (field first) rest)
@@ -159,42 +159,42 @@ module _ (payload bytes : List ℕ) (t tag : ℕ) (r : Result Command RecordFaul
       here : at ≡ 1 + 4 + length first
       here = omega (arith, behind, split.1, stands)
 
-      by_fault : (f : RecordFault) → IsLastFault (HasForm last (first ∷ [])) at rest f → IsRecordFault payload f
+      by_fault : (f : RecordFault) → IsLastFault (HasType last (first ∷ [])) at rest f → IsRecordFault payload f
       by_fault (NotARecord there) g =
-          wrong payload bytes t there (form ∷ last ∷ []) split (at_tag (form ∷ last ∷ []) row) (inr (first, rest, begins, has, subst (λ p. FailsAt (last ∷ []) (first ∷ []) p rest there) here g))
+          wrong payload bytes t there (type ∷ last ∷ []) split (at_tag (type ∷ last ∷ []) row) (inr (first, rest, begins, has, subst (λ p. FailsAt (last ∷ []) (first ∷ []) p rest there) here g))
       by_fault NoMemory g = tt
 
   -- that of the second of three
-  pub wrong_middle : (first rest : List ℕ) (at : ℕ) (form middle last : Form) → forms_of tag ≡ Some (form ∷ middle ∷ last ∷ []) → Begins bytes first rest → HasForm form [] first
-      → at ≡ length payload - length rest → IsFieldFault (HasForm middle (first ∷ [])) at rest fault → MatchResult r (IsRecord payload) (IsRecordFault payload)
-  wrong_middle first rest at form middle last row begins has stands fails = handed_on r handed (by_fault fault fails)
+  pub wrong_middle : (first rest : List ℕ) (at : ℕ) (type middle last : FieldType) → types_of tag ≡ Some (type ∷ middle ∷ last ∷ []) → Begins bytes first rest → HasType type [] first
+      → at ≡ length payload - length rest → IsFieldFault (HasType middle (first ∷ [])) at rest fault → MatchResult r (IsRecord payload) (IsRecordFault payload)
+  wrong_middle first rest at type middle last row begins has stands fails = handed_on r handed (by_fault fault fails)
     where
-      forms : List Form
-      forms = form ∷ middle ∷ last ∷ []
+      types : List FieldType
+      types = type ∷ middle ∷ last ∷ []
 
       here : at ≡ 1 + 4 + length first
       here = omega (arith, ap length begins.bytes_are, length-append (field first) rest, split.1, stands)
 
-      by_fault : (f : RecordFault) → IsFieldFault (HasForm middle (first ∷ [])) at rest f → IsRecordFault payload f
+      by_fault : (f : RecordFault) → IsFieldFault (HasType middle (first ∷ [])) at rest f → IsRecordFault payload f
       by_fault (NotARecord there) g =
-          wrong payload bytes t there forms split (at_tag forms row)
+          wrong payload bytes t there types split (at_tag types row)
           (inr (first, rest, begins, has, subst (λ p. FailsAt (middle ∷ last ∷ []) (first ∷ []) p rest there) here (inl g)))
       by_fault NoMemory g = tt
 
   -- that of the third
-  pub wrong_third : (first rest second behind : List ℕ) (at : ℕ) (form middle last : Form) → forms_of tag ≡ Some (form ∷ middle ∷ last ∷ []) → Begins bytes first rest
-      → HasForm form [] first → Begins rest second behind → HasForm middle (first ∷ []) second → at ≡ length payload - length behind
-      → IsLastFault (HasForm last (first ∷ second ∷ [])) at behind fault → MatchResult r (IsRecord payload) (IsRecordFault payload)
-  wrong_third first rest second behind at form middle last row begins has goes_on has_middle stands fails = handed_on r handed (by_fault fault fails)
+  pub wrong_third : (first rest second behind : List ℕ) (at : ℕ) (type middle last : FieldType) → types_of tag ≡ Some (type ∷ middle ∷ last ∷ []) → Begins bytes first rest
+      → HasType type [] first → Begins rest second behind → HasType middle (first ∷ []) second → at ≡ length payload - length behind
+      → IsLastFault (HasType last (first ∷ second ∷ [])) at behind fault → MatchResult r (IsRecord payload) (IsRecordFault payload)
+  wrong_third first rest second behind at type middle last row begins has goes_on has_middle stands fails = handed_on r handed (by_fault fault fails)
     where
-      forms : List Form
-      forms = form ∷ middle ∷ last ∷ []
+      types : List FieldType
+      types = type ∷ middle ∷ last ∷ []
 
       here : at ≡ 1 + 4 + length first + 4 + length second
       here = omega (arith, ap length begins.bytes_are, length-append (field first) rest, ap length goes_on.bytes_are, length-append (field second) behind, split.1, stands)
 
-      by_fault : (f : RecordFault) → IsLastFault (HasForm last (first ∷ second ∷ [])) at behind f → IsRecordFault payload f
+      by_fault : (f : RecordFault) → IsLastFault (HasType last (first ∷ second ∷ [])) at behind f → IsRecordFault payload f
       by_fault (NotARecord there) g =
-          wrong payload bytes t there forms split (at_tag forms row)
+          wrong payload bytes t there types split (at_tag types row)
           (inr (first, rest, begins, has, inr (second, behind, goes_on, has_middle, subst (λ p. FailsAt (last ∷ []) (first ∷ second ∷ []) p behind there) here g)))
       by_fault NoMemory g = tt

@@ -11,6 +11,6 @@ pub record Begins (bytes content rest : List ℕ) : Type 0 where
 abbrev pub IsCut : List ℕ → Type 0
 IsCut bytes = (content rest : List ℕ) → ¬ (Begins bytes content rest)
 
--- they end within their first field, or it isn't of a form
+-- they end within their first field, or it isn't of a type
 abbrev pub LacksField : (List ℕ → Type 0) → List ℕ → Type 0
-LacksField HasForm bytes = (content rest : List ℕ) → Begins bytes content rest → ¬ (HasForm content)
+LacksField HasType bytes = (content rest : List ℕ) → Begins bytes content rest → ¬ (HasType content)

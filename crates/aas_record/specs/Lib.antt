@@ -1,5 +1,5 @@
 pub mod Fields
-pub mod Forms
+pub mod FieldTypes
 pub mod Laws
 pub mod Reading
 pub mod Records

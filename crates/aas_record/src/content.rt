@@ -13,7 +13,7 @@ ghost use Rattle.aas_command.specs.Commands.{IsPlace, IsSendable};
 ghost use Rattle.serde_json.specs.Written.{compact_text};
 ghost use Rattle.aas_model.specs.declared.read_fault.ReadFault.TheVariants as read_fault;
 ghost use Rattle.aas_reference.specs.Trees.{references};
-ghost use Rattle.aas_record.specs.Forms.{IsCanonical, IsCompact};
+ghost use Rattle.aas_record.specs.FieldTypes.{IsCanonical, IsCompact};
 
 use aas_command::{
     SentValue, asset_text, concept_text, element_text, environment_text, reference_text,
@@ -37,13 +37,13 @@ pub(crate) trait Content: Drop + Sized {
 
     ghost is_whole: { Self → Type 0 };
 
-    ghost has_form: { List ℕ → Type 0 };
+    ghost has_type: { List ℕ → Type 0 };
 
     /// The value that is written as the bytes, if there is one.
     fn read(alloc: Global, bytes: &[u8]) -> Result<Option<Self>, NoMemory>
         ensures { IfOk result (λ found. MatchOption found
-            (¬ (has_form bytes.now))
-            (λ value. is_whole value × has_form bytes.now × (bytes.now ≡ bytes_of value))) };
+            (¬ (has_type bytes.now))
+            (λ value. is_whole value × has_type bytes.now × (bytes.now ≡ bytes_of value))) };
 }
 
 /// A tree that is written as its canonical text: a document, an environment, a part of a document, or an element at a level.
@@ -57,8 +57,8 @@ pub(crate) trait Tree: Drop + Sized {
     fn read(alloc: Global, bytes: &[u8], level: u32) -> Result<Self, ReadFault>
         requires { 1 ≤ level }
         ensures reads { ReadsBytes trees (left level) result bytes.now }
-        ensures answered { (form : IsCanonical trees (left level) bytes.now) →
-            (result ≡ Ok form.1.0) ⊎ (result ≡ Err read_fault.NoMemory) };
+        ensures answered { (canonical : IsCanonical trees (left level) bytes.now) →
+            (result ≡ Ok canonical.1.0) ⊎ (result ≡ Err read_fault.NoMemory) };
 
     /// The canonical text of one that is whole at some level.
     fn text(&self, alloc: Global) -> Result<Vec<u8>, NoMemory>
@@ -98,7 +98,7 @@ impl<T: Tree> Content for T {
 
     ghost is_whole = { T.trees.IsWhole (T.left 1) };
 
-    ghost has_form = { IsCanonical T.trees (T.left 1) };
+    ghost has_type = { IsCanonical T.trees (T.left 1) };
 
     fn read(alloc: Global, bytes: &[u8]) -> Result<Option<T>, NoMemory> {
         read_tree(alloc, bytes, 1)
@@ -110,7 +110,7 @@ impl Content for Text {
 
     ghost is_whole = { λ _. ⊤ };
 
-    ghost has_form = { IsUtf8 };
+    ghost has_type = { IsUtf8 };
 
     fn read(alloc: Global, bytes: &[u8]) -> Result<Option<Text>, NoMemory> {
         match str::from_utf8(bytes) {
@@ -125,7 +125,7 @@ impl Content for Path {
 
     ghost is_whole = { λ path. KeepsRule path.steps };
 
-    ghost has_form = { λ content. (p : List PathStep) × IsPath content p };
+    ghost has_type = { λ content. (p : List PathStep) × IsPath content p };
 
     fn read(alloc: Global, bytes: &[u8]) -> Result<Option<Path>, NoMemory> {
         match parse_path(alloc, bytes) {
@@ -147,7 +147,7 @@ impl Content for Place {
 
     ghost is_whole = { λ place. IsPlace place.path.steps };
 
-    ghost has_form = { λ content. (p : List PathStep) × IsPlace p × (content ≡ path_text p) };
+    ghost has_type = { λ content. (p : List PathStep) × IsPlace p × (content ≡ path_text p) };
 
     fn read(alloc: Global, bytes: &[u8]) -> Result<Option<Place>, NoMemory> {
         if bytes.is_empty() {
@@ -168,7 +168,7 @@ impl Content for SentValue {
 
     ghost is_whole = { IsSendable };
 
-    ghost has_form = { IsCompact };
+    ghost has_type = { IsCompact };
 
     fn read(alloc: Global, bytes: &[u8]) -> Result<Option<SentValue>, NoMemory> {
         let value = match read_value(alloc, bytes) {

@@ -8,7 +8,7 @@ pub enum RecordFault {
     #[error("the payload goes wrong at byte {at}")]
     NotARecord {
         /// 0 where it is empty or no command has its tag; else the place of the length of the first field that passes the
-        /// payload's end or isn't of its form, or else of the first byte too many, in bytes.
+        /// payload's end or isn't of its type, or else of the first byte too many, in bytes.
         at: u64,
     },
     #[error("memory was refused")]

@@ -1,7 +1,7 @@
 // The fields of a payload.
 ghost use Rattle.std.specs.Prelude.{◌≡◌, ◌+◌, ◌-◌, ◌<◌, ◌≤◌, ◌^◌, [], length, MatchOption, MatchResult};
 ghost use Rattle.aas_json_spelling.specs.Spells.{canonical_text};
-ghost use Rattle.aas_record.specs.Forms.{IsCanonical};
+ghost use Rattle.aas_record.specs.FieldTypes.{IsCanonical};
 ghost use Rattle.aas_record.specs.Fields.{Begins, IsCut};
 ghost use Rattle.aas_record.specs.Reading.{HasField, IsFieldFault, IsLastFault};
 
@@ -31,8 +31,8 @@ pub(crate) fn field<C: Content>(
     at: u64,
 ) -> Result<(C, &[u8]), RecordFault>
     ensures { MatchResult result
-        (λ r. HasField C.is_whole C.bytes_of C.has_form bytes.now r.0 r.1.now)
-        (IsFieldFault C.has_form at bytes.now) }
+        (λ r. HasField C.is_whole C.bytes_of C.has_type bytes.now r.0 r.1.now)
+        (IsFieldFault C.has_type at bytes.now) }
 {
     let Some((content, rest)) = first_field(bytes) else {
         return Err(RecordFault::NotARecord { at });
@@ -47,8 +47,8 @@ pub(crate) fn field<C: Content>(
 pub(crate) fn last_field<C: Content>(alloc: Global, bytes: &[u8], at: u64) -> Result<C, RecordFault>
     requires { at + length bytes.now < 2 ^ 64 }
     ensures { MatchResult result
-        (λ value. HasField C.is_whole C.bytes_of C.has_form bytes.now value [])
-        (IsLastFault C.has_form at bytes.now) }
+        (λ value. HasField C.is_whole C.bytes_of C.has_type bytes.now value [])
+        (IsLastFault C.has_type at bytes.now) }
 {
     let (value, rest) = field(alloc, bytes, at)?;
     ended(value, bytes, rest, at)

@@ -1,7 +1,7 @@
 //! Reads payloads back as commands: those that `aas_command` writes and no others, with the exact place where another one
 //! goes wrong.
 //!
-//! Which forms the fields behind a tag have is the table in `specs/Forms.antt`. Commands and how they are written belong
+//! Of which types the fields behind a tag are is the table in `specs/FieldTypes.antt`. Commands and how they are written belong
 //! to `aas_command`; the journal that keeps payloads, and what a command comes to, belong to other crates.
 
 #![tactic(auto)]

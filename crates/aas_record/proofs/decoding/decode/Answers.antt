@@ -2,7 +2,7 @@ use Rattle.std.proofs.Common.{refl, subst, ℕ, [], ◌∷◌, arith}
 use Rattle.std.specs.List.{IsFirstAndRest}
 use Rattle.std.proofs.lemmas.Bool.Decides.{nat_tests}
 use Rattle.aas_command.specs.Commands.{IsWellFormed}
-use Rattle.aas_record.specs.Forms.{asset_information, concept, environment, identifier, shell, submodel}
+use Rattle.aas_record.specs.FieldTypes.{asset_information, concept, environment, identifier, shell, submodel}
 use Rattle.aas_record.proofs.Payloads.{no_row, nothing, read_one, read_two, wrong_first, wrong_one, wrong_second}
 use Rattle.aas_record.proofs.decoding.decode.Goals as goal
 
@@ -16,50 +16,50 @@ returns-in_default-tag c = no_row _ _ _ c.in-Some.ensures.cases (grind (arith, n
 
 pub returns-in_ok-last_field-in-1 : goal.returns-in_ok-last_field-in-1
 unfolding IsWellFormed
-returns-in_ok-last_field-in-1 c = let f = c.in_ok-last_field-in-1.ensures in read_one _ _ _ _ 1 _ c.in-Some.ensures.cases c.in-1.is refl f.whole f.begins f.form.0
+returns-in_ok-last_field-in-1 c = let f = c.in_ok-last_field-in-1.ensures in read_one _ _ _ _ 1 _ c.in-Some.ensures.cases c.in-1.is refl f.whole f.begins f.type.0
 
 pub returns-in_ok-last_field-in-2 : goal.returns-in_ok-last_field-in-2
 unfolding IsWellFormed
-returns-in_ok-last_field-in-2 c = let f = c.in_ok-last_field-in-2.ensures in read_one _ _ _ _ 2 _ c.in-Some.ensures.cases c.in-2.is refl f.whole f.begins f.form.0
+returns-in_ok-last_field-in-2 c = let f = c.in_ok-last_field-in-2.ensures in read_one _ _ _ _ 2 _ c.in-Some.ensures.cases c.in-2.is refl f.whole f.begins f.type.0
 
 pub returns-in_ok-last_field-in-3 : goal.returns-in_ok-last_field-in-3
 unfolding IsWellFormed
-returns-in_ok-last_field-in-3 c = let f = c.in_ok-last_field-in-3.ensures in read_one _ _ _ _ 3 _ c.in-Some.ensures.cases c.in-3.is refl f.whole f.begins f.form.0
+returns-in_ok-last_field-in-3 c = let f = c.in_ok-last_field-in-3.ensures in read_one _ _ _ _ 3 _ c.in-Some.ensures.cases c.in-3.is refl f.whole f.begins f.type.0
 
 pub returns-in_ok-last_field-in-4 : goal.returns-in_ok-last_field-in-4
 unfolding IsWellFormed
-returns-in_ok-last_field-in-4 c = let f = c.in_ok-last_field-in-4.ensures in read_one _ _ _ _ 4 _ c.in-Some.ensures.cases c.in-4.is refl f.whole f.begins f.form.0
+returns-in_ok-last_field-in-4 c = let f = c.in_ok-last_field-in-4.ensures in read_one _ _ _ _ 4 _ c.in-Some.ensures.cases c.in-4.is refl f.whole f.begins f.type.0
 
 pub returns-in_ok-last_field-in-5 : goal.returns-in_ok-last_field-in-5
 unfolding IsWellFormed
-returns-in_ok-last_field-in-5 c = let f = c.in_ok-last_field-in-5.ensures in read_one _ _ _ _ 5 _ c.in-Some.ensures.cases c.in-5.is refl f.whole f.begins f.form.0
+returns-in_ok-last_field-in-5 c = let f = c.in_ok-last_field-in-5.ensures in read_one _ _ _ _ 5 _ c.in-Some.ensures.cases c.in-5.is refl f.whole f.begins f.type.0
 
 pub returns-in_ok-last_field-in-6 : goal.returns-in_ok-last_field-in-6
 unfolding IsWellFormed
-returns-in_ok-last_field-in-6 c = let f = c.in_ok-last_field-in-6.ensures in read_one _ _ _ _ 6 _ c.in-Some.ensures.cases c.in-6.is refl f.whole f.begins f.form.0
+returns-in_ok-last_field-in-6 c = let f = c.in_ok-last_field-in-6.ensures in read_one _ _ _ _ 6 _ c.in-Some.ensures.cases c.in-6.is refl f.whole f.begins f.type.0
 
 pub returns-in_ok-last_field-in-7 : goal.returns-in_ok-last_field-in-7
 unfolding IsWellFormed
-returns-in_ok-last_field-in-7 c = let f = c.in_ok-last_field-in-7.ensures in read_one _ _ _ _ 7 _ c.in-Some.ensures.cases c.in-7.is refl f.whole f.begins f.form
+returns-in_ok-last_field-in-7 c = let f = c.in_ok-last_field-in-7.ensures in read_one _ _ _ _ 7 _ c.in-Some.ensures.cases c.in-7.is refl f.whole f.begins f.type
 
 pub returns-in_ok-last_field-in-8 : goal.returns-in_ok-last_field-in-8
 unfolding IsWellFormed
-returns-in_ok-last_field-in-8 c = let f = c.in_ok-last_field-in-8.ensures in read_one _ _ _ _ 8 _ c.in-Some.ensures.cases c.in-8.is refl f.whole f.begins f.form
+returns-in_ok-last_field-in-8 c = let f = c.in_ok-last_field-in-8.ensures in read_one _ _ _ _ 8 _ c.in-Some.ensures.cases c.in-8.is refl f.whole f.begins f.type
 
 pub returns-in_ok-last_field-in-9 : goal.returns-in_ok-last_field-in-9
 unfolding IsWellFormed
-returns-in_ok-last_field-in-9 c = let f = c.in_ok-last_field-in-9.ensures in read_one _ _ _ _ 9 _ c.in-Some.ensures.cases c.in-9.is refl f.whole f.begins f.form
+returns-in_ok-last_field-in-9 c = let f = c.in_ok-last_field-in-9.ensures in read_one _ _ _ _ 9 _ c.in-Some.ensures.cases c.in-9.is refl f.whole f.begins f.type
 
 pub returns-in_ok-last_field-in-10 : goal.returns-in_ok-last_field-in-10
 unfolding IsWellFormed
 returns-in_ok-last_field-in-10 c =
     let first = c.in_ok-shell-in-10.ensures in
     let last = c.in_ok-last_field-in-10.ensures in
-    read_two _ _ _ _ _ _ 10 _ c.in-Some.ensures.cases c.in-10.is refl last.whole first.begins first.form last.begins last.form.0
+    read_two _ _ _ _ _ _ 10 _ c.in-Some.ensures.cases c.in-10.is refl last.whole first.begins first.type last.begins last.type.0
 
 pub returns-in_ok-last_field-in-17 : goal.returns-in_ok-last_field-in-17
 unfolding IsWellFormed
-returns-in_ok-last_field-in-17 c = let f = c.in_ok-last_field-in-17.ensures in read_one _ _ _ _ 17 _ c.in-Some.ensures.cases c.in-17.is refl f.whole f.begins f.form.0
+returns-in_ok-last_field-in-17 c = let f = c.in_ok-last_field-in-17.ensures in read_one _ _ _ _ 17 _ c.in-Some.ensures.cases c.in-17.is refl f.whole f.begins f.type.0
 
 -- ---- what goes wrong
 
@@ -96,7 +96,7 @@ returns-in_err-shell-in-10 c =
 
 pub returns-in_err-last_field-in-10 : goal.returns-in_err-last_field-in-10
 returns-in_err-last_field-in-10 c = let first = c.in_ok-shell-in-10.ensures in
-    wrong_second _ _ _ 10 _ _ c.in-Some.ensures.cases c.in-10.is c.from_residual-in_err-last_field-in-10.ensures _ _ _ identifier asset_information refl first.begins first.form refl c.in_err-last_field-in-10.ensures
+    wrong_second _ _ _ 10 _ _ c.in-Some.ensures.cases c.in-10.is c.from_residual-in_err-last_field-in-10.ensures _ _ _ identifier asset_information refl first.begins first.type refl c.in_err-last_field-in-10.ensures
 
 pub returns-in_err-last_field-in-17 : goal.returns-in_err-last_field-in-17
 returns-in_err-last_field-in-17 c = wrong_one _ _ _ 17 _ _ c.in-Some.ensures.cases c.in-17.is c.from_residual-in_err-last_field-in-17.ensures environment refl c.in_err-last_field-in-17.ensures

@@ -14,24 +14,24 @@ use Rattle.aas_command.specs.Commands.{IsPlace, IsSendable}
 use Rattle.aas_reference.specs.Trees.{references}
 
 -- what a field may hold
-pub data Form : Type 0 where
-  identifier : Form
-  shell : Form
-  submodel : Form
-  concept : Form
-  asset_information : Form
-  reference : Form
+pub data FieldType : Type 0 where
+  identifier : FieldType
+  shell : FieldType
+  submodel : FieldType
+  concept : FieldType
+  asset_information : FieldType
+  reference : FieldType
   -- the path of an element
-  path : Form
+  path : FieldType
   -- the same, or nothing, which is the submodel
-  place : Form
+  place : FieldType
   -- an element, for the place of the one to which the path before it leads
-  element : Form
+  element : FieldType
   -- an element, for a place right below
-  child : Form
+  child : FieldType
   -- a JSON value
-  value : Form
-  environment : Form
+  value : FieldType
+  environment : FieldType
 
 -- the canonical text of a whole tree, in UTF-8
 abbrev pub IsCanonical : {A : Type 0} → Trees A → Levels → List ℕ → Type 0
@@ -46,29 +46,29 @@ abbrev pub IsBehind : List (List ℕ) → List PathStep → Type 0
 IsBehind (id ∷ text ∷ []) p = text ≡ path_text p
 IsBehind before p = ⊥
 
--- The content has the form, behind the contents of the fields before it.
-abbrev pub HasForm : Form → List (List ℕ) → List ℕ → Type 0
-HasForm identifier before content = IsUtf8 content
-HasForm shell before content = IsCanonical shells limits content
-HasForm submodel before content = IsCanonical submodels limits content
-HasForm concept before content = IsCanonical concepts limits content
-HasForm asset_information before content = IsCanonical asset_informations limits content
-HasForm reference before content = IsCanonical references limits content
-HasForm path before content = (p : List PathStep) × IsPath content p
-HasForm place before content = (p : List PathStep) × IsPlace p × (content ≡ path_text p)
-HasForm element before content = (p : List PathStep) × KeepsRule p × IsBehind before p × IsCanonical elements (at_level (length p)) content
-HasForm child before content = (p : List PathStep) × IsPlace p × IsBehind before p × IsCanonical elements (at_level (length p + 1)) content
-HasForm value before content = IsCompact content
-HasForm environment before content = IsCanonical environments limits content
+-- The content has the type, behind the contents of the fields before it.
+abbrev pub HasType : FieldType → List (List ℕ) → List ℕ → Type 0
+HasType identifier before content = IsUtf8 content
+HasType shell before content = IsCanonical shells limits content
+HasType submodel before content = IsCanonical submodels limits content
+HasType concept before content = IsCanonical concepts limits content
+HasType asset_information before content = IsCanonical asset_informations limits content
+HasType reference before content = IsCanonical references limits content
+HasType path before content = (p : List PathStep) × IsPath content p
+HasType place before content = (p : List PathStep) × IsPlace p × (content ≡ path_text p)
+HasType element before content = (p : List PathStep) × KeepsRule p × IsBehind before p × IsCanonical elements (at_level (length p)) content
+HasType child before content = (p : List PathStep) × IsPlace p × IsBehind before p × IsCanonical elements (at_level (length p + 1)) content
+HasType value before content = IsCompact content
+HasType environment before content = IsCanonical environments limits content
 
 -- ---- one row a tag
 
 pub record Row : Type 0 where
   pub tag : ℕ
-  pub forms : List Form
+  pub types : List FieldType
 
-abbrev pub row : ℕ → List Form → Row
-row tag forms = record { tag = tag; forms = forms }
+abbrev pub row : ℕ → List FieldType → Row
+row tag types = record { tag = tag; types = types }
 
 abbrev pub rows : List Row
 rows =
@@ -91,6 +91,6 @@ rows =
     ∷ row 17 (environment ∷ [])
     ∷ []
 
--- the forms of the fields behind a tag, if a command has it
-abbrev pub forms_of : ℕ → Option (List Form)
-forms_of tag = option_map (λ r. r.forms) (find (λ r. r.tag == tag) rows)
+-- the types of the fields behind a tag, if a command has it
+abbrev pub types_of : ℕ → Option (List FieldType)
+types_of tag = option_map (λ r. r.types) (find (λ r. r.tag == tag) rows)
