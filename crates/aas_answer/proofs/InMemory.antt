@@ -1,5 +1,6 @@
 -- Texts that are poured into memory.
-use Rattle.std.proofs.Common.{◌≡◌, ℕ, List, [], ◌++◌, Some, refl}
+use Rattle.std.proofs.Common.{◌≡◌, ℕ, List, [], ◌++◌, refl}
+use Rattle.std.proofs.lemmas.Option.{same_Some}
 use Rattle.aas_out.specs.Adds.{Adds}
 use Rattle.aas_out.specs.TextTold.{text_told}
 use Rattle.aas_out.specs.declared.pouring.Pouring.{Pouring}
@@ -7,13 +8,10 @@ use Rattle.aas_out.specs.declared.pouring.Pouring.TheVariants.{Going, Stopped}
 use Rattle.aas_out.proofs.Adding.{adds_both}
 use Rattle.aas_out.proofs.TextPoured.{text_poured}
 
-same_text : (a b : List ℕ) → Some a ≡ Some b → a ≡ b
-same_text a b e = cc
-
 -- where a pouring went on, it did before too, and put all
 pub put_whole : (before after : Pouring) (old new : List ℕ) (f g : ℕ) (text : List ℕ) → Adds before after (text_told old f) (text_told new g) text → after ≡ Going → (before ≡ Going) × (new ≡ old ++ text)
 unfolding Adds
-put_whole Going Going old new f g text put went = (refl, same_text new (old ++ text) put.sent)
+put_whole Going Going old new f g text put went = (refl, same_Some new (old ++ text) put.sent)
 put_whole Going Stopped old new f g text put went = absurd (cc)
 put_whole Stopped after old new f g text put went = let stopped = put.0 in absurd (cc)
 

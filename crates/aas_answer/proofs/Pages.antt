@@ -11,7 +11,7 @@ use Rattle.std.proofs.lemmas.List.{append-nil, append_assoc, drop_all, get_or-dr
 use Rattle.std.proofs.lemmas.List.Concat.{flat_map-append}
 use Rattle.std.proofs.lemmas.List.Elements.{All-head, All-tail, All-filter, All-take}
 use Rattle.std.proofs.lemmas.List.Folds.{flat_map-map}
-use Rattle.std.proofs.lemmas.Option.{get_or_from_slice_get, slice_get_within, slice_get-get_or}
+use Rattle.std.proofs.lemmas.Option.{get_or_from_slice_get, slice_get_within, slice_get-get_or, same_Some}
 use Rattle.std.proofs.lemmas.Simd.{map-map}
 use Rattle.base64.specs.Engines.{url_safe_no_pad}
 use Rattle.base64.specs.GeneralPurpose.{encode_of}
@@ -210,13 +210,10 @@ last_cursor more ids found is at =
 
 -- ---- what a store tells of a submodel without its children
 
-some_same : (a b : Submodel) → Some a ≡ Some b → a ≡ b
-some_same a b e = cc
-
 pub head_there : (o : Option Submodel) (h : Submodel) → Some (without_children h) ≡ option_map without_children o
     → (s : Submodel) × (o ≡ Some s) × (without_children h ≡ without_children s)
 head_there None h is = absurd (cc)
-head_there (Some s) h is = (s, refl, some_same (without_children h) (without_children s) is)
+head_there (Some s) h is = (s, refl, same_Some (without_children h) (without_children s) is)
 
 pub valid_head : (d : Documents) (id : Identifier) (h : Submodel) → AreValid d
     → Some (without_children h) ≡ option_map without_children (fin.get d.submodels id) → HasValidHead h

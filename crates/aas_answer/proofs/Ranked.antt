@@ -1,5 +1,5 @@
 -- The text of the element of a rank is made of the rows from there on.
-use Rattle.std.proofs.Common.{◌≡◌, ℕ, suc, ◌+◌, ◌<◌, ◌≤◌, nat_lt, Bool, true, false, List, [], ◌∷◌, ◌++◌, length, drop, map, Option, Some, None, Ok, slice_get, refl, sym, ap, ap₂, ◌∙◌, subst, arith, if◌then◌else◌}
+use Rattle.std.proofs.Common.{◌≡◌, ℕ, suc, ◌+◌, ◌<◌, ◌≤◌, nat_lt, Bool, true, false, List, [], ◌∷◌, ◌++◌, length, drop, map, Option, Some, None, Ok, slice_get, refl, sym, ap, ap₂, ◌∙◌, subst, arith, if◌then◌else◌, le-ltb}
 use Rattle.std.specs.Prelude.{MatchOption}
 use Rattle.std.proofs.lemmas.Bool.{ltb-false}
 use Rattle.std.proofs.lemmas.Bool.Decides.{Decides-ltb}
@@ -15,7 +15,7 @@ use Rattle.aas_model_names.specs.declared.modifiers.Level.{Level}
 use Rattle.aas_path_trees.specs.Children.{kids_of}
 use Rattle.aas_rows.specs.Rows.{Line, line_at, rows, rows_of_all, BeginsRows}
 use Rattle.aas_rows.proofs.Ranked.{StandsAt}
-use Rattle.aas_rows.proofs.Trees.{begins_more, not_lt, rows_out}
+use Rattle.aas_rows.proofs.Trees.{begins_more, rows_out}
 use Rattle.aas_members_text.specs.Script.{Spoken, element_text}
 use Rattle.aas_members_text.specs.Texts.{Leveled, shown, spoken, spoken_over}
 use Rattle.aas_members_text.specs.declared.members.Show.{Show}
@@ -58,7 +58,7 @@ voices_out w k r rs = refl
 begun_none : (w : Show) (k : ℕ) (r : Line) (own beside : List Spoken) → r.level ≤ k → begun w k r own beside ≡ []
 unfolding begun
 begun_none w k r own beside le =
-    ap (λ b. if b then (if nat_lt (k + 1) r.level then beside else record { role = r.role; text = element_text w r own } ∷ beside) else []) (not_lt k r.level le)
+    ap (λ b. if b then (if nat_lt (k + 1) r.level then beside else record { role = r.role; text = element_text w r own } ∷ beside) else []) (le-ltb k r.level le)
 
 no_voices : (w : Show) (k : ℕ) (rest : List Line) → BeginsRows k rest → voices w k rest ≡ []
 no_voices w k [] h = refl

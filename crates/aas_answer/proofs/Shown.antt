@@ -1,5 +1,5 @@
 -- What is shown at a level and to an extent is the form at that level and to that extent.
-use Rattle.std.proofs.Common.{◌≡◌, ℕ, suc, ◌+◌, ◌<◌, ◌≤◌, nat_lt, Bool, true, false, List, [], ◌∷◌, ◌++◌, map, refl, sym, ap, ap₂, ◌∙◌, subst, arith, if◌then◌else◌}
+use Rattle.std.proofs.Common.{◌≡◌, ℕ, suc, ◌+◌, ◌<◌, ◌≤◌, nat_lt, Bool, true, false, List, [], ◌∷◌, ◌++◌, map, refl, sym, ap, ap₂, ◌∙◌, subst, arith, if◌then◌else◌, le-ltb, lt-ltb}
 use Rattle.aas_model.specs.declared.documents.Submodel.{Submodel}
 use Rattle.aas_model.specs.declared.element.Element.{Element, fold-Element, fold_out-Element, out-Element, out-roll-Element, roll-Element, roll-out-Element}
 use Rattle.aas_model.specs.declared.payload.Payload.{Payload}
@@ -10,7 +10,7 @@ use Rattle.aas_model_names.specs.declared.modifiers.Level.{Level}
 use Rattle.aas_model_names.specs.declared.modifiers.Level.TheVariants.{Deep, Core}
 use Rattle.aas_path_trees.specs.Children.{kids_of, with_kids}
 use Rattle.aas_rows.specs.Rows.{Line, line_at, rows, rows_of_all}
-use Rattle.aas_rows.proofs.Trees.{Every, by_kids, every, is_lt, not_lt, rows_out}
+use Rattle.aas_rows.proofs.Trees.{Every, by_kids, every, rows_out}
 use Rattle.aas_json_mapping.specs.Trees.{elements, submodels}
 use Rattle.aas_json_mapping.specs.Documents.{spell_submodel}
 use Rattle.aas_json_mapping.specs.Elements.{spell_element}
@@ -75,12 +75,12 @@ shown_out w e k =
     twice (e ∷ es) = ap (λ vs. fold-Element (Leveled Element) (shown_over w) e (k + 1) ∷ vs) (twice es)
 
 shown_above : (w : Show) (e : Element) (k : ℕ) → k < w.cut → shown w e k ≡ over w.blobs e (map (λ e. shown w e (k + 1)) (kids_of e))
-shown_above w e k lt = shown_out w e k ∙ ap (λ b. over w.blobs e (if b then map (λ e. shown w e (k + 1)) (kids_of e) else [])) (is_lt k w.cut lt)
+shown_above w e k lt = shown_out w e k ∙ ap (λ b. over w.blobs e (if b then map (λ e. shown w e (k + 1)) (kids_of e) else [])) (lt-ltb k w.cut lt)
 
 -- without its children
 shown_last : (w : Show) (e : Element) (k : ℕ) → w.cut ≤ k → shown w e k ≡ stripped w.blobs (childless e)
 shown_last w e k le =
-    shown_out w e k ∙ ap (λ b. over w.blobs e (if b then map (λ e. shown w e (k + 1)) (kids_of e) else [])) (not_lt k w.cut le) ∙ sym (stripped_kids w.blobs e [])
+    shown_out w e k ∙ ap (λ b. over w.blobs e (if b then map (λ e. shown w e (k + 1)) (kids_of e) else [])) (le-ltb k w.cut le) ∙ sym (stripped_kids w.blobs e [])
 
 last_all : (w : Show) (k : ℕ) (es : List Element) → w.cut ≤ k → map (λ e. shown w e k) es ≡ map (stripped w.blobs) (map childless es)
 last_all w k [] le = refl

@@ -2,7 +2,7 @@
 use Rattle.std.proofs.Common.{◌≡◌, ℕ, zero, suc, Bool, true, false, List, [], ◌∷◌, ◌++◌, length, map, flat_map, get_or, slice_get, slice_set, Option, Some, None, option_map, option_and_then, refl, sym, ap, ap₂, ◌∙◌}
 use Rattle.std.specs.Prelude.{if◌then◌else◌, nat_lt}
 use Rattle.std.proofs.lemmas.List.Quantifiers.{position-Some}
-use Rattle.std.proofs.lemmas.Option.{get_or_from_slice_get}
+use Rattle.std.proofs.lemmas.Option.{get_or_from_slice_get, cond_some}
 use Rattle.std.proofs.lemmas.Slice.Eq.{bytes_eq-Decides}
 use Rattle.aas_model.specs.declared.documents.Submodel.{Submodel}
 use Rattle.aas_model.specs.declared.element.Element.{Element}
@@ -34,10 +34,6 @@ Child = ℕ × Element
 
 -- ---- a child, by its step
 
-some_if : (b : Bool) (n i : ℕ) → (if b then Some n else None) ≡ Some i → n ≡ i
-some_if true n i e = cc
-some_if false n i e = absurd (cc)
-
 text_is : (n : List ℕ) (o : Option (List ℕ)) → is_text n o ≡ true → o ≡ Some n
 text_is n None e = absurd (cc)
 text_is n (Some m) e = ap (λ (t : List ℕ). Some t) ((bytes_eq-Decides m n).0 e)
@@ -50,7 +46,7 @@ step_is : (l : Bool) (s : PathStep) (ks : List Element) (i : ℕ) (k : Element) 
     → s ≡ (if l then Place i else named_or (id_short_of k) i)
 unfolding place_of
 step_is true (Name n) ks i k e at named = absurd (cc)
-step_is true (Place j) ks i k e at named = ap (λ (m : ℕ). Place m) (some_if (nat_lt j (length ks)) j i e)
+step_is true (Place j) ks i k e at named = ap (λ (m : ℕ). Place m) (cond_some (nat_lt j (length ks)) j i e).1
 step_is false (Name n) ks i k e at named =
     let found = position-Some (λ x. is_text n (id_short_of x)) ks i k e in
     let here : get_or ks i k ≡ k = get_or_from_slice_get ks i k k at in

@@ -1,5 +1,5 @@
 -- The law of place on trees, whose places are given by the numbers of the children that lead to them.
-use Rattle.std.proofs.Common.{◌≡◌, ℕ, zero, suc, ◌+◌, Bool, List, [], ◌∷◌, ◌++◌, length, map, flat_map, Option, Some, None, option_map, option_and_then, refl, sym, ap, ap₂, ◌∙◌, arith}
+use Rattle.std.proofs.Common.{◌≡◌, ℕ, zero, suc, ◌+◌, Bool, List, [], ◌∷◌, ◌++◌, length, map, flat_map, Option, Some, None, option_map, option_and_then, refl, sym, ap, ap₂, ◌∙◌, arith, map-id}
 use Rattle.std.proofs.lemmas.List.{append-nil, map-append}
 use Rattle.std.proofs.lemmas.Grind.{flat_map-append}
 use Rattle.std.proofs.lemmas.Simd.{map-map}
@@ -116,13 +116,9 @@ changed_child a n m (suc i) q (first t ts) e u same ih at is clean =
     let rest : local_among a (suc n) ts ≡ [] = no_second (map (under_fault s) (local_here t)) (local_among a (suc n) ts) clean in
     ap (λ l. l ++ local_among a (suc n) (with_child (with_tree q u) i ts)) here ∙ changed_child a (suc n) m i q ts e u same ih at (omega arith) rest
 
-map_itself : {X : Type 0} (xs : List X) → xs ≡ map (λ x. x) xs
-map_itself [] = refl
-map_itself (x ∷ xs) = ap (λ l. x ∷ l) (map_itself xs)
-
 changed : (q : List ℕ) (e u t : Tree) → bare_tree u ≡ bare_tree e → tree_at q t ≡ Some e → local_here t ≡ [] → local_here (with_tree q u t) ≡ map (behind (path_to q t)) (local_here u)
 unfolding local_here tree_at with_tree path_to
-changed [] e u t same at clean = map_itself (local_here u)
+changed [] e u t same at clean = sym (map-id (local_here u))
 changed (i ∷ q) e u (node o ts) same at clean =
     ap (λ l. l ++ local_among (Some o) 0 (with_child (with_tree q u) i ts)) (no_first (map (fault []) (locally_broken o)) (local_among (Some o) 0 ts) clean)
     ∙ changed_child (Some o) 0 i i q ts e u same (λ k. changed q e u k same) at (omega arith) (no_second (map (fault []) (locally_broken o)) (local_among (Some o) 0 ts) clean)

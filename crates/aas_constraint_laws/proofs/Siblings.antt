@@ -6,6 +6,7 @@ use Rattle.std.proofs.lemmas.List.Elements.{filter_map-append}
 use Rattle.std.proofs.lemmas.List.Folds.{list_any-append}
 use Rattle.std.proofs.lemmas.Slice.Eq.{bytes_eq-Decides}
 use Rattle.std.specs.Prelude.{bytes_eq}
+use Rattle.std.proofs.lemmas.Bool.{or_left, or_right}
 use Rattle.aas_model.specs.declared.documents.Submodel.{Submodel}
 use Rattle.aas_model.specs.declared.element.Element.{Element, out-Element}
 use Rattle.aas_model.specs.declared.path.PathStep.{PathStep}
@@ -132,25 +133,17 @@ clean_in_all t (i ∷ q) ks e c there = clean_child t None ks i q e (slice_get k
 
 -- ---- siblings
 
-left_true : (p q : Bool) → p ≡ true → p || q ≡ true
-left_true true q e = refl
-left_true false q e = absurd (cc)
-
-right_true : (p q : Bool) → q ≡ true → p || q ≡ true
-right_true true q e = refl
-right_true false q e = e
-
 -- the names of siblings, and one more
 among_last : (n : List ℕ) (b : List Own) (o : Own) → is_among n (filter_map name_of (b ++ o ∷ [])) ≡ (is_among n (filter_map name_of b) || is_among n (cons_option (name_of o) []))
 among_last n b o = ap (is_among n) (filter_map-append name_of b (o ∷ [])) ∙ list_any-append (bytes_eq n) (filter_map name_of b) (cons_option (name_of o) [])
 
 still_among : (n : List ℕ) (b : List Own) (o : Own) → is_among n (filter_map name_of b) ≡ true → is_among n (filter_map name_of (b ++ o ∷ [])) ≡ true
-still_among n b o e = among_last n b o ∙ left_true (is_among n (filter_map name_of b)) (is_among n (cons_option (name_of o) [])) e
+still_among n b o e = among_last n b o ∙ or_left (is_among n (filter_map name_of b)) (is_among n (cons_option (name_of o) [])) e
 
 now_among : (n : List ℕ) (b : List Own) (o : Own) → name_of o ≡ Some n → is_among n (filter_map name_of (b ++ o ∷ [])) ≡ true
 now_among n b o is =
-    let here : is_among n (cons_option (name_of o) []) ≡ true = ap (λ m. is_among n (cons_option m [])) is ∙ left_true (bytes_eq n n) false ((bytes_eq-Decides n n).1 refl) in
-    among_last n b o ∙ right_true (is_among n (filter_map name_of b)) (is_among n (cons_option (name_of o) [])) here
+    let here : is_among n (cons_option (name_of o) []) ≡ true = ap (λ m. is_among n (cons_option m [])) is ∙ or_left (bytes_eq n n) false ((bytes_eq-Decides n n).1 refl) in
+    among_last n b o ∙ or_right (is_among n (filter_map name_of b)) (is_among n (cons_option (name_of o) [])) here
 
 -- no one has a name that stands earlier
 not_again : (t : Bool) (a : Option Own) (b : List Own) (ks : List Element) (j : ℕ) (m : Element) (n : List ℕ) → AllClean t a b ks → is_among n (filter_map name_of b) ≡ true

@@ -13,6 +13,7 @@ use Rattle.std.specs.BTreeSet.{BTreeSet, insert_key}
 use Rattle.std.proofs.lemmas.Slice.Eq.{bytes_eq-Decides}
 use Rattle.std.specs.BTreeMap.{is_at}
 use Rattle.std.proofs.lemmas.Map.Text.{is_eq-slice_cmp}
+use Rattle.std.proofs.Math.Bool.{or_assoc}
 use denote.Ref.{Bor}
 use Rattle.aas_constraint_rules.specs.Texts.{is_among}
 use Rattle.aas_constraint_parts.specs.Repeats.{HasTexts}
@@ -27,10 +28,6 @@ bytes_eq-chars xs ys p q =
     let back : chars xs ≡ chars ys → xs ≡ ys = λ e. sym (encodes-chars xs p) ∙ (ap encodes e ∙ encodes-chars ys q) in
     same_from_decides _ _ (bytes_eq-Decides xs ys) (λ e. back (same.0 e), λ e. same.1 (ap chars e))
 
-or_assoc : (a b c : Bool) → a || (b || c) ≡ (a || b) || c
-or_assoc true b c = refl
-or_assoc false b c = refl
-
 or_swap : (a b c : Bool) → a || (b || c) ≡ b || (a || c)
 or_swap true true c = refl
 or_swap true false c = refl
@@ -44,7 +41,7 @@ any-insert_at : {K : Type 0} (cmp : K → K → Ordering) (test : K → Bool) (x
     → list_any test rest ≡ test k || list_any test xs
     → list_any test (match_ordering o (k ∷ x ∷ xs) (x ∷ xs) (x ∷ rest)) ≡ test k || list_any test (x ∷ xs)
 any-insert_at cmp test x k xs rest Less same ih = refl
-any-insert_at cmp test x k xs rest Equal same ih = ap (λ b. b || list_any test xs) (same_twice (test k) (test x) (same refl)) ∙ sym (or_assoc (test k) (test x) (list_any test xs))
+any-insert_at cmp test x k xs rest Equal same ih = ap (λ b. b || list_any test xs) (same_twice (test k) (test x) (same refl)) ∙ or_assoc (test k) (test x) (list_any test xs)
 any-insert_at cmp test x k xs rest Greater same ih = ap (λ b. test x || b) ih ∙ or_swap (test x) (test k) (list_any test xs)
 
 -- a test of the keys once one was inserted, where equal keys pass alike

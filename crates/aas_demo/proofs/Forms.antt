@@ -12,6 +12,7 @@ use Rattle.std.proofs.lemmas.Int.{ints}
 use Rattle.std.proofs.lemmas.Slice.Eq.{bytes_eq-Decides}
 use Rattle.std.proofs.lemmas.Str.{encodes-IsAscii}
 use Rattle.std.proofs.lemmas.Str.Ascii.{IsAscii-cons}
+use Rattle.std.proofs.lemmas.Bool.{or_right}
 use Rattle.aas_constraint_rules.proofs.Forms.{form_tells, name_tells}
 use Rattle.aas_constraint_rules.specs.Decided.{has_form, is_name, is_string}
 use Rattle.aas_lexical.proofs.IntegersExact.{digit_in, numeral_integer}
@@ -28,17 +29,13 @@ each_digit test holds [] all = refl
 each_digit test holds (d ∷ ds) all =
     ap (λ b. b && list_all test ds) (holds d (digit_in d all.0)) ∙ each_digit test holds ds all.1
 
-right_holds : (a b : Bool) → b ≡ true → (a || b) ≡ true
-right_holds true b is = refl
-right_holds false b is = is
-
 name_digit : (c : ℕ) → is_ascii_digit c ≡ true → is_name_character c ≡ true
 name_digit c is = ap (λ b. ((b || is_in_range 65 90 c) || is_in_range 97 122 c) || c == 95) is
 
 string_digit : (c : ℕ) → is_ascii_digit c ≡ true → is_string_character c ≡ true
 string_digit c is =
     let within : is_in_range 0x20 0xD7FF c ≡ true = grind (arith, nat_tests) in
-    ap (λ b. (b || is_in_range 0xE000 0xFFFD c) || is_in_range 0x10000 0x10FFFF c) (right_holds ((c == 0x9 || c == 0xA) || c == 0xD) (is_in_range 0x20 0xD7FF c) within)
+    ap (λ b. (b || is_in_range 0xE000 0xFFFD c) || is_in_range 0x10000 0x10FFFF c) (or_right ((c == 0x9 || c == 0xA) || c == 0xD) (is_in_range 0x20 0xD7FF c) within)
 
 -- ---- numbers
 

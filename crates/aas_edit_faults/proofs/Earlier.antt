@@ -5,6 +5,7 @@ use Rattle.std.specs.Option.{option_or}
 use Rattle.std.specs.Prelude.{bytes_eq}
 use Rattle.std.proofs.lemmas.List.Elements.{filter_map-append}
 use Rattle.std.proofs.lemmas.List.Folds.{list_any-append}
+use Rattle.std.proofs.lemmas.Bool.{or_parts, or_from}
 use Rattle.aas_model.specs.declared.reference.Reference.{Reference}
 use Rattle.aas_reference.specs.Rules.{Rule, failing}
 use Rattle.aas_reference.specs.Same.{IsSame}
@@ -19,18 +20,6 @@ use Rattle.aas_edit_faults.proofs.Level.{at_root, broken_at}
 
 last_name : (n : List ℕ) (b : List Own) (o : Own) → is_among n (filter_map name_of (b ++ o ∷ [])) ≡ (is_among n (filter_map name_of b) || is_among n (cons_option (name_of o) []))
 last_name n b o = ap (is_among n) (filter_map-append name_of b (o ∷ [])) ∙ list_any-append (bytes_eq n) (filter_map name_of b) (cons_option (name_of o) [])
-
-left_false : (p q : Bool) → p || q ≡ false → p ≡ false
-left_false true q e = e
-left_false false q e = refl
-
-right_false : (p q : Bool) → p || q ≡ false → q ≡ false
-right_false true q e = absurd (cc)
-right_false false q e = e
-
-both_false : (p q : Bool) → p ≡ false → q ≡ false → p || q ≡ false
-both_false true q e f = e
-both_false false q e f = f
 
 -- ---- semanticIds
 
@@ -87,7 +76,7 @@ pub record Allows (a : Option Own) (b c : List Own) : Type 0 where
 -- one sibling fewer
 pub allows_fewer : (a : Option Own) (b : List Own) (o : Own) → Allows a (b ++ o ∷ []) b
 allows_fewer a b o = record {
-  names = λ n e. left_false (is_among n (filter_map name_of b)) (is_among n (cons_option (name_of o) [])) (sym (last_name n b o) ∙ e);
+  names = λ n e. (or_parts (is_among n (filter_map name_of b)) (is_among n (cons_option (name_of o) [])) (sym (last_name n b o) ∙ e)).0;
   semantics = λ in_list. subst (λ x. Follows x (first_of b)) (sym (first_last b o)) (follows_fewer (first_of b) (semantics_of o));
 }
 
@@ -178,9 +167,9 @@ module _ (t : Bool) (a : Option Own) (b c : List Own) (o : Own) where
       let agrees : not (stands_in_list a) || agree (first_of b) (semantics_of o) ≡ true = (each_passes (λ s. holds s here) rules e).1.1.1.1.1.1.1.1.1.1.0 in record {
         names = λ n none.
             let own : is_among n (filter_map name_of b) || is_among n (cons_option (name_of o) []) ≡ false = sym (last_name n b o) ∙ none in
-            last_name n c o ∙ both_false (is_among n (filter_map name_of c)) (is_among n (cons_option (name_of o) []))
-            (allows.names n (left_false (is_among n (filter_map name_of b)) (is_among n (cons_option (name_of o) [])) own))
-            (right_false (is_among n (filter_map name_of b)) (is_among n (cons_option (name_of o) [])) own);
+            last_name n c o ∙ or_from (is_among n (filter_map name_of c)) (is_among n (cons_option (name_of o) []))
+            (allows.names n (or_parts (is_among n (filter_map name_of b)) (is_among n (cons_option (name_of o) [])) own).0)
+            (or_parts (is_among n (filter_map name_of b)) (is_among n (cons_option (name_of o) [])) own).1;
         semantics = λ in_list.
             subst (λ x. Follows x (first_of (c ++ o ∷ []))) (sym (first_last b o))
             (subst (Follows (option_or (first_of b) (semantics_of o))) (sym (first_last c o))

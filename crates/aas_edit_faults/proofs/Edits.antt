@@ -1,5 +1,5 @@
 -- The faults of a submodel after an edit.
-use Rattle.std.proofs.Common.{◌≡◌, ℕ, true, false, List, [], ◌∷◌, ◌++◌, length, take, map, flat_map, Option, Some, None, slice_set, option_and_then, option_map, refl, sym, ap, ◌∙◌, subst}
+use Rattle.std.proofs.Common.{◌≡◌, ℕ, true, false, List, [], ◌∷◌, ◌++◌, length, take, map, flat_map, Option, Some, None, slice_set, option_and_then, option_map, refl, sym, ap, ◌∙◌, subst, map-id}
 use Rattle.std.specs.Option.{option_map_or}
 use Rattle.std.proofs.lemmas.List.{length-map, length_push}
 use Rattle.aas_lemmas.proofs.Lists.{no_first, no_second, no_map}
@@ -28,7 +28,7 @@ use Rattle.aas_edit_faults.proofs.Alone.{child_alone}
 use Rattle.aas_edit_faults.proofs.NewName.{new_name, names_in_list}
 use Rattle.aas_edit_faults.proofs.Level.{faults_among, faults_below}
 use Rattle.aas_edit_faults.proofs.Siblings.{one_changed, one_more}
-use Rattle.aas_edit_faults.proofs.Walks.{Child, own_with_kids, own_with_role, below_with_kids, in_list, map_itself, among_changed, changed_alone, removed_none}
+use Rattle.aas_edit_faults.proofs.Walks.{Child, own_with_kids, own_with_role, below_with_kids, in_list, among_changed, changed_alone, removed_none}
 
 -- ---- a submodel with other elements
 
@@ -105,7 +105,7 @@ faults_of_inserted d [] e r none role =
     let w = with_role e Member in
     faults_with d (d.kids ++ w ∷ []) none
     ∙ one_more (is_template d.kind) None d.kids w (kids_none d none)
-    ∙ map_itself (faults_among (is_template d.kind) None (map own_of d.kids) (w ∷ []))
+    ∙ sym (map-id (faults_among (is_template d.kind) None (map own_of d.kids) (w ∷ [])))
     ∙ as_child_is d [] d.kids w
     ∙ ap (λ x. faults_as_child d [] d.kids (with_role e x)) is
 faults_of_inserted d (s ∷ q) e r none role = found_inserted d s q e r (element_at d (s ∷ q)) none refl role
@@ -139,7 +139,7 @@ first_stands d s i o is = record {
       ap (λ f. faults (record d { kids = with_child (λ k. w) d.kids f })) is
       ∙ faults_with d (slice_set d.kids i w) none
       ∙ one_changed t None [] d.kids i o w (kids_none d none) (child_by-there false s d.kids (i, o) is).1 name semantics
-      ∙ map_itself (faults_among t None (map own_of (take i d.kids)) (w ∷ []))
+      ∙ sym (map-id (faults_among t None (map own_of (take i d.kids)) (w ∷ [])))
       ∙ as_child_is d [] (take i d.kids) w;
   alone = λ w none name semantics.
       sym (as_child_is d [] (take i d.kids) w)

@@ -1,7 +1,7 @@
 -- Along a path to what an edit changes.
-use Rattle.std.proofs.Common.{◌≡◌, ℕ, Bool, true, false, List, [], ◌∷◌, ◌++◌, length, take, map, flat_map, Option, Some, None, slice_get, get_or, option_and_then, if◌then◌else◌, nat_lt, refl, sym, ap, ap₂, ◌∙◌}
+use Rattle.std.proofs.Common.{◌≡◌, ℕ, Bool, true, false, List, [], ◌∷◌, ◌++◌, length, take, map, flat_map, Option, Some, None, slice_get, get_or, option_and_then, if◌then◌else◌, nat_lt, refl, sym, ap, ap₂, ◌∙◌, map-id}
 use Rattle.std.proofs.lemmas.List.Quantifiers.{position-Some}
-use Rattle.std.proofs.lemmas.Option.{get_or_from_slice_get}
+use Rattle.std.proofs.lemmas.Option.{get_or_from_slice_get, cond_some}
 use Rattle.std.proofs.lemmas.Simd.{map-map}
 use Rattle.std.proofs.lemmas.Slice.Eq.{bytes_eq-Decides}
 use Rattle.aas_model.specs.declared.element.Element.{Element, Element-F, out-Element, out-roll-Element}
@@ -57,10 +57,6 @@ in_list e = lists_agree (out-Element e).payload
 
 -- ---- the step that leads to a child is the one that its faults show
 
-place_is : (b : Bool) (n i : ℕ) → (if b then Some n else None) ≡ Some i → n ≡ i
-place_is true n i e = cc
-place_is false n i e = absurd (cc)
-
 named_step : (n : List ℕ) (i : ℕ) (o : Option (List ℕ)) → is_text n o ≡ true → if_any is_id_short o ≡ true → named_or o i ≡ Name n
 named_step n i None e named = absurd (cc)
 named_step n i (Some m) e named = ap (λ (b : Bool). if b then Name m else Place i) named ∙ ap (λ (x : List ℕ). Name x) ((bytes_eq-Decides m n).0 e)
@@ -69,7 +65,7 @@ by_step : (l : Bool) (s : PathStep) (ks : List Element) (i : ℕ) (k : Element) 
     → if_any is_id_short (id_short_of k) ≡ true → (if l then Place i else named_or (id_short_of k) i) ≡ s
 unfolding place_of
 by_step true (Name n) ks i k e at named = absurd (cc)
-by_step true (Place j) ks i k e at named = ap (λ (m : ℕ). Place m) (sym (place_is (nat_lt j (length ks)) j i e))
+by_step true (Place j) ks i k e at named = ap (λ (m : ℕ). Place m) (sym (cond_some (nat_lt j (length ks)) j i e).1)
 by_step false (Name n) ks i k e at named =
     let found = position-Some (λ x. is_text n (id_short_of x)) ks i k e in
     let here : get_or ks i k ≡ k = get_or_from_slice_get ks i k k at in
@@ -113,10 +109,6 @@ child_changed t a l s ks c w lists none is same =
 
 -- ---- an element changed, to which a path leads
 
-pub map_itself : {X : Type 0} (xs : List X) → xs ≡ map (λ x. x) xs
-map_itself [] = refl
-map_itself (x ∷ xs) = ap (λ l. x ∷ l) (map_itself xs)
-
 -- e with w for the element o below it has the attributes of e, and below it the faults that w has
 record IsChanged (t : Bool) (q : List PathStep) (e w : Element) : Type 0 where
   same : own_of (with_below q e w) ≡ own_of e
@@ -136,7 +128,7 @@ among_by t a l s q ks o w (Some c) lists none is there below =
 below_changed : (t : Bool) (q : List PathStep) (e o w : Element) → faults_below t e ≡ [] → element_below q e ≡ Some o → own_of w ≡ own_of o → IsChanged t q e w
 unfolding element_below with_below
 below_changed t [] e o w none there same =
-    let is : o ≡ e = cc in record { same = same ∙ ap own_of is; faults = map_itself (faults_below t w) }
+    let is : o ≡ e = cc in record { same = same ∙ ap own_of is; faults = sym (map-id (faults_below t w)) }
 below_changed t (s ∷ q) e o w none there same =
     let found = child_by (is_list e) s (kids_of e) in
     let ks = with_child (λ k. with_below q k w) (kids_of e) found in record {

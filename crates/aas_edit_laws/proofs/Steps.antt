@@ -6,7 +6,7 @@ use Rattle.std.specs.List.{position_or_len}
 use Rattle.std.proofs.lemmas.Bool.{ltb-true, ltb-false}
 use Rattle.std.proofs.lemmas.List.Folds.{find_at, find-set}
 use Rattle.std.proofs.lemmas.List.Quantifiers.{position-Some}
-use Rattle.std.proofs.lemmas.Option.{slice_get_within, slice_get_past, get_or_from_slice_get}
+use Rattle.std.proofs.lemmas.Option.{slice_get_within, slice_get_past, get_or_from_slice_get, cond_some}
 use Rattle.std.proofs.lemmas.Slice.Eq.{bytes_eq-Decides}
 use Rattle.aas_model.specs.declared.element.Element.{Element}
 use Rattle.aas_model.specs.declared.path.PathStep.{PathStep}
@@ -60,14 +60,10 @@ by_child l s p ks = through (child_by l s ks) ∙ ap (option_and_then (element_b
 
 -- ---- names and places
 
-place_is : (i : ℕ) (b : Bool) (j : ℕ) → cond b (Some i) None ≡ Some j → i ≡ j
-place_is i true j e = cc
-place_is i false j e = absurd (cc)
-
 -- a step into a list is the place to which it leads
 at_place : (i : ℕ) (ks : List Element) (c : Child) → child_by true (Place i) ks ≡ Some c → i ≡ c.0
 unfolding place_of
-at_place i ks c is = place_is i (nat_lt i (length ks)) c.0 (child_by-there true (Place i) ks c is).0
+at_place i ks c is = (cond_some (nat_lt i (length ks)) i c.0 (child_by-there true (Place i) ks c is).0).1
 
 no_place : (i : ℕ) (ks : List Element) (c : Child) → child_by false (Place i) ks ≡ Some c → ⊥
 unfolding child_by place_of
@@ -89,7 +85,7 @@ first n ks c is =
     let i = position_or_len (is_named n) ks in
     let passes = (position-Some (is_named n) ks c.0 c.1 found.0).1 in record {
       there = found.1;
-      index = sym (place_is i (nat_lt i (length ks)) c.0 found.0);
+      index = sym (cond_some (nat_lt i (length ks)) i c.0 found.0).1;
       named = ap (is_named n) (sym (get_or_from_slice_get ks c.0 c.1 c.1 found.1)) ∙ passes;
     }
 

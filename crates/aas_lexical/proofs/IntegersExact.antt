@@ -2,7 +2,7 @@
 use Rattle.std.proofs.Common.{◌≡◌, ℕ, ◌==◌, ◌||◌, ◌&&◌, ◌<◌, ◌≤◌, ◌^◌, nat_lt, ◌↔◌, Decides, IsTrue, to_z, of_z, Bool, true, false, cond, drop, List, [], ◌∷◌, Some, None, refl, arith, FitsSigned, if◌then◌else◌}
 use Rattle.std.proofs.lemmas.Bool.Decides.{nat_tests, Decides-and}
 use Rattle.std.proofs.lemmas.Int.{ints, fits_signed_from_abs, to_z-of_z}
-use Rattle.std.proofs.lemmas.Bool.{ltb-true}
+use Rattle.std.proofs.lemmas.Bool.{ltb-true, and_parts}
 use Rattle.std.specs.Int.RustNames.{unsigned_abs}
 use lib.Signed.{le_z}
 use Rattle.std.specs.Prelude.{ℤ, pos, ◌≤ℤ◌}
@@ -12,7 +12,7 @@ use Rattle.std.specs.List.{list_all}
 use Rattle.std.specs.Str.Parse.{AllDigits, IsNumeral, starts_with_minus, without_leading_sign}
 use Rattle.aas_lexical_forms.specs.Form.{run}
 use Rattle.aas_lexical_forms.specs.Cut.{after_one, rest_or}
-use Rattle.aas_lexical_forms.proofs.Begin.{Stops, and_split}
+use Rattle.aas_lexical_forms.proofs.Begin.{Stops}
 use Rattle.aas_lexical_forms.proofs.Cuts.{Cuts-maybe_one, peel}
 use Rattle.aas_lexical.specs.Numbers.{is_sign, integer, integer_value, integer_from, integer_up_to, integer_between}
 use Rattle.aas_lexical.proofs.NumbersExact.{digits_no_sign}
@@ -31,11 +31,11 @@ all_digits (b ∷ t) h = rw (digit_in b h.0, all_digits t h.1) refl
 
 digits_all : (t : List ℕ) → list_all is_ascii_digit t ≡ true → AllDigits 10 t
 digits_all [] h = tt
-digits_all (b ∷ t) h = let s = and_split (is_ascii_digit b) (list_all is_ascii_digit t) h in (digit_below b s.0, digits_all t s.1)
+digits_all (b ∷ t) h = let s = and_parts (is_ascii_digit b) (list_all is_ascii_digit t) h in (digit_below b s.0, digits_all t s.1)
 
 numeral_run : (t : List ℕ) → IsNumeral 10 t → run is_ascii_digit t
 numeral_run [] h = let n = h.0 in absurd (omega arith)
-numeral_run (b ∷ t) h = and_split (is_ascii_digit b) (list_all is_ascii_digit t) (all_digits (b ∷ t) h.1)
+numeral_run (b ∷ t) h = and_parts (is_ascii_digit b) (list_all is_ascii_digit t) (all_digits (b ∷ t) h.1)
 
 run_numeral : (t : List ℕ) → run is_ascii_digit t → IsNumeral 10 t
 run_numeral [] h = absurd h

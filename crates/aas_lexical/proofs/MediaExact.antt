@@ -2,9 +2,10 @@
 use Rattle.std.proofs.Common.{◌≡◌, ℕ, ◌↔◌, ◌<◌, Bool, false, List, [], ◌∷◌, ◌++◌, length, Option, Some, None, refl, append_assoc, arith}
 use Rattle.std.proofs.lemmas.Bool.Decides.{nat_tests}
 use Rattle.std.specs.List.{list_all}
+use Rattle.std.proofs.lemmas.Bool.{and_parts}
 use Rattle.aas_lexical_forms.specs.Form.{lit, among, one, any, run, Many, ◌∣◌, ◌▸◌}
 use Rattle.aas_lexical_forms.specs.Cut.{after_one, cut_all, cut_either, first_of}
-use Rattle.aas_lexical_forms.proofs.Begin.{Stops, Apart, Apart-among, Apart-swap, Avoids, Avoids-one, Avoids-run, Avoids-lit, Avoids-then, Avoids-either, Needs-one, Needs-run, Needs-word, Needs-then, past_many, and_split}
+use Rattle.aas_lexical_forms.proofs.Begin.{Stops, Apart, Apart-among, Apart-swap, Avoids, Avoids-one, Avoids-run, Avoids-lit, Avoids-then, Avoids-either, Needs-one, Needs-run, Needs-word, Needs-then, past_many}
 use Rattle.aas_lexical_forms.proofs.Cuts.{Cuts, Anything, End, Cuts-lit, Cuts-one, Cuts-any, Cuts-run, Cuts-then, Cuts-next, Cuts-apart, Cuts-either, whole}
 use Rattle.aas_lexical_forms.proofs.Repeat.{Nonempty, Nonempty-one, Nonempty-lit, Nonempty-then, Nonempty-behind, Nonempty-either, Cuts-many, Shrinks, Shrinks-cut, cut_many_turn, cut_many_end}
 use Rattle.aas_lexical.specs.Media.{is_token_byte, is_space, is_printable, is_plain, is_lead, is_continuation, high, quoted_character, quoted, parameter, media_type}
@@ -99,7 +100,7 @@ parameter_cuts =
 
 spaces_past : (y z : List ℕ) → any is_space y → Stops is_token_byte z → Stops is_token_byte (y ++ z)
 spaces_past [] z h k = k
-spaces_past (b ∷ y) z h k = space_token b (and_split (is_space b) (list_all is_space y) h).0
+spaces_past (b ∷ y) z h k = space_token b (and_parts (is_space b) (list_all is_space y) h).0
 
 -- a parameter begins with a space or a semicolon, and so with no byte of a token
 parameter_avoids : (x z : List ℕ) → parameter x → Stops is_token_byte (x ++ z)

@@ -6,8 +6,8 @@ use Rattle.std.proofs.lemmas.Str.Ascii.{IsAscii-nil, IsAscii-cons}
 use Rattle.std.specs.Char.{is_ascii_alphabetic}
 use Rattle.std.specs.List.{list_all}
 use Rattle.std.specs.Str.{IsAscii, encode_utf8_all}
+use Rattle.std.proofs.lemmas.Bool.{and_parts}
 use Rattle.aas_lexical_forms.specs.Form.{one, any}
-use Rattle.aas_lexical_forms.proofs.Begin.{and_split}
 use Rattle.aas_lexical.specs.Names.{is_name_character, name}
 
 letter_ascii : (c : ℕ) → is_ascii_alphabetic c ≡ true → c < 128
@@ -18,7 +18,7 @@ character_ascii c h = grind (arith, nat_tests)
 
 characters_ascii : (n : List ℕ) → any is_name_character n → IsAscii n
 characters_ascii [] h = IsAscii-nil
-characters_ascii (c ∷ n) h = let s = and_split (is_name_character c) (list_all is_name_character n) h in IsAscii-cons c n (character_ascii c s.0) (characters_ascii n s.1)
+characters_ascii (c ∷ n) h = let s = and_parts (is_name_character c) (list_all is_name_character n) h in IsAscii-cons c n (character_ascii c s.0) (characters_ascii n s.1)
 
 parts_ascii : (n front back : List ℕ) → n ≡ front ++ back → one is_ascii_alphabetic front → any is_name_character back → IsAscii n
 parts_ascii n [] back whole first rest = absurd first

@@ -1,6 +1,6 @@
 -- How the texts of a form begin, and what a cut must find there to find anything.
-use Rattle.std.proofs.Common.{◌≡◌, ℕ, Bool, true, false, not, ◌==◌, ◌&&◌, ◌||◌, List, [], ◌∷◌, ◌++◌, Option, None, refl, ap, append_assoc, inl, inr, codes}
-use Rattle.std.proofs.lemmas.Bool.{not-true}
+use Rattle.std.proofs.Common.{◌≡◌, ℕ, Bool, true, false, not, ◌==◌, ◌||◌, List, [], ◌∷◌, ◌++◌, Option, None, refl, ap, append_assoc, inl, inr, codes}
+use Rattle.std.proofs.lemmas.Bool.{not-true, and_parts}
 use Rattle.std.proofs.lemmas.Bool.Decides.{Decides-eqb}
 use Rattle.std.specs.List.{list_all}
 use Rattle.std.specs.Option.{option_and_then}
@@ -26,10 +26,6 @@ pub record Avoids (A : List ℕ → Type 0) (class : ℕ → Bool) : Type 0 wher
 pub record Needs (class : ℕ → Bool) (p : List ℕ → Option (List ℕ)) : Type 0 where
   pub fails : (t : List ℕ) → Stops class t → p t ≡ None
 
-pub and_split : (a b : Bool) → (a && b) ≡ true → (a ≡ true) × (b ≡ true)
-and_split true b h = (refl, h)
-and_split false b h = absurd (cc)
-
 -- ---- classes that have no common byte
 
 of_among_by : (class : ℕ → Bool) (c b : ℕ) (v rest : Bool) → (b == c) ≡ v → (v || rest) ≡ true → class c ≡ true → (rest ≡ true → class b ≡ true) → class b ≡ true
@@ -39,9 +35,9 @@ of_among_by class c b false rest e h t k = k h
 -- what holds of each of these characters holds of a byte that is one of them
 pub of_among : (class : ℕ → Bool) (cs : List ℕ) (b : ℕ) → is_among cs b ≡ true → list_all class cs ≡ true → class b ≡ true
 of_among class [] b h k = absurd (cc)
-of_among class (c ∷ []) b h k = rw ((Decides-eqb b c).0 h) (and_split (class c) true k).0
+of_among class (c ∷ []) b h k = rw ((Decides-eqb b c).0 h) (and_parts (class c) true k).0
 of_among class (c ∷ d ∷ cs) b h k =
-    let s = and_split (class c) (list_all class (d ∷ cs)) k in
+    let s = and_parts (class c) (list_all class (d ∷ cs)) k in
     of_among_by class c b (b == c) (is_among (d ∷ cs) b) refl h s.0 (λ r. of_among class (d ∷ cs) b r s.1)
 
 -- none of these characters is in the class

@@ -3,9 +3,10 @@ use Rattle.std.proofs.Common.{IsTrue, ◌≡◌, ℕ, ◌==◌, Bool, true, fals
 use Rattle.std.proofs.lemmas.Bool.Decides.{Decides-eqb}
 use Rattle.std.specs.List.{list_all}
 use Rattle.std.specs.Option.{option_and_then, MatchOption}
+use Rattle.std.proofs.lemmas.Bool.{and_parts}
 use Rattle.aas_lexical_forms.specs.Form.{lit, one, any, run, maybe, ◌∣◌, ◌▸◌}
 use Rattle.aas_lexical_forms.specs.Cut.{after_word, after_lit, after_one, after_any, after_run, rest_or, first_of, cut_all, cut_then, cut_maybe, cut_either}
-use Rattle.aas_lexical_forms.proofs.Begin.{Stops, Avoids, Needs, Needs-one, and_split}
+use Rattle.aas_lexical_forms.proofs.Begin.{Stops, Avoids, Needs, Needs-one}
 use Prim.Native.String.{String}
 
 -- The cut finds something only behind a text of the form, and it takes each text of the form, wherever what follows is
@@ -71,7 +72,7 @@ any-sound class (b ∷ t) = any_by class b t (class b) refl (any-sound class t)
 any-full : (class : ℕ → Bool) (x rest : List ℕ) → any class x → Stops class rest → after_any class (x ++ rest) ≡ rest
 any-full class [] [] h k = refl
 any-full class [] (b ∷ rest) h k = rw k refl
-any-full class (b ∷ x) rest h k = let s = and_split (class b) (list_all class x) h in rw s.0 (any-full class x rest s.1 k)
+any-full class (b ∷ x) rest h k = let s = and_parts (class b) (list_all class x) h in rw s.0 (any-full class x rest s.1 k)
 
 any_some : (class : ℕ → Bool) (t rest : List ℕ) → Some (after_any class t) ≡ Some rest → (x : List ℕ) × (t ≡ x ++ rest) × any class x
 any_some class t rest e = let s = any-sound class t in let same : after_any class t ≡ rest = cc in (s.0, s.1 ∙ ap (λ (l : List ℕ). s.0 ++ l) same, s.2)

@@ -4,9 +4,9 @@ use Rattle.std.proofs.lemmas.Bool.Decides.{nat_tests}
 use Rattle.std.specs.Char.{is_ascii_digit, digit_value}
 use Rattle.std.specs.Option.{option_and_then}
 use Rattle.std.specs.Str.Parse.{digits_value}
+use Rattle.std.proofs.lemmas.Bool.{and_parts}
 use Rattle.aas_lexical_forms.specs.Form.{digits, such, ◌▸=◌}
 use Rattle.aas_lexical_forms.specs.Cut.{after_two_digits, after_four_digits, hundreds, cut_with, cut_such}
-use Rattle.aas_lexical_forms.proofs.Begin.{and_split}
 use Rattle.aas_lexical_forms.proofs.Cuts.{Cuts, Anything}
 
 -- p reads the numbers that the form writes, and nothing else, whatever follows
@@ -42,7 +42,7 @@ two-full : (v : ℕ) (x rest : List ℕ) → digits 2 v x → after_two_digits (
 two-full v [] rest h = let n = h.1 in absurd (omega arith)
 two-full v (a ∷ []) rest h = let n = h.1 in absurd (omega arith)
 two-full v (a ∷ b ∷ []) rest h =
-    let s = and_split (is_ascii_digit a) _ h.0 in let r = and_split (is_ascii_digit b) true s.1 in
+    let s = and_parts (is_ascii_digit a) _ h.0 in let r = and_parts (is_ascii_digit b) true s.1 in
     rw (s.0, r.0) (ap (λ n. Some (n, rest)) (pair_is a b s.0 r.0 ∙ sym h.2))
 two-full v (a ∷ b ∷ c ∷ x) rest h = let n = h.1 in absurd (omega arith)
 
@@ -64,8 +64,8 @@ join_pairs u w (a ∷ b ∷ []) [] h k = let n = k.1 in absurd (omega arith)
 join_pairs u w (a ∷ b ∷ []) (c ∷ []) h k = let n = k.1 in absurd (omega arith)
 join_pairs u w (a ∷ b ∷ []) (c ∷ d ∷ e ∷ y) h k = let n = k.1 in absurd (omega arith)
 join_pairs u w (a ∷ b ∷ []) (c ∷ d ∷ []) h k =
-    let s = and_split (is_ascii_digit a) _ h.0 in let r = and_split (is_ascii_digit b) true s.1 in
-    let p = and_split (is_ascii_digit c) _ k.0 in let q = and_split (is_ascii_digit d) true p.1 in
+    let s = and_parts (is_ascii_digit a) _ h.0 in let r = and_parts (is_ascii_digit b) true s.1 in
+    let p = and_parts (is_ascii_digit c) _ k.0 in let q = and_parts (is_ascii_digit d) true p.1 in
     (rw (s.0, r.0, p.0, q.0) refl, refl, rw (h.2, k.2) (four_is a b c d s.0 r.0 p.0 q.0))
 
 four_last : (t : List ℕ) (u v : ℕ) (mid rest : List ℕ) (o : Option (ℕ × List ℕ)) → (x : List ℕ) × (t ≡ x ++ mid) × digits 2 u x → after_two_digits mid ≡ o
@@ -91,8 +91,8 @@ four-full v (a ∷ []) rest h = let n = h.1 in absurd (omega arith)
 four-full v (a ∷ b ∷ []) rest h = let n = h.1 in absurd (omega arith)
 four-full v (a ∷ b ∷ c ∷ []) rest h = let n = h.1 in absurd (omega arith)
 four-full v (a ∷ b ∷ c ∷ d ∷ []) rest h =
-    let s = and_split (is_ascii_digit a) _ h.0 in let r = and_split (is_ascii_digit b) _ s.1 in
-    let p = and_split (is_ascii_digit c) _ r.1 in let q = and_split (is_ascii_digit d) true p.1 in
+    let s = and_parts (is_ascii_digit a) _ h.0 in let r = and_parts (is_ascii_digit b) _ s.1 in
+    let p = and_parts (is_ascii_digit c) _ r.1 in let q = and_parts (is_ascii_digit d) true p.1 in
     rw (s.0, r.0, p.0, q.0) (ap (λ n. Some (n, rest)) (ap (λ n. n * 100 + ((c - 48) * 10 + (d - 48))) (pair_is a b s.0 r.0) ∙ ap (λ n. digits_value 10 (a ∷ b ∷ []) * 100 + n) (pair_is c d p.0 q.0) ∙ four_is a b c d s.0 r.0 p.0 q.0 ∙ sym h.2))
 four-full v (a ∷ b ∷ c ∷ d ∷ e ∷ x) rest h = let n = h.1 in absurd (omega arith)
 

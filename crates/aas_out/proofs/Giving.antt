@@ -7,13 +7,11 @@ use Rattle.aas_outside.specs.Link.{GivesFront}
 use Rattle.aas_out.specs.Told.{Grows}
 use Rattle.std.specs.declared.result.Result.{Result}
 use Rattle.std.specs.Prelude.{Ok, Err, OnOk}
+use Rattle.std.proofs.lemmas.Option.{same_Some}
 use Rattle.aas_out.specs.Held.{held_by, HoldsNothing}
 use Rattle.aas_out.specs.declared.buffered.BufferOut.{BufferOut}
 use Rattle.aas_out.proofs.Adding.{append_known-nil, grows_both}
 use Rattle.aas_out.proofs.Putting.{emptied, nothing_held}
-
-same_bytes : (a b : List ℕ) → Some a ≡ Some b → a ≡ b
-same_bytes a b e = cc
 
 -- a front of what was put is given
 front_given : (old new : Option (List ℕ)) (held front rest text : List ℕ) → text ≡ front ++ rest → append_known new held ≡ append_known old front → Grows old new → GivesFront old new text
@@ -21,7 +19,7 @@ front_given None new held front rest text parts put grows = (0, omega arith, gro
 front_given (Some b) new held front rest text parts put grows =
     let more : List ℕ = grows.0 in
     let now : Some ((b ++ more) ++ held) ≡ Some (b ++ front) = ap (λ k. append_known k held) (sym grows.1) ∙ put in
-    let is : more ++ held ≡ front = append_cancel_left b (more ++ held) front (sym (append_assoc b more held) ∙ same_bytes ((b ++ more) ++ held) (b ++ front) now) in
+    let is : more ++ held ≡ front = append_cancel_left b (more ++ held) front (sym (append_assoc b more held) ∙ same_Some ((b ++ more) ++ held) (b ++ front) now) in
     let whole : text ≡ more ++ (held ++ rest) = parts ∙ ap (λ t. t ++ rest) (sym is) ∙ append_assoc more held rest in
     let long : length text ≡ length more + length (held ++ rest) = ap length whole ∙ length-append more (held ++ rest) in
     (length more, omega (arith, long), grows.1 ∙ ap (λ t. Some (b ++ t)) (sym (ap (take (length more)) whole ∙ take-append_seam more (held ++ rest))))

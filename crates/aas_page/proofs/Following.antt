@@ -10,9 +10,10 @@ use Rattle.std.specs.declared.cmp.Ordering.TheVariants.{Less, Equal, Greater}
 use Rattle.std.specs.FinMap as fin
 use Rattle.std.proofs.lemmas.Cmp.{nat_list_cmp_total, tied_itself}
 use Rattle.std.proofs.lemmas.List.Elements.{Contains-append_right}
+use Rattle.std.proofs.lemmas.Option.{same_Some}
 use Rattle.aas_store.specs.Documents.{Identifier, Map, first_above, is_above}
 use Rattle.aas_store.proofs.Above.{above_both}
-use Rattle.aas_store.proofs.Ordered.{order, greater, head_below, same_id, same_some, tail}
+use Rattle.aas_store.proofs.Ordered.{order, greater, head_below, same_id, tail}
 use Rattle.aas_page.specs.Pages.{left_after}
 use Rattle.aas_page.specs.Walks.{Rise}
 
@@ -43,7 +44,7 @@ found_entry {X = X} p (e ∷ es) id is = by (p e.0) (found_entry p es id) is
     Found es = (j : ℕ) × (x : X) × (slice_get es j ≡ Some (id, x))
 
     by : (b : Bool) → (find p (ids_of es) ≡ Some id → Found es) → cond b (Some e.0) (find p (ids_of es)) ≡ Some id → Found (e ∷ es)
-    by true rest is = (zero, e.1, ap (λ id. Some (id, e.1)) (same_some e.0 id is))
+    by true rest is = (zero, e.1, ap (λ id. Some (id, e.1)) (same_Some e.0 id is))
     by false rest is = let there = rest is in (suc there.0, there.1, there.2)
 
 module _ {X : Type 0} (passes : X → Bool) where
@@ -128,7 +129,7 @@ module _ {X : Type 0} (passes : X → Bool) where
     where
       by : (b : Bool) → is_above after e.0 ≡ b → (first_above after (ids_of es) ≡ Some id → GoesOn after id es)
           → cond b (Some e.0) (first_above after (ids_of es)) ≡ Some id → GoesOn after id (e ∷ es)
-      by true above rest is = subst (λ id. GoesOn after id (e ∷ es)) (same_some e.0 id is) (next_is_first after e es sorted above)
+      by true above rest is = subst (λ id. GoesOn after id (e ∷ es)) (same_Some e.0 id is) (next_is_first after e es sorted above)
       by false below rest is =
           let there = found_entry (is_above after) es id is in
           next_is_later after id e es below (head_below e (id, there.1) es there.0 sorted there.2) (rest is)
@@ -178,6 +179,6 @@ module _ {X : Type 0} (passes : X → Bool) where
           let own : id ≡ e.0 = same_id id e.0 same in
           let more = following after es in
           subst (λ ids. Contains ids id) (sym (looked_at after e es (subst (λ id. is_above after id ≡ true) own above)))
-          (subst (λ b. Contains (cond b (e.0 ∷ more) more) id) (sym (ap passes (same_some e.1 x is) ∙ pass))
+          (subst (λ b. Contains (cond b (e.0 ∷ more) more) id) (sym (ap passes (same_Some e.1 x is) ∙ pass))
           (subst (λ id. Contains (e.0 ∷ more) id) (sym own) (contains_first e.0 more)))
       by Greater more rest is = later (rest is)

@@ -7,8 +7,8 @@ use Rattle.std.proofs.lemmas.List.{take-append-drop, take-take, take_rest, lengt
 use Rattle.std.specs.Char.{is_ascii_alphabetic, is_ascii_alphanumeric}
 use Rattle.std.specs.List.{list_all}
 use Rattle.std.specs.Str.{encode_utf8_all}
+use Rattle.std.proofs.lemmas.Bool.{and_parts}
 use Rattle.aas_lexical_forms.specs.Form.{one, any, ◌▸◌}
-use Rattle.aas_lexical_forms.proofs.Begin.{and_split}
 use Rattle.aas_model.specs.declared.path.PathStep.{PathStep}
 use Rattle.aas_model.specs.declared.path.PathStep.TheVariants.{Name, Place}
 use Rattle.aas_path.specs.PathText.{step_text}
@@ -54,7 +54,7 @@ name_from n h = name_by n h.0.0 h.0.1 h.0.2 h.0.3 h.0.4 h.1
 
 pub name_to : (n : List ℕ) → IsName n → id_short n
 name_to [] h = absurd h.begins
-name_to (c ∷ n) h = ((c ∷ [], n, refl, (h.begins, refl), (and_split (is_name_character c) (list_all is_name_character n) h.all).1), h.short)
+name_to (c ∷ n) h = ((c ∷ [], n, refl, (h.begins, refl), (and_parts (is_name_character c) (list_all is_name_character n) h.all).1), h.short)
 
 -- ---- a step by name, behind its dot
 
@@ -121,7 +121,7 @@ begins_take (suc k) (c ∷ text) some b = b
 all_take : (class : ℕ → Bool) (k : ℕ) (text : List ℕ) → any class text → any class (take k text)
 all_take class zero text a = refl
 all_take class (suc k) [] a = refl
-all_take class (suc k) (c ∷ text) a = let s = and_split (class c) (list_all class text) a in ap (λ b. b && list_all class (take k text)) s.0 ∙ all_take class k text s.1
+all_take class (suc k) (c ∷ text) a = let s = and_parts (class c) (list_all class text) a in ap (λ b. b && list_all class (take k text)) s.0 ∙ all_take class k text s.1
 
 -- the front of a front
 pub front_of : (class : ℕ → Bool) (text : List ℕ) (n k : ℕ) → IsRun class text n → k ≤ n → any class (take k text)

@@ -2,9 +2,9 @@
 use Rattle.std.proofs.Common.{◌≡◌, ℕ, zero, suc, ◌+◌, ◌-◌, ◌≤◌, Bool, true, false, ◌&&◌, List, [], ◌∷◌, ◌++◌, length, take, drop, Some, refl, sym, ap, ◌∙◌, subst, arith, length-append, if◌then◌else◌}
 use Rattle.std.specs.List.{list_all}
 use Rattle.std.proofs.lemmas.List.{drop_at, take_at}
+use Rattle.std.proofs.lemmas.Bool.{and_parts}
 use Rattle.aas_lexical_forms.specs.Cut.{after_any}
 use Rattle.aas_lexical_forms.specs.Form.{any}
-use Rattle.aas_lexical_forms.proofs.Begin.{and_split}
 use Rattle.aas_lexical_forms.proofs.Cuts.{Cuts-any}
 use Rattle.aas_path.specs.Runs.{Stops, IsRun}
 
@@ -40,27 +40,27 @@ shorter class text = let s = split class text in omega (arith, ap length s.1, le
 pub front_no_longer : (class : ℕ → Bool) (x m y z : List ℕ) → any class x → any class m → Stops class z → x ++ y ≡ m ++ z → length x ≤ length m
 front_no_longer class [] m y z a b stop e = omega arith
 front_no_longer class (c ∷ x) [] y z a b stop e =
-    let in_class : class c ≡ true = (and_split (class c) (list_all class x) a).0 in
+    let in_class : class c ≡ true = (and_parts (class c) (list_all class x) a).0 in
     let not : Stops class (c ∷ (x ++ y)) = subst (Stops class) (sym e) stop in
     absurd (cc)
 front_no_longer class (c ∷ x) (d ∷ m) y z a b stop e =
     let more : x ++ y ≡ m ++ z = cc in
-    omega (arith, front_no_longer class x m y z (and_split (class c) (list_all class x) a).1 (and_split (class d) (list_all class m) b).1 stop more)
+    omega (arith, front_no_longer class x m y z (and_parts (class c) (list_all class x) a).1 (and_parts (class d) (list_all class m) b).1 stop more)
 
 -- where both are stopped, they are the same
 pub same_front : (class : ℕ → Bool) (x m y z : List ℕ) → any class x → any class m → Stops class y → Stops class z → x ++ y ≡ m ++ z → (x ≡ m) × (y ≡ z)
 same_front class [] [] y z a b p q e = (refl, e)
 same_front class [] (d ∷ m) y z a b p q e =
-    let in_class : class d ≡ true = (and_split (class d) (list_all class m) b).0 in
+    let in_class : class d ≡ true = (and_parts (class d) (list_all class m) b).0 in
     let not : Stops class (d ∷ (m ++ z)) = subst (Stops class) e p in
     absurd (cc)
 same_front class (c ∷ x) [] y z a b p q e =
-    let in_class : class c ≡ true = (and_split (class c) (list_all class x) a).0 in
+    let in_class : class c ≡ true = (and_parts (class c) (list_all class x) a).0 in
     let not : Stops class (c ∷ (x ++ y)) = subst (Stops class) (sym e) q in
     absurd (cc)
 same_front class (c ∷ x) (d ∷ m) y z a b p q e =
     let first : c ≡ d = cc in
     let more : x ++ y ≡ m ++ z = cc in
-    let rest = same_front class x m y z (and_split (class c) (list_all class x) a).1 (and_split (class d) (list_all class m) b).1 p q more in
+    let rest = same_front class x m y z (and_parts (class c) (list_all class x) a).1 (and_parts (class d) (list_all class m) b).1 p q more in
     let front : x ≡ m = rest.0 in
     (λ i. first i ∷ front i, rest.1)

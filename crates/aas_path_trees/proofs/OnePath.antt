@@ -4,7 +4,7 @@ use Rattle.std.specs.List.{AllByRecursion, position_or_len}
 use Rattle.std.proofs.lemmas.Bool.Decides.{Decides-ltb}
 use Rattle.std.proofs.lemmas.List.Quantifiers.{position-Some}
 use Rattle.std.proofs.lemmas.List.Sums.{position_or_len_is}
-use Rattle.std.proofs.lemmas.Option.{slice_get_within, get_or_from_slice_get, slice_get-get_or}
+use Rattle.std.proofs.lemmas.Option.{slice_get_within, get_or_from_slice_get, slice_get-get_or, cond_some}
 use Rattle.std.proofs.lemmas.Slice.Eq.{bytes_eq-Decides}
 use Rattle.aas_model.specs.declared.documents.Submodel.{Submodel}
 use Rattle.aas_model.specs.declared.element.Element.{Element}
@@ -55,14 +55,10 @@ abbrev Fit : Bool → PathStep → Child → Type 0
 Fit true s c = s ≡ Place c.0
 Fit false s c = (n : List ℕ) × (s ≡ Name n) × (id_short_of c.1 ≡ Some n)
 
-within_is : (i j : ℕ) (b : Bool) → (if b then Some i else None) ≡ Some j → i ≡ j
-within_is i j true e = cc
-within_is i j false e = absurd (cc)
-
 fit : (l : Bool) (s : PathStep) (ks : List Element) (c : Child) → place_of l s ks ≡ Some c.0 → slice_get ks c.0 ≡ Some c.1 → Fit l s c
 unfolding place_of
 fit true (Name n) ks c e there = absurd (cc)
-fit true (Place i) ks c e there = ap (λ (j : ℕ). Place j) (within_is i c.0 (nat_lt i (length ks)) e)
+fit true (Place i) ks c e there = ap (λ (j : ℕ). Place j) (cond_some (nat_lt i (length ks)) i c.0 e).1
 fit false (Name n) ks c e there =
     let found = position-Some (λ k. is_text n (id_short_of k)) ks c.0 c.1 e in
     let here : get_or ks c.0 c.1 ≡ c.1 = get_or_from_slice_get ks c.0 c.1 c.1 there in

@@ -1,11 +1,11 @@
 -- The rows of trees give the texts of the trees.
-use Rattle.std.proofs.Common.{◌≡◌, ℕ, ◌+◌, ◌<◌, nat_lt, Bool, true, false, List, [], ◌∷◌, ◌++◌, map, refl, sym, ap, ap₂, ◌∙◌, append_assoc, arith, if◌then◌else◌}
+use Rattle.std.proofs.Common.{◌≡◌, ℕ, ◌+◌, ◌<◌, nat_lt, Bool, true, false, List, [], ◌∷◌, ◌++◌, map, refl, sym, ap, ap₂, ◌∙◌, append_assoc, arith, if◌then◌else◌, le-ltb, lt-ltb}
 use Rattle.std.proofs.lemmas.List.{append-nil}
 use Rattle.std.proofs.lemmas.Bool.Decides.{Decides-ltb}
 use Rattle.aas_model.specs.declared.element.Element.{Element, fold-Element, fold_out-Element}
 use Rattle.aas_path_trees.specs.Children.{kids_of}
 use Rattle.aas_rows.specs.Rows.{Line, line_at, rows, rows_of_all, BeginsRows}
-use Rattle.aas_rows.proofs.Trees.{rows_out, Every, by_kids, every, rows_begin, not_lt, is_lt}
+use Rattle.aas_rows.proofs.Trees.{rows_out, Every, by_kids, every, rows_begin}
 use Rattle.aas_members_text.specs.Script.{Spoken, element_text}
 use Rattle.aas_members_text.specs.Texts.{Leveled, spoken, spoken_over}
 use Rattle.aas_members_text.specs.declared.members.Show.{Show}
@@ -57,12 +57,12 @@ spoken_out w e k =
 
 here_line : (w : Show) (r : Line) (rs : List Line) (k : ℕ) → r.level ≡ k + 1 → voices w k (r ∷ rs) ≡ record { role = r.role; text = element_text w r (voices w r.level rs) } ∷ voices w k rs
 here_line w r rs k at =
-    pick (nat_lt k r.level) (if nat_lt (k + 1) r.level then voices w k rs else record { role = r.role; text = element_text w r (voices w r.level rs) } ∷ voices w k rs) [] (is_lt k r.level (omega (arith, at)))
-    ∙ pick_not (nat_lt (k + 1) r.level) (voices w k rs) (record { role = r.role; text = element_text w r (voices w r.level rs) } ∷ voices w k rs) (not_lt (k + 1) r.level (omega (arith, at)))
+    pick (nat_lt k r.level) (if nat_lt (k + 1) r.level then voices w k rs else record { role = r.role; text = element_text w r (voices w r.level rs) } ∷ voices w k rs) [] (lt-ltb k r.level (omega (arith, at)))
+    ∙ pick_not (nat_lt (k + 1) r.level) (voices w k rs) (record { role = r.role; text = element_text w r (voices w r.level rs) } ∷ voices w k rs) (le-ltb (k + 1) r.level (omega (arith, at)))
 
 no_more : (w : Show) (k : ℕ) (rest : List Line) → BeginsRows k rest → voices w k rest ≡ []
 no_more w k [] h = refl
-no_more w k (r ∷ rs) h = pick_not (nat_lt k r.level) (if nat_lt (k + 1) r.level then voices w k rs else record { role = r.role; text = element_text w r (voices w r.level rs) } ∷ voices w k rs) [] (not_lt k r.level h)
+no_more w k (r ∷ rs) h = pick_not (nat_lt k r.level) (if nat_lt (k + 1) r.level then voices w k rs else record { role = r.role; text = element_text w r (voices w r.level rs) } ∷ voices w k rs) [] (le-ltb k r.level h)
 
 pub Speaks : Show → Element → Type 0
 Speaks w e = (k : ℕ) (rest : List Line) → BeginsRows (k + 1) rest → voices w k (rows e (k + 1) ++ rest) ≡ spoken w e (k + 1) ∷ voices w k rest

@@ -1,6 +1,6 @@
 -- What the test of sameness tells.
-use Rattle.std.proofs.Common.{◌≡◌, ℕ, ◌&&◌, List, [], ◌∷◌, length, Bool, true, false, bytes_eq, refl, sym, ap, ap₂, true≢false, arith}
-use Rattle.std.proofs.lemmas.Bool.{and_from}
+use Rattle.std.proofs.Common.{◌≡◌, ℕ, ◌&&◌, List, [], ◌∷◌, length, false, bytes_eq, refl, sym, ap, ap₂, true≢false, arith}
+use Rattle.std.proofs.lemmas.Bool.{and_from, and_right as and_false}
 use Rattle.std.specs.Bool.{Decides}
 use Rattle.std.specs.List.{list_all, zip}
 use Rattle.std.proofs.lemmas.Slice.Eq.{bytes_eq-Decides}
@@ -20,15 +20,11 @@ same_keys_zip [] (b ∷ bs) e = absurd (omega arith)
 same_keys_zip (a ∷ as_) [] e = absurd (omega arith)
 same_keys_zip (a ∷ as_) (b ∷ bs) e = ap (λ x. same_key a b && x) (same_keys_zip as_ bs (omega arith))
 
-both_false : (a b : Bool) → b ≡ false → a && b ≡ false
-both_false true b e = e
-both_false false b e = refl
-
 pub same_keys_other : (as_ bs : List Key) → (length as_ ≡ length bs → ⊥) → same_keys as_ bs ≡ false
 same_keys_other [] [] e = absurd (e refl)
 same_keys_other [] (b ∷ bs) e = refl
 same_keys_other (a ∷ as_) [] e = refl
-same_keys_other (a ∷ as_) (b ∷ bs) e = both_false (same_key a b) (same_keys as_ bs) (same_keys_other as_ bs (λ h. e (omega arith)))
+same_keys_other (a ∷ as_) (b ∷ bs) e = and_false (same_key a b) (same_keys as_ bs) (same_keys_other as_ bs (λ h. e (omega arith)))
 
 -- ---- what the tests tell
 

@@ -1,7 +1,6 @@
 -- What an accepted change comes to.
-use Rattle.std.proofs.Common.{◌≡◌, ℕ, ◌<◌, ◌≤◌, length, Bool, true, false, List, [], ◌∷◌, Option, Some, None, refl, sym, ap, ap₂, ◌∙◌, subst, arith}
-use Rattle.std.proofs.lemmas.Bool.Decides.{nat_tests}
-use Rattle.std.specs.Prelude.{◌≢◌, IfSome, MatchOption, nat_lt, option_map}
+use Rattle.std.proofs.Common.{◌≡◌, ℕ, ◌<◌, ◌≤◌, length, Bool, true, false, List, [], ◌∷◌, Option, Some, None, refl, sym, ap, ap₂, ◌∙◌, subst, arith, ltb-false}
+use Rattle.std.specs.Prelude.{◌≢◌, IfSome, MatchOption, option_map}
 use Rattle.std.specs.FinMap as map
 use Rattle.std.specs.Option.{option_map_or}
 use Rattle.std.specs.Str.{encode_utf8_all}
@@ -30,15 +29,12 @@ use Rattle.aas_repo.specs.declared.decision.Decision.TheVariants as decision
 
 -- ---- in valid documents
 
-not_above : (n : ℕ) → nat_lt 65536 n ≡ false → n ≤ 65536
-not_above n e = grind (arith, nat_tests)
-
 pub few_elements : (d : Documents) (id : List ℕ) → AreValid d → IfSome (map.get d.submodels id) (λ s. element_count s ≤ 65536)
 few_elements d id valid = by_submodel (map.get d.submodels id) refl
   where
     by_submodel : (found : Option Submodel) → map.get d.submodels id ≡ found → IfSome found (λ s. element_count s ≤ 65536)
     by_submodel None is = tt
-    by_submodel (Some s) is = not_above (element_count s) (valid.submodels id s is).few
+    by_submodel (Some s) is = ltb-false 65536 (element_count s) (valid.submodels id s is).few
 
 -- what holds of the submodel of an identifier, by its bytes
 pub holds_at : (d : Documents) (id bytes : List ℕ) (P : Submodel → Type 0) → bytes ≡ id → Holds d id P → Holds d bytes P

@@ -2,7 +2,7 @@
 use Rattle.std.proofs.Common.{◌≡◌, inl, inr, ℕ, zero, suc, ◌+◌, ◌<◌, Bool, true, false, List, [], ◌∷◌, ◌++◌, Some, None, refl, sym, ◌∙◌, subst, length, take, get_or, arith}
 use Rattle.std.proofs.lemmas.Bool.{cases_order}
 use Rattle.std.proofs.lemmas.List.{take-take, take_more}
-use Rattle.std.proofs.lemmas.Option.{get_or_from_slice_get, slice_get_within}
+use Rattle.std.proofs.lemmas.Option.{get_or_from_slice_get, slice_get_within, same_Some}
 use Rattle.std.specs.Prelude.{flat_map, slice_get}
 use Rattle.aas_command.specs.Commands.{IsWellFormed, payload_of}
 use Rattle.aas_command.specs.Encoding.{HasFields}
@@ -76,9 +76,6 @@ record Reached (old : Documents) (payloads : List (List ℕ)) (n : ℕ) (payload
   next : Documents
   adds : Adds mid payload next
 
-same_some : (a b : List ℕ) → Some a ≡ Some b → a ≡ b
-same_some a b e = cc
-
 reached : (old : Documents) (payloads : List (List ℕ)) (n : ℕ) (payload : List ℕ) (d : Documents) → ReplaysFrom old payloads d
     → slice_get payloads n ≡ Some payload → Reached old payloads n payload
 reached old [] n payload d is e = absurd (cc)
@@ -86,7 +83,7 @@ reached old (first ∷ payloads) zero payload d (next, made, rest) e = record {
   mid = old;
   before = refl;
   next = next;
-  adds = subst (λ (x : List ℕ). Adds old x next) (same_some first payload e) made;
+  adds = subst (λ (x : List ℕ). Adds old x next) (same_Some first payload e) made;
 }
 reached old (first ∷ payloads) (suc n) payload d (next, made, rest) e =
     let at = reached next payloads n payload d rest e in

@@ -6,7 +6,7 @@ use Rattle.std.specs.List.{position}
 use Rattle.std.specs.Option.{option_map_or}
 use Rattle.std.specs.Str.{encode_utf8_all}
 use Rattle.std.proofs.lemmas.List.Quantifiers.{position-Some}
-use Rattle.std.proofs.lemmas.Option.{get_or_from_slice_get, slice_get_within}
+use Rattle.std.proofs.lemmas.Option.{get_or_from_slice_get, slice_get_within, cond_some}
 use Rattle.std.proofs.lemmas.Slice.Eq.{bytes_eq-Decides}
 use Rattle.aas_form.specs.ReferenceTo.{element_key, key_type_of, key_value, keys_in, model_reference, reference_to, shell_reference, submodel_key}
 use Rattle.aas_model.specs.Element.{kind_of}
@@ -78,10 +78,6 @@ list_kind (payload.SubmodelElementList _ _ _ _) = refl
 
 -- ---- the key of a child spells the step to it
 
-within_is : (i j : ℕ) (b : Bool) → cond b (Some i) None ≡ Some j → i ≡ j
-within_is i j true e = cc
-within_is i j false e = absurd (cc)
-
 has_name : (n : List ℕ) (o : Option (List ℕ)) → is_text n o ≡ true → unwrap_or o [] ≡ n
 has_name n None e = absurd (cc)
 has_name n (Some m) e = (bytes_eq-Decides m n).0 e
@@ -91,7 +87,7 @@ spells : (l : Bool) (s : PathStep) (ks : List Element) (c : ℕ × Element) → 
 unfolding place_of
 spells true (Name n) ks c small at there = absurd (cc)
 spells true (Place i) ks c small at there =
-    ap (option_map (λ n. Place n)) (number_decimal c.0 small) ∙ ap (λ n. Some (Place n)) (sym (within_is i c.0 (nat_lt i (length ks)) at))
+    ap (option_map (λ n. Place n)) (number_decimal c.0 small) ∙ ap (λ n. Some (Place n)) (sym (cond_some (nat_lt i (length ks)) i c.0 at).1)
 spells false (Name n) ks c small at there =
     let found = position-Some (λ k. is_text n (id_short_of k)) ks c.0 c.1 at in
     let here : get_or ks c.0 c.1 ≡ c.1 = get_or_from_slice_get ks c.0 c.1 c.1 there in

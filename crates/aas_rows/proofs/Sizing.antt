@@ -1,9 +1,9 @@
 -- The sizes of rows are those of their elements with all below them.
-use Rattle.std.proofs.Common.{◌≡◌, ℕ, zero, suc, ◌+◌, ◌<◌, ◌≤◌, Bool, true, false, nat_lt, List, [], ◌∷◌, ◌++◌, length, Some, slice_get, refl, ap, ◌∙◌, append_assoc, arith, length-append, if◌then◌else◌}
+use Rattle.std.proofs.Common.{◌≡◌, ℕ, zero, suc, ◌+◌, ◌<◌, ◌≤◌, Bool, true, false, nat_lt, List, [], ◌∷◌, ◌++◌, length, Some, slice_get, refl, ap, ◌∙◌, append_assoc, arith, length-append, if◌then◌else◌, le-ltb, lt-ltb}
 use Rattle.aas_model.specs.declared.element.Element.{Element}
 use Rattle.aas_path_trees.specs.Children.{kids_of}
 use Rattle.aas_rows.specs.Rows.{Line, rows, rows_of_all, levels_of, count_deeper, sizes, BeginsRows}
-use Rattle.aas_rows.proofs.Trees.{rows_out, Every, by_kids, every, is_lt, not_lt}
+use Rattle.aas_rows.proofs.Trees.{rows_out, Every, by_kids, every}
 
 Counted : Element → Type 0
 Counted e = (k j : ℕ) (rest : List Line) → k < j → count_deeper k (levels_of (rows e j ++ rest)) ≡ length (rows e j) + count_deeper k (levels_of rest)
@@ -24,12 +24,12 @@ counted e h k j rest lt =
     let kid_rows : List Line = rows_of_all (kids_of e) (j + 1) in
     let long : length (rows e j) ≡ suc (length kid_rows) = ap length (rows_out e j) in
     let own : count_deeper k (levels_of (rows e j ++ rest)) ≡ 1 + count_deeper k (levels_of (kid_rows ++ rest)) =
-    ap (λ rs. count_deeper k (levels_of (rs ++ rest))) (rows_out e j) ∙ ap (λ b. if b then 1 + count_deeper k (levels_of (kid_rows ++ rest)) else 0) (is_lt k j lt) in
+    ap (λ rs. count_deeper k (levels_of (rs ++ rest))) (rows_out e j) ∙ ap (λ b. if b then 1 + count_deeper k (levels_of (kid_rows ++ rest)) else 0) (lt-ltb k j lt) in
     omega (arith, below, long, own)
 
 none_deeper : (k : ℕ) (rest : List Line) → BeginsRows k rest → count_deeper k (levels_of rest) ≡ 0
 none_deeper k [] h = refl
-none_deeper k (r ∷ rest) h = ap (λ b. if b then 1 + count_deeper k (levels_of rest) else 0) (not_lt k r.level h)
+none_deeper k (r ∷ rest) h = ap (λ b. if b then 1 + count_deeper k (levels_of rest) else 0) (le-ltb k r.level h)
 
 -- the size at the first row of an element
 pub size_first : (e : Element) (k : ℕ) (rest : List Line) → BeginsRows k rest → slice_get (sizes (levels_of (rows e k ++ rest))) 0 ≡ Some (length (rows e k))

@@ -1,5 +1,5 @@
 -- A step leads to the row of the child to which it leads.
-use Rattle.std.proofs.Common.{◌≡◌, ℕ, zero, suc, ◌+◌, ◌<◌, ◌≤◌, Bool, true, false, ◌==◌, ◌&&◌, cond, not, nat_lt, List, [], ◌∷◌, ◌++◌, length, take, Option, Some, None, option_and_then, option_map, slice_get, refl, sym, ap, ◌∙◌, append_assoc, arith, length-append, if◌then◌else◌}
+use Rattle.std.proofs.Common.{◌≡◌, ℕ, zero, suc, ◌+◌, ◌<◌, ◌≤◌, Bool, true, false, ◌==◌, ◌&&◌, cond, not, nat_lt, List, [], ◌∷◌, ◌++◌, length, take, Option, Some, None, option_and_then, option_map, slice_get, refl, sym, ap, ◌∙◌, append_assoc, arith, length-append, if◌then◌else◌, le-ltb, lt-ltb}
 use Rattle.std.specs.List.{position, position_or_len}
 use Rattle.std.proofs.lemmas.Bool.Decides.{Decides-eqb, Decides-ltb}
 use Rattle.std.proofs.lemmas.Bool.{ltb-false}
@@ -13,7 +13,7 @@ use Rattle.aas_path_trees.proofs.Patches.{kinds_out}
 use Rattle.aas_rows.specs.Children.{nth_where, is_at, is_named, ChildRows}
 use Rattle.aas_rows.specs.Edits.{count}
 use Rattle.aas_rows.specs.Rows.{Line, line_at, rows, rows_of_all}
-use Rattle.aas_rows.proofs.Trees.{rows_out, Every, by_kids, every, is_lt, not_lt}
+use Rattle.aas_rows.proofs.Trees.{rows_out, Every, by_kids, every}
 use Rattle.aas_rows.proofs.Edited.{count_at}
 
 -- the place of the first that passes, step by step
@@ -161,16 +161,16 @@ lt_suc : (m n : ℕ) → nat_lt (suc m) (suc n) ≡ nat_lt m n
 lt_suc m n = by (nat_lt m n) refl
   where
     by : (b : Bool) → nat_lt m n ≡ b → nat_lt (suc m) (suc n) ≡ nat_lt m n
-    by true e = let lt : m < n = (Decides-ltb m n).0 e in is_lt (suc m) (suc n) (omega arith) ∙ sym e
-    by false e = let le : n ≤ m = ltb-false m n e in not_lt (suc m) (suc n) (omega arith) ∙ sym e
+    by true e = let lt : m < n = (Decides-ltb m n).0 e in lt-ltb (suc m) (suc n) (omega arith) ∙ sym e
+    by false e = let le : n ≤ m = ltb-false m n e in le-ltb (suc m) (suc n) (omega arith) ∙ sym e
 
 one_up : (m n : ℕ) (b : Bool) → option_map (λ i. i + 1) (if b then Some m else None) ≡ (if b then Some (suc m) else None)
 one_up m n true = ap (λ n. Some n) (omega arith)
 one_up m n false = refl
 
 within_place : (n : ℕ) (ks : List Element) → within n ks ≡ place_within n ks
-within_place n [] = sym (ap (λ b. if b then Some n else None) (not_lt n 0 (omega arith)))
-within_place zero (k ∷ ks) = sym (ap (λ b. if b then Some 0 else None) (is_lt 0 (suc (length ks)) (omega arith)))
+within_place n [] = sym (ap (λ b. if b then Some n else None) (le-ltb n 0 (omega arith)))
+within_place zero (k ∷ ks) = sym (ap (λ b. if b then Some 0 else None) (lt-ltb 0 (suc (length ks)) (omega arith)))
 within_place (suc n) (k ∷ ks) =
     ap (option_map (λ i. i + 1)) (within_place n ks) ∙ one_up n (length ks) (nat_lt n (length ks)) ∙ ap (λ b. if b then Some (suc n) else None) (sym (lt_suc n (length ks)))
 
@@ -179,7 +179,7 @@ at_end m n = cond (nat_lt m n) (Some m) None
 
 position_by : {X : Type 0} (p : X → Bool) (x : X) (xs : List X) (b : Bool) → first_where p xs ≡ position p xs
     → (if b then Some 0 else option_map (λ i. i + 1) (first_where p xs)) ≡ at_end (cond (not b) (1 + position_or_len p xs) 0) (suc (length xs))
-position_by p x xs true ih = sym (ap (λ b. cond b (Some 0) None) (is_lt 0 (suc (length xs)) (omega arith)))
+position_by p x xs true ih = sym (ap (λ b. cond b (Some 0) None) (lt-ltb 0 (suc (length xs)) (omega arith)))
 position_by p x xs false ih =
     let next : suc (position_or_len p xs) ≡ 1 + position_or_len p xs = omega arith in
     ap (option_map (λ i. i + 1)) ih ∙ one_up (position_or_len p xs) (length xs) (nat_lt (position_or_len p xs) (length xs))

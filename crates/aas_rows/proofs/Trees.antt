@@ -1,6 +1,5 @@
 -- The rows of trees stand for these trees.
-use Rattle.std.proofs.Common.{◌≡◌, ℕ, ◌+◌, ◌<◌, ◌≤◌, Bool, true, false, nat_lt, List, [], ◌∷◌, ◌++◌, map, refl, sym, ap, ap₂, ◌∙◌, subst, append_assoc, arith, if◌then◌else◌}
-use Rattle.std.proofs.lemmas.Bool.Decides.{Decides-ltb}
+use Rattle.std.proofs.Common.{◌≡◌, ℕ, ◌+◌, ◌<◌, ◌≤◌, List, [], ◌∷◌, ◌++◌, map, refl, sym, ap, ap₂, ◌∙◌, subst, append_assoc, arith, if◌then◌else◌, le-ltb, lt-ltb}
 use Rattle.std.proofs.lemmas.List.{append-nil}
 use Rattle.std.proofs.lemmas.List.Folds.{flat_map-map}
 use Rattle.aas_model.specs.declared.element.Element.{Element, roll-Element, roll-out-Element, out-roll-Element, fold_out-Element, ind-Element}
@@ -38,16 +37,6 @@ every P all (e ∷ es) = (all e, every P all es)
 
 -- ---- what stands at a level
 
-pub not_lt : (m n : ℕ) → n ≤ m → nat_lt m n ≡ false
-not_lt m n le = by (nat_lt m n) refl
-  where
-    by : (b : Bool) → nat_lt m n ≡ b → nat_lt m n ≡ false
-    by true e = let lt : m < n = (Decides-ltb m n).0 e in absurd (omega arith)
-    by false e = e
-
-pub is_lt : (m n : ℕ) → m < n → nat_lt m n ≡ true
-is_lt m n lt = (Decides-ltb m n).1 lt
-
 -- the first stands no deeper than k
 abbrev pub Begins : ℕ → List Placed → Type 0
 Begins k [] = Unit {0}
@@ -60,19 +49,19 @@ forest_begins k (r ∷ rs) h = h
 
 deeper_none : (k : ℕ) (ps : List Placed) → Begins k ps → deeper k ps ≡ []
 deeper_none k [] h = refl
-deeper_none k (p ∷ ps) h = ap (λ b. if b then p.1 ∷ deeper k ps else []) (not_lt k p.0 h)
+deeper_none k (p ∷ ps) h = ap (λ b. if b then p.1 ∷ deeper k ps else []) (le-ltb k p.0 h)
 
 beside_none : (k : ℕ) (ps : List Placed) → Begins k ps → beside k ps ≡ ps
 beside_none k [] h = refl
-beside_none k (p ∷ ps) h = ap (λ b. if b then beside k ps else p ∷ ps) (not_lt k p.0 h)
+beside_none k (p ∷ ps) h = ap (λ b. if b then beside k ps else p ∷ ps) (le-ltb k p.0 h)
 
 pub deeper_all : (k l : ℕ) (es : List Element) (ps : List Placed) → k < l → Begins k ps → deeper k (all_at l es ++ ps) ≡ es
 deeper_all k l [] ps lt h = deeper_none k ps h
-deeper_all k l (e ∷ es) ps lt h = ap (λ b. if b then e ∷ deeper k (all_at l es ++ ps) else []) (is_lt k l lt) ∙ ap (λ xs. e ∷ xs) (deeper_all k l es ps lt h)
+deeper_all k l (e ∷ es) ps lt h = ap (λ b. if b then e ∷ deeper k (all_at l es ++ ps) else []) (lt-ltb k l lt) ∙ ap (λ xs. e ∷ xs) (deeper_all k l es ps lt h)
 
 pub beside_all : (k l : ℕ) (es : List Element) (ps : List Placed) → k < l → Begins k ps → beside k (all_at l es ++ ps) ≡ ps
 beside_all k l [] ps lt h = beside_none k ps h
-beside_all k l (e ∷ es) ps lt h = ap (λ b. if b then beside k (all_at l es ++ ps) else (l, e) ∷ (all_at l es ++ ps)) (is_lt k l lt) ∙ beside_all k l es ps lt h
+beside_all k l (e ∷ es) ps lt h = ap (λ b. if b then beside k (all_at l es ++ ps) else (l, e) ∷ (all_at l es ++ ps)) (lt-ltb k l lt) ∙ beside_all k l es ps lt h
 
 -- ---- trees from their rows
 

@@ -1,11 +1,10 @@
 -- Sizes from levels, from the last row to the first.
-use Rattle.std.proofs.Common.{◌≡◌, ℕ, zero, suc, ◌+◌, ◌-◌, ◌<◌, ◌≤◌, Bool, true, false, nat_lt, List, [], ◌∷◌, ◌++◌, length, take, drop, get_or, Some, slice_get, slice_index_or, slice_set, refl, subst, sym, ap, ap₂, ◌∙◌, arith, if◌then◌else◌, length-drop}
+use Rattle.std.proofs.Common.{◌≡◌, ℕ, zero, suc, ◌+◌, ◌-◌, ◌<◌, ◌≤◌, Bool, true, false, nat_lt, List, [], ◌∷◌, ◌++◌, length, take, drop, get_or, Some, slice_get, slice_index_or, slice_set, refl, subst, sym, ap, ap₂, ◌∙◌, arith, if◌then◌else◌, length-drop, le-ltb, lt-ltb}
 use Rattle.std.proofs.Math.Seq.{drop-cons}
 use Rattle.std.proofs.lemmas.Bool.Decides.{Decides-ltb}
 use Rattle.std.proofs.lemmas.List.{drop_all, take-append-drop, take-set, length-set}
 use Rattle.std.proofs.lemmas.List.Elements.{All-cons, All-head, All-tail}
 use Rattle.aas_rows.specs.Rows.{count_deeper, sizes}
-use Rattle.aas_rows.proofs.Trees.{is_lt, not_lt}
 use Rattle.aas_sheet_index.specs.Sides.{levels, measured, sizes_of, AreMeasured, BeginsMeasured, HaveLevels}
 use Rattle.aas_sheet_index.specs.declared.side.Side.{Side}
 
@@ -23,7 +22,7 @@ skip k l (x ∷ ls) le = by (nat_lt l x) refl (skip k l ls le)
         → count_deeper k (x ∷ ls) ≡ (if b then 1 + count_deeper l ls else 0) + count_deeper k (drop (if b then 1 + count_deeper l ls else 0) (x ∷ ls))
     by true e more =
         let lt : l < x = (Decides-ltb l x).0 e in
-        let own : count_deeper k (x ∷ ls) ≡ 1 + count_deeper k ls = ap (λ b. if b then 1 + count_deeper k ls else 0) (is_lt k x (omega arith)) in
+        let own : count_deeper k (x ∷ ls) ≡ 1 + count_deeper k ls = ap (λ b. if b then 1 + count_deeper k ls else 0) (lt-ltb k x (omega arith)) in
         let behind : count_deeper k (drop (1 + count_deeper l ls) (x ∷ ls)) ≡ count_deeper k (drop (count_deeper l ls) ls) = ap (λ n. count_deeper k (drop n (x ∷ ls))) (next (count_deeper l ls)) in
         omega (arith, own, more, behind)
     by false e more = omega arith
@@ -75,7 +74,7 @@ count_on ss k first end s known c lt is deep =
     let size : s.size ≡ 1 + count_deeper s.level (levels (drop (end + 1) ss)) = size_head ss first end s known c.above lt is in
     let n : ℕ = count_deeper s.level (levels (drop (end + 1) ss)) in
     let here : count_deeper k (levels (drop end ss)) ≡ 1 + count_deeper k (levels (drop (end + 1) ss)) =
-    ap (λ ss. count_deeper k (levels ss)) (front ss end s lt is) ∙ ap (λ b. if b then 1 + count_deeper k (levels (drop (end + 1) ss)) else 0) (is_lt k s.level deep) in
+    ap (λ ss. count_deeper k (levels ss)) (front ss end s lt is) ∙ ap (λ b. if b then 1 + count_deeper k (levels (drop (end + 1) ss)) else 0) (lt-ltb k s.level deep) in
     let more : count_deeper k (levels (drop (end + 1) ss)) ≡ n + count_deeper k (drop n (levels (drop (end + 1) ss))) = skip k s.level (levels (drop (end + 1) ss)) (omega arith) in
     let next : end + 1 + n ≡ end + s.size = omega arith in
     let left : drop n (levels (drop (end + 1) ss)) ≡ levels (drop (end + s.size) ss) = sym (levels_drop n (drop (end + 1) ss)) ∙ ap levels (drop_more n (end + 1) ss ∙ ap (λ m. drop m ss) next) in
@@ -102,7 +101,7 @@ counted_at_end ss k first end c le = let none = ap (λ ss. count_deeper k (level
 pub counted_before : (ss : List Side) (k first end : ℕ) (s : Side) → Counted ss k first end → end < length ss → s ≡ get_or ss end s → s.level ≤ k → end - first ≡ count_deeper k (levels (drop first ss))
 counted_before ss k first end s c lt is le =
     let none : count_deeper k (levels (drop end ss)) ≡ 0 =
-    ap (λ ss. count_deeper k (levels ss)) (front ss end s lt is) ∙ ap (λ b. if b then 1 + count_deeper k (levels (drop (end + 1) ss)) else 0) (not_lt k s.level le) in
+    ap (λ ss. count_deeper k (levels ss)) (front ss end s lt is) ∙ ap (λ b. if b then 1 + count_deeper k (levels (drop (end + 1) ss)) else 0) (le-ltb k s.level le) in
     let counts = c.counts in
     omega (arith, none, counts)
 
@@ -210,7 +209,7 @@ count_same n k l [] (y ∷ ys) same is le = absurd (cc)
 count_same zero k l (x ∷ xs) (y ∷ ys) same is le =
     let own : x ≡ y = cc in
     let level : y.level ≡ l = cc in
-    let none : nat_lt k y.level ≡ false = not_lt k y.level (omega arith) in
+    let none : nat_lt k y.level ≡ false = le-ltb k y.level (omega arith) in
     ap (λ b. if b then 1 + count_deeper k (levels xs) else 0) (ap (λ (s : Side). nat_lt k s.level) own ∙ none)
     ∙ sym (ap (λ b. if b then 1 + count_deeper k (levels ys) else 0) none)
 count_same (suc n) k l (x ∷ xs) (y ∷ ys) same is le =
@@ -263,8 +262,3 @@ measuring_over start ss first n m size d begun deep inside lt next so_far is one
     ∙ measured_same m xs start deep (take_begun (suc m) first start begun.rest (omega arith) inside) level in
     sym (take-append-drop m new) ∙ ap₂ (λ xs ys. xs ++ ys) front (on.behind ∙ sym (drop_measured m start))
     ∙ take-append-drop m (measured start)
-
-pub same_get : (xs : List Side) (n : ℕ) (d e : Side) → n < length xs → get_or xs n d ≡ get_or xs n e
-same_get [] n d e lt = absurd (omega arith)
-same_get (x ∷ xs) zero d e lt = refl
-same_get (x ∷ xs) (suc n) d e lt = same_get xs n d e (omega arith)

@@ -1,5 +1,5 @@
 -- Ranks that move with their sides.
-use Rattle.std.proofs.Common.{◌≡◌, ℕ, zero, suc, ◌+◌, ◌-◌, ◌<◌, ◌≤◌, ◌⊎◌, inl, inr, Bool, true, false, cond, not, nat_lt, ◌==◌, ◌&&◌, ◌||◌, List, [], ◌∷◌, ◌++◌, length, map, slice_get, refl, sym, ap, ap₂, ◌∙◌, arith, length-append, if◌then◌else◌}
+use Rattle.std.proofs.Common.{◌≡◌, ℕ, zero, suc, ◌+◌, ◌-◌, ◌<◌, ◌≤◌, ◌⊎◌, inl, inr, Bool, true, false, cond, not, nat_lt, ◌==◌, ◌&&◌, ◌||◌, List, [], ◌∷◌, ◌++◌, length, map, slice_get, refl, sym, ap, ap₂, ◌∙◌, arith, length-append, if◌then◌else◌, le-ltb, lt-ltb}
 use Rattle.std.specs.Cmp.Lexicographic.{slice_cmp}
 use Rattle.std.specs.List.{AllByRecursion, filter, list_any}
 use Rattle.std.specs.List.Sorted.{IsSorted}
@@ -10,11 +10,11 @@ use Rattle.std.proofs.lemmas.Bool.{cases_lt, ltb-false, ltb-true}
 use Rattle.std.proofs.lemmas.Bool.Decides.{Decides-eqb}
 use Rattle.std.proofs.lemmas.List.{length-map}
 use Rattle.std.proofs.lemmas.List.Folds.{list_any-append}
-use Rattle.aas_rows.proofs.Trees.{is_lt as is_less_than, not_lt}
+use Rattle.std.proofs.Math.Bool.{or-false, or-true}
 use Rattle.aas_sheet_index.specs.Index.{compared, has_name, is_between, key_at, key_of, order, IsPart, Listed}
 use Rattle.aas_sheet_index.specs.Moving.{moved, renumbered, stays}
 use Rattle.aas_sheet_index.specs.declared.side.Side.{Side}
-use Rattle.aas_sheet_index.proofs.Ranks.{and_left, apart, each_listed, is_within, or_false, or_true, too_high, within}
+use Rattle.aas_sheet_index.proofs.Ranks.{and_left, apart, each_listed, is_within, too_high, within}
 use Rattle.aas_sheet_index.proofs.Ordered.{is_less, numbers, weak}
 use Rattle.aas_sheet_index.proofs.Rising.{Rises, each_weaker, rises_from_sorted, sorted_from_rises}
 
@@ -86,8 +86,8 @@ lt_same : (m n m' n' : ℕ) → (m < n → m' < n') → (n ≤ m → n' ≤ m') 
 lt_same m n m' n' up down = by (cases_lt m n)
   where
     by : ((m < n) ⊎ (n ≤ m)) → nat_lt m' n' ≡ nat_lt m n
-    by (inl lt) = is_less_than m' n' (up lt) ∙ sym (is_less_than m n lt)
-    by (inr le) = not_lt m' n' (down le) ∙ sym (not_lt m n le)
+    by (inl lt) = lt-ltb m' n' (up lt) ∙ sym (lt-ltb m n lt)
+    by (inr le) = le-ltb m' n' (down le) ∙ sym (le-ltb m n le)
 
 -- ---- sides in four parts: those before, those that go, those behind, and those that come
 
@@ -116,23 +116,23 @@ module _ (b m t w : List Side) (first end count total : ℕ) (cut : Cut b m t w 
   new_long = length-append (b ++ w) t ∙ ap (λ n. n + length t) front_long
 
   low_to : (r : ℕ) → r < first → moved first end count total r ≡ r
-  low_to r lt = ap (λ c. if c then r else if nat_lt r count then r - (end - first) + (total - count) else r - (count - first)) (is_less_than r end (omega (arith, lt, cut.at_end)))
+  low_to r lt = ap (λ c. if c then r else if nat_lt r count then r - (end - first) + (total - count) else r - (count - first)) (lt-ltb r end (omega (arith, lt, cut.at_end)))
 
   mid_to : (r : ℕ) → end ≤ r → r < count → moved first end count total r ≡ r - (end - first) + (total - count)
   mid_to r le lt =
-      ap (λ c. if c then r else if nat_lt r count then r - (end - first) + (total - count) else r - (count - first)) (not_lt r end le)
-      ∙ ap (λ c. if c then r - (end - first) + (total - count) else r - (count - first)) (is_less_than r count lt)
+      ap (λ c. if c then r else if nat_lt r count then r - (end - first) + (total - count) else r - (count - first)) (le-ltb r end le)
+      ∙ ap (λ c. if c then r - (end - first) + (total - count) else r - (count - first)) (lt-ltb r count lt)
 
   high_to : (r : ℕ) → count ≤ r → moved first end count total r ≡ r - (count - first)
   high_to r le =
-      ap (λ c. if c then r else if nat_lt r count then r - (end - first) + (total - count) else r - (count - first)) (not_lt r end (omega (arith, le, cut.at_count)))
-      ∙ ap (λ c. if c then r - (end - first) + (total - count) else r - (count - first)) (not_lt r count le)
+      ap (λ c. if c then r else if nat_lt r count then r - (end - first) + (total - count) else r - (count - first)) (le-ltb r end (omega (arith, le, cut.at_count)))
+      ∙ ap (λ c. if c then r - (end - first) + (total - count) else r - (count - first)) (le-ltb r count le)
 
   stays_low : (r : ℕ) → r < first → stays first end r ≡ true
-  stays_low r lt = ap (λ c. c || not (nat_lt r end)) (is_less_than r first lt)
+  stays_low r lt = ap (λ c. c || not (nat_lt r end)) (lt-ltb r first lt)
 
   stays_high : (r : ℕ) → end ≤ r → stays first end r ≡ true
-  stays_high r le = ap (λ c. nat_lt r first || not c) (not_lt r end le) ∙ or_true (nat_lt r first)
+  stays_high r le = ap (λ c. nat_lt r first || not c) (le-ltb r end le) ∙ or-true (nat_lt r first)
 
   goes : (r : ℕ) → r < count → stays first end r ≡ true → Goes first end count total r (moved first end count total r)
   goes r lt s = by (nat_lt r first) refl (nat_lt r end) refl s
@@ -288,7 +288,7 @@ module _ (b m t w : List Side) (first end count total : ℕ) (cut : Cut b m t w 
             ≡ (is_between 0 (length ((b ++ w) ++ t)) r && has_name (slice_get ((b ++ w) ++ t) r))
         by (inl l) h k =
             ap₂ (λ c d. c || d) (any_front r r (omega (arith, l, ordered, end_in)) (stays_low r l) (low_to r l)) (none_back r (λ z z_low z_high e. absurd (omega (arith, l, z_low, e, ordered, end_in))))
-            ∙ or_false (has_name (slice_get ((b ++ w) ++ t) r)) ∙ sym (inside (omega (arith, l)))
+            ∙ or-false (has_name (slice_get ((b ++ w) ++ t) r)) ∙ sym (inside (omega (arith, l)))
         by (inr l) (inl h) k =
             let from : ℕ = r + (count - first) in
             let from_low : count ≤ from = omega (arith, l, ordered, end_in) in
@@ -306,7 +306,7 @@ module _ (b m t w : List Side) (first end count total : ℕ) (cut : Cut b m t w 
             let to = mid_to from from_low from_high in
             ap₂ (λ c d. c || d) (any_front r from from_high (stays_high from from_low) (omega (arith, to, h, ordered, cut.at_total)))
             (none_back r (λ z z_low z_high e. absurd (omega (arith, h, z_low, z_high, e, ordered, end_in, cut.at_total))))
-            ∙ or_false (has_name (slice_get ((b ++ w) ++ t) r)) ∙ sym (inside k)
+            ∙ or-false (has_name (slice_get ((b ++ w) ++ t) r)) ∙ sym (inside k)
         by (inr l) (inr h) (inr k) =
             ap₂ (λ c d. c || d) (none_front r (λ z z' z_in g e. off_front z z' z_in g e))
             (none_back r (λ z z_low z_high e. absurd (omega (arith, h, z_low, z_high, e, ordered, end_in, cut.at_total))))
@@ -326,7 +326,7 @@ all_stay first end le (r ∷ ranks) =
   where
     by : (b : Bool) → nat_lt r first ≡ b → (b || not (nat_lt r end)) ≡ true
     by true is = refl
-    by false is = let high = ltb-false r first is in ap not (not_lt r end (omega (arith, high)))
+    by false is = let high = ltb-false r first is in ap not (le-ltb r end (omega (arith, high)))
 
 none_moves : (count total r : ℕ) → moved count count count total r ≡ r
 none_moves count total r = by (nat_lt r count)

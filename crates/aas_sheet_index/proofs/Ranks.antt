@@ -1,26 +1,14 @@
 -- Ranks that are listed one after the other.
-use Rattle.std.proofs.Common.{◌≡◌, ℕ, ◌+◌, ◌<◌, ◌≤◌, ◌⊎◌, inl, inr, Bool, true, false, not, nat_lt, ◌==◌, ◌&&◌, ◌||◌, List, [], ◌∷◌, ◌++◌, length, get_or, slice_get, Some, refl, sym, ap, ap₂, ◌∙◌, arith}
+use Rattle.std.proofs.Common.{◌≡◌, ℕ, ◌+◌, ◌<◌, ◌≤◌, ◌⊎◌, inl, inr, Bool, true, false, not, nat_lt, ◌==◌, ◌&&◌, ◌||◌, List, [], ◌∷◌, ◌++◌, length, get_or, slice_get, Some, refl, sym, ap, ap₂, ◌∙◌, arith, le-ltb, lt-ltb}
 use Rattle.std.specs.List.{AllByRecursion, list_any}
 use Rattle.std.specs.Option.{is_some}
 use Rattle.std.proofs.lemmas.Bool.{cases_order, ltb-false, ltb-true}
 use Rattle.std.proofs.lemmas.Bool.Decides.{Decides-eqb}
 use Rattle.std.proofs.lemmas.List.Folds.{list_any-append}
 use Rattle.std.proofs.lemmas.Option.{slice_get-get_or}
-use Rattle.aas_rows.proofs.Trees.{is_lt, not_lt}
+use Rattle.std.proofs.Math.Bool.{and-false, or-false, or-true}
 use Rattle.aas_sheet_index.specs.Index.{has_name, is_between, Listed}
 use Rattle.aas_sheet_index.specs.declared.side.Side.{Side}
-
-pub and_false : (b : Bool) → (b && false) ≡ false
-and_false true = refl
-and_false false = refl
-
-pub or_false : (b : Bool) → (b || false) ≡ b
-or_false true = refl
-or_false false = refl
-
-pub or_true : (b : Bool) → (b || true) ≡ true
-or_true true = refl
-or_true false = refl
 
 pub and_left : (b c : Bool) → (b && c) ≡ true → b ≡ true
 and_left true c e = refl
@@ -40,10 +28,10 @@ apart m n ne = by (m == n) refl
 -- ---- ranks from one up to another
 
 pub within : (first end r : ℕ) → first ≤ r → r < end → is_between first end r ≡ true
-within first end r low high = ap₂ (λ b c. not b && c) (not_lt r first low) (is_lt r end high)
+within first end r low high = ap₂ (λ b c. not b && c) (le-ltb r first low) (lt-ltb r end high)
 
 pub too_high : (first end r : ℕ) → end ≤ r → is_between first end r ≡ false
-too_high first end r high = ap (λ c. not (nat_lt r first) && c) (not_lt r end high) ∙ and_false (not (nat_lt r first))
+too_high first end r high = ap (λ c. not (nat_lt r first) && c) (le-ltb r end high) ∙ and-false (not (nat_lt r first))
 
 pub is_within : (first end r : ℕ) → is_between first end r ≡ true → (first ≤ r) × (r < end)
 is_within first end r e = (by (nat_lt r first) refl (and_left (not (nat_lt r first)) (nat_lt r end) e), ltb-true r end (and_right (not (nat_lt r first)) (nat_lt r end) e))
@@ -57,8 +45,8 @@ one_more first i r ne = ap (λ c. not (nat_lt r first) && c) (by (cases_order r 
   where
     by : ((r ≡ i) ⊎ ((r < i) ⊎ (i < r))) → nat_lt r i ≡ nat_lt r (i + 1)
     by (inl e) = absurd (ne e)
-    by (inr (inl lt)) = is_lt r i lt ∙ sym (is_lt r (i + 1) (omega arith))
-    by (inr (inr gt)) = not_lt r i (omega arith) ∙ sym (not_lt r (i + 1) (omega arith))
+    by (inr (inl lt)) = lt-ltb r i lt ∙ sym (lt-ltb r (i + 1) (omega arith))
+    by (inr (inr gt)) = le-ltb r i (omega arith) ∙ sym (le-ltb r (i + 1) (omega arith))
 
 -- ---- lists
 
@@ -67,7 +55,7 @@ listed_none ss first end le r = sym (ap (λ b. b && has_name (slice_get ss r)) (
   where
     by : (b : Bool) → nat_lt r first ≡ b → (not b && nat_lt r end) ≡ false
     by true is = refl
-    by false is = let low = ltb-false r first is in not_lt r end (omega (arith, low))
+    by false is = let low = ltb-false r first is in le-ltb r end (omega (arith, low))
 
 pub listed_on : (ss : List Side) (first i : ℕ) (ranks : List ℕ) → has_name (slice_get ss i) ≡ false → Listed ss first i ranks → Listed ss first (i + 1) ranks
 listed_on ss first i ranks none so_far r = so_far r ∙ by (cases_order r i)
@@ -75,7 +63,7 @@ listed_on ss first i ranks none so_far r = so_far r ∙ by (cases_order r i)
     by : ((r ≡ i) ⊎ ((r < i) ⊎ (i < r))) → (is_between first i r && has_name (slice_get ss r)) ≡ (is_between first (i + 1) r && has_name (slice_get ss r))
     by (inl e) =
         ap (λ b. b && has_name (slice_get ss r)) (too_high first i r (omega arith))
-        ∙ sym (ap (λ c. is_between first (i + 1) r && c) (ap (λ r. has_name (slice_get ss r)) e ∙ none) ∙ and_false (is_between first (i + 1) r))
+        ∙ sym (ap (λ c. is_between first (i + 1) r && c) (ap (λ r. has_name (slice_get ss r)) e ∙ none) ∙ and-false (is_between first (i + 1) r))
     by (inr (inl lt)) = ap (λ b. b && has_name (slice_get ss r)) (one_more first i r (λ e. absurd (omega arith)))
     by (inr (inr gt)) = ap (λ b. b && has_name (slice_get ss r)) (one_more first i r (λ e. absurd (omega arith)))
 
@@ -84,12 +72,12 @@ listed_more ss first i ranks le some so_far r = list_any-append (λ q. q == r) r
   where
     other : (r ≡ i → ⊥) → (list_any (λ q. q == r) ranks || ((i == r) || false)) ≡ (is_between first (i + 1) r && has_name (slice_get ss r))
     other ne =
-        ap (λ b. list_any (λ q. q == r) ranks || (b || false)) (apart i r (λ e. ne (sym e))) ∙ or_false (list_any (λ q. q == r) ranks) ∙ so_far r
+        ap (λ b. list_any (λ q. q == r) ranks || (b || false)) (apart i r (λ e. ne (sym e))) ∙ or-false (list_any (λ q. q == r) ranks) ∙ so_far r
         ∙ ap (λ b. b && has_name (slice_get ss r)) (one_more first i r ne)
 
     by : ((r ≡ i) ⊎ ((r < i) ⊎ (i < r))) → (list_any (λ q. q == r) ranks || ((i == r) || false)) ≡ (is_between first (i + 1) r && has_name (slice_get ss r))
     by (inl e) =
-        ap (λ b. list_any (λ q. q == r) ranks || (b || false)) ((Decides-eqb i r).1 (sym e)) ∙ or_true (list_any (λ q. q == r) ranks)
+        ap (λ b. list_any (λ q. q == r) ranks || (b || false)) ((Decides-eqb i r).1 (sym e)) ∙ or-true (list_any (λ q. q == r) ranks)
         ∙ sym (ap₂ (λ b c. b && c) (within first (i + 1) r (omega arith) (omega arith)) (ap (λ r. has_name (slice_get ss r)) e ∙ some))
     by (inr (inl lt)) = other (λ e. absurd (omega arith))
     by (inr (inr gt)) = other (λ e. absurd (omega arith))
@@ -98,7 +86,7 @@ listed_more ss first i ranks le some so_far r = list_any-append (λ q. q == r) r
 pub each_listed : (P : ℕ → Type 0) (xs : List ℕ) → ((r : ℕ) → list_any (λ q. q == r) xs ≡ true → P r) → AllByRecursion P xs
 each_listed P [] h = tt
 each_listed P (x ∷ xs) h =
-    (h x (ap (λ b. b || list_any (λ q. q == x) xs) ((Decides-eqb x x).1 refl)), each_listed P xs (λ r e. h r (ap (λ b. (x == r) || b) e ∙ or_true (x == r))))
+    (h x (ap (λ b. b || list_any (λ q. q == x) xs) ((Decides-eqb x x).1 refl)), each_listed P xs (λ r e. h r (ap (λ b. (x == r) || b) e ∙ or-true (x == r))))
 
 pub named_at : (ss : List Side) (i : ℕ) (s : Side) (b : Bool) → i < length ss → s ≡ get_or ss i s → b ≡ is_some s.id_short → has_name (slice_get ss i) ≡ b
 named_at ss i s b inside is says = ap has_name (slice_get-get_or ss i s inside ∙ ap (λ (s : Side). Some s) (sym is)) ∙ sym says

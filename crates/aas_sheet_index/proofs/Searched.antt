@@ -7,7 +7,7 @@ use Rattle.std.specs.Ordering.{nat_cmp, is_lt, ordering_then, ordering_reverse}
 use Rattle.std.specs.Str.{chars, encode_utf8_all}
 use Rattle.std.specs.declared.cmp.Ordering.{Ordering}
 use Rattle.std.specs.declared.cmp.Ordering.TheVariants.{Less, Equal, Greater}
-use Rattle.std.proofs.lemmas.Bool.{ltb-false, ltb-true}
+use Rattle.std.proofs.lemmas.Bool.{ltb-false, ltb-true, false_from_ne_true}
 use Rattle.std.proofs.lemmas.Bool.Decides.{Decides-eqb}
 use Rattle.std.proofs.lemmas.Cmp.{nat_list_cmp_total, tied_itself}
 use Rattle.std.proofs.lemmas.List.{get_or_default}
@@ -169,10 +169,6 @@ back_on : (first : ℕ) (result : Option ℕ) → ((r : ℕ) → result ≡ Some
 back_on first None h = refl
 back_on first (Some r) h = let le = h r refl in let same : r ≡ first + (r - first) = omega (arith, le) in ap (λ n. Some n) same
 
-false_unless : (b : Bool) → (b ≡ true → ⊥) → b ≡ false
-false_unless true h = absurd (h refl)
-false_unless false h = refl
-
 -- ---- a look-up says what a walk along the rows from first to end says
 
 abbrev Walked : List Side → (Side → Bool) → ℕ → ℕ → Option ℕ → Type 0
@@ -191,7 +187,7 @@ none_walked ss p first end h =
       none = λ j s e at.
           let lt = cut_short (drop first ss) (end - first) j s at in
           let at_j : slice_get ss (first + j) ≡ Some s = sym (cut_get ss first (end - first) j lt) ∙ at in
-          false_unless (p s) (h (first + j) s (omega arith) (omega (arith, lt)) at_j);
+          false_from_ne_true (p s) (h (first + j) s (omega arith) (omega (arith, lt)) at_j);
     })
 
 some_walked : (ss : List Side) (p : Side → Bool) (first end r : ℕ) (t : Side) → first ≤ r → r < end → slice_get ss r ≡ Some t → p t ≡ true
@@ -204,7 +200,7 @@ some_walked ss p first end r t low high at_r holds h =
           let same : r - first ≡ i = cc in
           let short = cut_short (drop first ss) (end - first) j s at in
           let at_j : slice_get ss (first + j) ≡ Some s = sym (cut_get ss first (end - first) j short) ∙ at in
-          false_unless (p s) (h (first + j) s (omega arith) (omega arith) at_j);
+          false_from_ne_true (p s) (h (first + j) s (omega arith) (omega arith) at_j);
       none = λ j s e at. absurd (cc);
     })
 

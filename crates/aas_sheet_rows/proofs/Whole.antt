@@ -1,5 +1,5 @@
 -- The whole table as a tree.
-use Rattle.std.proofs.Common.{Bool, true, false, nat_lt}
+use Rattle.std.proofs.Common.{Bool, true, false, nat_lt, lt-ltb}
 use Rattle.std.proofs.Common.{◌≡◌, ℕ, suc, ◌+◌, ◌<◌, List, [], ◌∷◌, ◌++◌, length, map, take, drop, refl, sym, ap, ap₂, ◌∙◌, subst, arith, if◌then◌else◌, ◌-◌, Some, slice_get}
 use Rattle.std.proofs.lemmas.List.{take_all, append-nil}
 use Rattle.aas_model.specs.declared.documents.Submodel.{Submodel}
@@ -7,7 +7,6 @@ use Rattle.aas_model.specs.declared.element.Element.{Element}
 use Rattle.aas_rows.specs.Rows.{Line, Placed, rows, deeper, forest, trees_of, Steps}
 use Rattle.aas_rows.proofs.Back.{Falls, forest_falls}
 use Rattle.aas_rows.proofs.Ranked.{StandsAt, first_tree}
-use Rattle.aas_rows.proofs.Trees.{is_lt}
 use Rattle.aas_sheet_rows.specs.Growing.{rows_between}
 use Rattle.aas_sheet_rows.specs.Table.{lines_of, submodel_of, IsTable}
 use Rattle.aas_sheet_index.specs.Sides.{sizes_of}
@@ -20,7 +19,7 @@ use Rattle.aas_sheet_rows.proofs.Loans.{levels_same, lines_long}
 
 all_deeper : (m : ℕ) (ps : List Placed) → Falls 0 m ps → deeper 0 ps ≡ map (λ (p : Placed). p.1) ps
 all_deeper m [] h = refl
-all_deeper m (p ∷ ps) h = ap (λ b. if b then p.1 ∷ deeper 0 ps else []) (is_lt 0 p.0 h.0) ∙ ap (λ es. p.1 ∷ es) (all_deeper p.0 ps h.2)
+all_deeper m (p ∷ ps) h = ap (λ b. if b then p.1 ∷ deeper 0 ps else []) (lt-ltb 0 p.0 h.0) ∙ ap (λ es. p.1 ∷ es) (all_deeper p.0 ps h.2)
 
 pub whole_grown : (rs rs' : List Row) (ss ss' : List Side) → IsTable rs ss → rs' ≡ rs → ss' ≡ ss → deeper 0 (forest (rows_between rs' ss' 0 (length ss'))) ≡ trees_of (lines_of rs ss)
 whole_grown rs rs' ss ss' t rows_is sides_is =
@@ -36,7 +35,7 @@ unfolding forest
 one_grown before behind e k first end some at stop =
     ap₂ (λ m n. deeper 0 (forest (drop m (take n (before ++ (rows e k ++ behind)))))) (sym at) (sym stop ∙ ap (λ n. n + length (rows e k)) (sym at))
     ∙ ap (λ xs. deeper 0 (forest xs)) (cut before) ∙ ap (λ xs. deeper 0 (forest xs)) (sym (append-nil (rows e k))) ∙ ap (deeper 0) (first_tree e k [] tt)
-    ∙ ap (λ b. if b then e ∷ [] else []) (is_lt 0 k some)
+    ∙ ap (λ b. if b then e ∷ [] else []) (lt-ltb 0 k some)
   where
     front : (m : List Line) → take (length m) (m ++ behind) ≡ m
     front [] = refl

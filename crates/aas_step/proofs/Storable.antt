@@ -1,6 +1,6 @@
 -- A valid submodel with few elements is one that a store takes.
-use Rattle.std.proofs.Common.{◌≡◌, ℕ, zero, suc, ◌≤◌, Bool, true, false, List, [], ◌∷◌, map, length, slice_get, Option, Some, None, option_and_then, refl, subst, arith}
-use Rattle.std.specs.Prelude.{◌&&◌, nat_le, nat_lt}
+use Rattle.std.proofs.Common.{◌≡◌, ℕ, zero, suc, ◌≤◌, Bool, true, List, [], ◌∷◌, map, length, slice_get, Option, Some, None, option_and_then, refl, subst, arith, ltb-false}
+use Rattle.std.specs.Prelude.{◌&&◌, nat_le}
 use Rattle.std.specs.List.{list_all}
 use Rattle.std.proofs.lemmas.Bool.{and_parts}
 use Rattle.std.proofs.lemmas.Bool.Decides.{nat_tests}
@@ -65,12 +65,9 @@ place_short d (i ∷ q) e valid there = under (slice_get d.kids i) refl there
 
 -- ---- the law
 
-not_above : (n : ℕ) → nat_lt 65536 n ≡ false → n ≤ 65536
-not_above n e = grind (arith, nat_tests)
-
 pub valid_is_storable : ValidIsStorable
 valid_is_storable d valid few = record {
-  few = not_above (element_count d) few;
+  few = ltb-false 65536 (element_count d) few;
   shallow = λ q e there. place_short d q e valid there;
   own_names = λ i j k m n at_i at_j first second. own_names d i j k m n valid.faultless at_i at_j first second;
   own_names_below = λ q e there i j k m n at_i at_j first second. own_names_below d q e i j k m n valid.faultless there at_i at_j first second;

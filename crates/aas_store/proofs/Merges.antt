@@ -12,9 +12,10 @@ use Rattle.std.proofs.lemmas.Cmp.{nat_list_cmp_total}
 use Rattle.std.specs.Prelude.{◌↔◌, IsTrue}
 use Rattle.std.specs.Str.{encode_utf8_all}
 use Rattle.std.proofs.lemmas.List.{map-append, reverse-append}
+use Rattle.std.proofs.lemmas.Option.{same_Some}
 use Rattle.aas_store.specs.Shelf.{pairs}
 use Rattle.aas_store.specs.declared.shelf.Entry.{Entry}
-use Rattle.aas_store.proofs.Ordered.{Entries, both, greater, is_below, less, order, parts, same_id, same_some, tail}
+use Rattle.aas_store.proofs.Ordered.{Entries, both, greater, is_below, less, order, parts, same_id, tail}
 
 -- ---- lists in order
 
@@ -180,7 +181,7 @@ not_empty (x ∷ xs) is_empty is some = omega arith
 -- the last is taken away
 pub without_last : {X : Type 0} (xs : List X) (n : ℕ) (x : X) → n + 1 ≡ length xs → slice_get xs n ≡ Some x → xs ≡ remove xs n ++ x ∷ []
 without_last [] n x last at = absurd (cc)
-without_last (y ∷ []) zero x last at = ap (λ z. z ∷ []) (same_some y x at)
+without_last (y ∷ []) zero x last at = ap (λ z. z ∷ []) (same_Some y x at)
 without_last (y ∷ []) (suc n) x last at = absurd (omega (arith, last))
 without_last (y ∷ z ∷ xs) zero x last at = absurd (omega (arith, last))
 without_last (y ∷ z ∷ xs) (suc n) x last at = ap (λ zs. y ∷ zs) (without_last (z ∷ xs) n x (omega (arith, last)) at)

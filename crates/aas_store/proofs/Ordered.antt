@@ -8,6 +8,7 @@ use Rattle.std.specs.declared.cmp.Ordering.{Ordering}
 use Rattle.std.specs.declared.cmp.Ordering.TheVariants.{Less, Equal, Greater}
 use Rattle.std.specs.Cmp.Lexicographic.{slice_cmp}
 use Rattle.std.proofs.lemmas.Cmp.{nat_list_cmp_total, tied_itself}
+use Rattle.std.proofs.lemmas.Option.{same_Some}
 
 abbrev pub order : List ℕ → List ℕ → Ordering
 order = slice_cmp nat_cmp
@@ -30,9 +31,6 @@ less Greater p = absurd p
 
 pub is_below : (r : Ordering) → r ≡ Less → T (is_lt r)
 is_below r e = subst (λ r. T (is_lt r)) (sym e) tt
-
-pub same_some : {X : Type 0} (x y : X) → Some x ≡ Some y → x ≡ y
-same_some x y e = cc
 
 -- ---- the order
 
@@ -75,13 +73,13 @@ skip x e es h = both (below_all order x.0 es) (is_sorted order es) (in_order x e
 -- the first is below each other
 pub head_below : {X : Type 0} (x y : List ℕ × X) (es : Entries X) (j : ℕ) → T (is_sorted order (x ∷ es)) → slice_get es j ≡ Some y → order x.0 y.0 ≡ Less
 head_below x y [] j h at = absurd (cc)
-head_below x y (e ∷ es) zero h at = ap (λ (e : List ℕ × _). order x.0 e.0) (sym (same_some e y at)) ∙ (in_order x e es h).0
+head_below x y (e ∷ es) zero h at = ap (λ (e : List ℕ × _). order x.0 e.0) (sym (same_Some e y at)) ∙ (in_order x e es h).0
 head_below x y (e ∷ es) (suc j) h at = head_below x y es j (skip x e es h) at
 
 pub rising : {X : Type 0} (es : Entries X) (i j : ℕ) (x y : List ℕ × X) → T (is_sorted order es) → i < j → slice_get es i ≡ Some x → slice_get es j ≡ Some y → order x.0 y.0 ≡ Less
 rising [] i j x y h lt at_x at_y = absurd (cc)
 rising (e ∷ es) zero zero x y h lt at_x at_y = absurd (omega arith)
-rising (e ∷ es) zero (suc j) x y h lt at_x at_y = ap (λ (e : List ℕ × _). order e.0 y.0) (sym (same_some e x at_x)) ∙ head_below e y es j h at_y
+rising (e ∷ es) zero (suc j) x y h lt at_x at_y = ap (λ (e : List ℕ × _). order e.0 y.0) (sym (same_Some e x at_x)) ∙ head_below e y es j h at_y
 rising (e ∷ es) (suc i) zero x y h lt at_x at_y = absurd (omega arith)
 rising (e ∷ es) (suc i) (suc j) x y h lt at_x at_y = rising es i j x y (tail e es h) (omega arith) at_x at_y
 
@@ -109,7 +107,7 @@ found_none (e ∷ es) q none =
 pub found_at : {X : Type 0} (es : Entries X) (i : ℕ) (q : List ℕ) (v : X) → T (is_sorted order es) → slice_get es i ≡ Some (q, v) → find order q es ≡ Some v
 found_at [] i q v h at = absurd (cc)
 found_at {X = X} (e ∷ es) zero q v h at =
-    ap (λ (e : List ℕ × X). cond (eq_by_cmp order q e.0) (Some e.1) (find order q es)) (same_some e (q, v) at)
+    ap (λ (e : List ℕ × X). cond (eq_by_cmp order q e.0) (Some e.1) (find order q es)) (same_Some e (q, v) at)
     ∙ ap (λ r. cond (is_eq r) (Some v) (find order q es)) (tied_itself nat_list_cmp_total q)
 found_at (e ∷ es) (suc i) q v h at =
     ap (λ r. cond (is_eq r) (Some e.1) (find order q es)) (greater e.0 q (head_below e (q, v) es i h at)) ∙ found_at es i q v (tail e es h) at
@@ -119,7 +117,7 @@ found_at (e ∷ es) (suc i) q v h at =
 pub put_at : {X : Type 0} (es : Entries X) (i : ℕ) (q : List ℕ) (v w : X) → T (is_sorted order es) → slice_get es i ≡ Some (q, w) → put order q v es ≡ slice_set es i (q, v)
 put_at [] i q v w h at = absurd (cc)
 put_at (e ∷ es) zero q v w h at =
-    let same : e.0 ≡ q = ap (λ (e : List ℕ × _). e.0) (same_some e (q, w) at) in
+    let same : e.0 ≡ q = ap (λ (e : List ℕ × _). e.0) (same_Some e (q, w) at) in
     let tied : order q e.0 ≡ Equal = ap (order q) same ∙ tied_itself nat_list_cmp_total q in
     rw tied (ap (λ k. (k, v) ∷ es) same)
 put_at (e ∷ es) (suc i) q v w h at =
@@ -144,7 +142,7 @@ found_removed [] i q v p h at = absurd (cc)
 found_removed {X = X} (e ∷ es) zero q v p h at = by (order p q) refl
   where
     same : e.0 ≡ q
-    same = ap (λ (e : List ℕ × X). e.0) (same_some e (q, v) at)
+    same = ap (λ (e : List ℕ × X). e.0) (same_Some e (q, v) at)
 
     by : (r : Ordering) → order p q ≡ r → find order p es ≡ cond (is_eq r) None (cond (eq_by_cmp order p e.0) (Some e.1) (find order p es))
     by Less is = sym (ap (λ r. cond (is_eq r) (Some e.1) (find order p es)) (ap (order p) same ∙ is))

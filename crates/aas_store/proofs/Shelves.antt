@@ -13,20 +13,20 @@ use Rattle.std.specs.declared.cmp.Ordering.TheVariants.{Less, Equal, Greater}
 use Rattle.std.proofs.lemmas.Bool.{cases_order}
 use Rattle.std.proofs.lemmas.Cmp.{nat_list_cmp_total}
 use Rattle.std.proofs.lemmas.List.{length-map, map-set}
-use Rattle.std.proofs.lemmas.Option.{slice_get-map, slice_get_within, slice_get-get_or, get_or_from_slice_get}
+use Rattle.std.proofs.lemmas.Option.{slice_get-map, slice_get_within, slice_get-get_or, get_or_from_slice_get, same_Some}
 use Rattle.std.proofs.lemmas.Simd.{map-map}
 use Rattle.aas_store.specs.declared.shelf.Entry.{Entry}
 use Rattle.aas_store.specs.Documents.{first_above, is_above}
 use Rattle.aas_store.specs.Lent.{with_document, with_document_at}
 use Rattle.aas_store.specs.Places.{IsAt, IsGapFor}
 use Rattle.aas_store.specs.Shelf.{pairs}
-use Rattle.aas_store.proofs.Ordered.{order, same_some, same_id, greater, comparisons_rise, rising, sorted_removed, found_none, found_at, put_at, put_between, found_removed}
+use Rattle.aas_store.proofs.Ordered.{order, same_id, greater, comparisons_rise, rising, sorted_removed, found_none, found_at, put_at, put_between, found_removed}
 
 -- ---- lists
 
 mapped_at : {X Y : Type 0} (f : X → Y) (xs : List X) (i : ℕ) (y : Y) → slice_get (map f xs) i ≡ Some y → (x : X) × (slice_get xs i ≡ Some x) × (f x ≡ y)
 mapped_at f [] i y at = absurd (cc)
-mapped_at f (x ∷ xs) zero y at = (x, refl, same_some (f x) y at)
+mapped_at f (x ∷ xs) zero y at = (x, refl, same_Some (f x) y at)
 mapped_at f (x ∷ xs) (suc i) y at = mapped_at f xs i y at
 
 some_at : {X : Type 0} (xs : List X) (i : ℕ) → i < length xs → (x : X) × (slice_get xs i ≡ Some x)
@@ -202,7 +202,7 @@ module _ {D : Type 0} (entries : List (Entry D)) (sorted : T (fin.is_sorted orde
 
   pub replaced : (id : List ℕ) (place : ℕ) (e : Entry D) (d : Box D Global) → IsAt m id place → slice_get entries place ≡ Some e → pairs (slice_set entries place (record e { document = d })) ≡ fin.entries (fin.insert m id d.value)
   replaced id place e d at is =
-      let same : encode_utf8_all e.id ≡ id = ap (λ (p : List ℕ × D). p.0) (same_some _ _ (sym (pair_at place e is) ∙ at.1)) in
+      let same : encode_utf8_all e.id ≡ id = ap (λ (p : List ℕ × D). p.0) (same_Some _ _ (sym (pair_at place e is) ∙ at.1)) in
       map-set _ entries place _ ∙ ap (λ k. slice_set (pairs entries) place (k, d.value)) same
       ∙ sym (entries-insert nat_list_cmp_total m id d.value ∙ put_at (fin.entries m) place id d.value at.0 (entries_sorted m) at.1 ∙ ap (λ es. slice_set es place (id, d.value)) entries_are)
 

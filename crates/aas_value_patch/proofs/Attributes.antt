@@ -5,6 +5,7 @@ use Rattle.std.specs.Result.{IsErr, IsErrAnd}
 use denote.Ref.{Bor}
 use Rattle.std.specs.Prelude.{bytes_eq}
 use Rattle.std.specs.Str.{encode_utf8_all}
+use Rattle.std.proofs.Math.Bool.{and-false}
 use lib.Utf8.{encode}
 use Rattle.serde_json.specs.Data.{Data, null, boolean, number, string, object, array, Items, Members}
 use Rattle.serde_json.specs.Events.{members_len}
@@ -55,10 +56,6 @@ object_took xs ys ms fits took = ap (λ (d : Data). Some d) (named_laid xs ys ms
 
 -- ---- members that are one's own
 
-no_right : (b : Bool) → b && false ≡ false
-no_right true = refl
-no_right false = refl
-
 differ : (n m : List ℕ) → bytes_eq n m ≡ false → Some m ≡ Some n → ⊥
 differ n m e same = let is : m ≡ n = cc in true≢false (sym (name_itself n) ∙ ap (bytes_eq n) (sym is) ∙ e)
 
@@ -83,7 +80,7 @@ pub record OneFits (f h whole : Bool) : Type 0 where
 one : (f h w : Bool) → w ≡ (f && true) && h → OneFits f h w
 one f h w e = record {
   first = λ a. e ∙ ap (λ b. (b && true) && h) a;
-  only = λ a. e ∙ ap (λ b. (f && true) && b) a ∙ no_right (f && true);
+  only = λ a. e ∙ ap (λ b. (f && true) && b) a ∙ and-false (f && true);
   all = λ a b. e ∙ ap₂ (λ x y. (x && true) && y) a b;
 }
 
@@ -96,8 +93,8 @@ pub record TwoFit (f g h whole : Bool) : Type 0 where
 two : (f g h w : Bool) → w ≡ (f && (g && true)) && h → TwoFit f g h w
 two f g h w e = record {
   first = λ a. e ∙ ap (λ b. (b && (g && true)) && h) a;
-  second = λ a. e ∙ ap (λ b. (f && (b && true)) && h) a ∙ ap (λ b. b && h) (no_right f);
-  only = λ a. e ∙ ap (λ b. (f && (g && true)) && b) a ∙ no_right (f && (g && true));
+  second = λ a. e ∙ ap (λ b. (f && (b && true)) && h) a ∙ ap (λ b. b && h) (and-false f);
+  only = λ a. e ∙ ap (λ b. (f && (g && true)) && b) a ∙ and-false (f && (g && true));
   all = λ a b c. e ∙ ap₂ (λ x y. (x && (y && true)) && h) a b ∙ c;
 }
 
@@ -120,9 +117,9 @@ pub record ThreeFit (f g h only whole : Bool) : Type 0 where
 three : (f g h o w : Bool) → w ≡ (f && (g && (h && true))) && o → ThreeFit f g h o w
 three f g h o w e = record {
   first = λ a. e ∙ ap (λ b. (b && (g && (h && true))) && o) a;
-  second = λ a. e ∙ ap (λ b. (f && (b && (h && true))) && o) a ∙ ap (λ b. b && o) (no_right f);
-  third = λ a. e ∙ ap (λ b. (f && (g && (b && true))) && o) a ∙ ap (λ b. (f && b) && o) (no_right g) ∙ ap (λ b. b && o) (no_right f);
-  only_these = λ a. e ∙ ap (λ b. (f && (g && (h && true))) && b) a ∙ no_right (f && (g && (h && true)));
+  second = λ a. e ∙ ap (λ b. (f && (b && (h && true))) && o) a ∙ ap (λ b. b && o) (and-false f);
+  third = λ a. e ∙ ap (λ b. (f && (g && (b && true))) && o) a ∙ ap (λ b. (f && b) && o) (and-false g) ∙ ap (λ b. b && o) (and-false f);
+  only_these = λ a. e ∙ ap (λ b. (f && (g && (h && true))) && b) a ∙ and-false (f && (g && (h && true)));
   all = λ a b c d. e ∙ ap₂ (λ x y. (x && (y && (h && true))) && o) a b ∙ ap₂ (λ x y. (x && true) && y) c d;
 }
 
@@ -137,12 +134,12 @@ pub record FourFit (f g h i only whole : Bool) : Type 0 where
 four : (f g h i o w : Bool) → w ≡ (f && (g && (h && (i && true)))) && o → FourFit f g h i o w
 four f g h i o w e = record {
   first = λ a. e ∙ ap (λ b. (b && (g && (h && (i && true)))) && o) a;
-  second = λ a. e ∙ ap (λ b. (f && (b && (h && (i && true)))) && o) a ∙ ap (λ b. b && o) (no_right f);
-  third = λ a. e ∙ ap (λ b. (f && (g && (b && (i && true)))) && o) a ∙ ap (λ b. (f && b) && o) (no_right g) ∙ ap (λ b. b && o) (no_right f);
+  second = λ a. e ∙ ap (λ b. (f && (b && (h && (i && true)))) && o) a ∙ ap (λ b. b && o) (and-false f);
+  third = λ a. e ∙ ap (λ b. (f && (g && (b && (i && true)))) && o) a ∙ ap (λ b. (f && b) && o) (and-false g) ∙ ap (λ b. b && o) (and-false f);
   fourth = λ a.
-      e ∙ ap (λ b. (f && (g && (h && (b && true)))) && o) a ∙ ap (λ b. (f && (g && b)) && o) (no_right h) ∙ ap (λ b. (f && b) && o) (no_right g)
-      ∙ ap (λ b. b && o) (no_right f);
-  only_these = λ a. e ∙ ap (λ b. (f && (g && (h && (i && true)))) && b) a ∙ no_right (f && (g && (h && (i && true))));
+      e ∙ ap (λ b. (f && (g && (h && (b && true)))) && o) a ∙ ap (λ b. (f && (g && b)) && o) (and-false h) ∙ ap (λ b. (f && b) && o) (and-false g)
+      ∙ ap (λ b. b && o) (and-false f);
+  only_these = λ a. e ∙ ap (λ b. (f && (g && (h && (i && true)))) && b) a ∙ and-false (f && (g && (h && (i && true))));
   all = λ a b c d x. e ∙ ap₂ (λ x y. (x && (y && (h && (i && true)))) && o) a b ∙ ap₂ (λ x y. (x && (y && true)) && o) c d ∙ x;
 }
 

@@ -7,6 +7,7 @@ use Rattle.std.proofs.lemmas.Bool.Decides.{nat_tests}
 use Rattle.std.proofs.lemmas.List.{drop_all}
 use Rattle.std.specs.Prelude.{if◌then◌else◌}
 use Rattle.std.specs.Str.{encode_utf8_all}
+use Rattle.std.proofs.Math.Bool.{and-false, and-true}
 use Rattle.serde_json.specs.Data.{Data, object, Items, no_items, Members}
 use Rattle.serde_json.specs.Events.{members_len}
 use Rattle.serde_json.specs.View.{view, items_view}
@@ -121,20 +122,12 @@ names_are ks ms n m is size apart order =
 -- ---- entries
 
 pub called_formless : (n : List ℕ) (k : Element) → is_some (part_of k).child.form ≡ false → false ≡ is_called n (part_of k).child
-called_formless n k there = sym (ap (λ b. name_is n (part_of k).child.name && b) there ∙ no_right (name_is n (part_of k).child.name))
-  where
-    no_right : (b : Bool) → b && false ≡ false
-    no_right true = refl
-    no_right false = refl
+called_formless n k there = sym (ap (λ b. name_is n (part_of k).child.name && b) there ∙ and-false (name_is n (part_of k).child.name))
 
 pub called_kid : (n : List ℕ) (k : Element) (a : Option (List ℕ)) → is_some (part_of k).child.form ≡ true → (out-Element k).common.id_short ≡ a
     → name_is n a ≡ is_called n (part_of k).child
 called_kid n k a there name =
-    sym (ap₂ (λ (o : Option (List ℕ)) b. name_is n o && b) (name_there k ∙ name) there ∙ all_right (name_is n a))
-  where
-    all_right : (b : Bool) → b && true ≡ b
-    all_right true = refl
-    all_right false = refl
+    sym (ap₂ (λ (o : Option (List ℕ)) b. name_is n o && b) (name_there k ∙ name) there ∙ and-true (name_is n a))
 
 -- ---- items that fit
 

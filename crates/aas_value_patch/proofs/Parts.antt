@@ -1,6 +1,7 @@
 -- What is read of parts that are canonical JSON.
-use Rattle.std.proofs.Common.{◌≡◌, ℕ, Bool, true, false, not, ◌&&◌, List, Option, Some, None, is_none, refl, sym, ap, ap₂, ◌∙◌}
+use Rattle.std.proofs.Common.{◌≡◌, ℕ, true, false, not, ◌&&◌, List, Option, Some, None, is_none, refl, sym, ap, ap₂, ◌∙◌}
 use Rattle.std.proofs.lemmas.Bool.{and_from}
+use Rattle.std.proofs.Math.Bool.{and-false}
 use Rattle.serde_json.specs.Data.{Data}
 use Rattle.aas_json_spelling.specs.Reads.{IsFault, IsPointer}
 use Rattle.aas_json_spelling.specs.Spells.{Trees, Spells}
@@ -29,11 +30,7 @@ part_taken trees j t s full order =
 
 pub part_emptied : (s : Sort) (j : Data) → has_empty_list j ≡ true → is_part s j ≡ false
 part_emptied s j e = ap (λ b. (is_none (misfit (one s) j) && is_none (too_deep (one s) j limits)) && not b) e
-    ∙ no_right (is_none (misfit (one s) j) && is_none (too_deep (one s) j limits))
-  where
-    no_right : (b : Bool) → b && false ≡ false
-    no_right true = refl
-    no_right false = refl
+    ∙ and-false (is_none (misfit (one s) j) && is_none (too_deep (one s) j limits))
 
 some_pointer : (found : Option Pointer) (p : List ℕ) → IsPointer found p → is_none found ≡ false
 some_pointer None p h = absurd (cc)

@@ -1,8 +1,9 @@
 -- A value that fits the table and has no empty list says itself.
-use Rattle.std.proofs.Common.{◌≡◌, ℕ, ◌+◌, ◌&&◌, ◌||◌, not, Bool, true, false, List, [], ◌∷◌, Option, Some, None, is_some, is_none, option_map, if◌then◌else◌, Ordering, Less, Equal, Greater, nat_cmp, is_lt, refl, sym, ap, ap₂, ◌∙◌, true≢false}
+use Rattle.std.proofs.Common.{◌≡◌, ℕ, ◌+◌, ◌&&◌, Bool, true, false, List, [], ◌∷◌, Option, Some, None, is_some, is_none, option_map, if◌then◌else◌, Ordering, Less, Equal, Greater, nat_cmp, is_lt, refl, sym, ap, ap₂, ◌∙◌, true≢false}
 use Rattle.std.specs.Prelude.{bytes_eq}
 use Rattle.std.specs.Cmp.Lexicographic.{slice_cmp}
 use Rattle.std.specs.Ordering.{match_ordering}
+use Rattle.std.proofs.lemmas.Bool.{or_parts, not-true}
 use Rattle.serde_json.specs.Data.{Data, null, boolean, number, string, array, object, Items, no_items, item, Members, no_members, member}
 use Rattle.serde_json.specs.Find.{get_member}
 use Rattle.aas_lemmas.proofs.Truth.{and_left, and_right, Less-from_is_lt}
@@ -19,14 +20,6 @@ use Rattle.aas_json_spelling.proofs.Objects.{finds}
 use Rattle.aas_json_spelling.proofs.Rows.{is_below, rising, rows_rise, same_text}
 use Rattle.aas_value_update.specs.Json.{has_empty_list, some_has_empty_list, member_has_empty_list, is_part}
 use Rattle.aas_value_update.proofs.Members.{Rises, known, same_name, get_past}
-
-or_left : (a b : Bool) → a || b ≡ false → a ≡ false
-or_left true b e = absurd (true≢false e)
-or_left false b e = refl
-
-or_right : (a b : Bool) → a || b ≡ false → b ≡ false
-or_right true b e = absurd (true≢false e)
-or_right false b e = e
 
 -- ---- the members that rows give
 
@@ -148,8 +141,8 @@ mutual
   items_itself no_items f n e order full = refl
   items_itself (item d ds) f n e order full =
       let both = first_none (option_map (λ p. in_item n ∷ p) (misfit f d)) (misfit_items ds f (n + 1)) e in
-      ap₂ add_item (itself d f (map_none (λ p. in_item n ∷ p) (misfit f d) both.0) order.0 (or_left _ _ full))
-      (items_itself ds f (n + 1) both.1 order.1 (or_right (has_empty_list d) _ full))
+      ap₂ add_item (itself d f (map_none (λ p. in_item n ∷ p) (misfit f d) both.0) order.0 (or_parts _ _ full).0)
+      (items_itself ds f (n + 1) both.1 order.1 (or_parts (has_empty_list d) _ full).1)
 
   members_itself : (n : List ℕ) (ms : Members) (rows : List Row) → misfit_members ms rows ≡ None → HasOrder ms → member_has_empty_list ms ≡ false
       → said (canonical_member ms) n (row_named n rows) ≡ get_member n ms
@@ -157,8 +150,8 @@ mutual
   members_itself n (member k d ms) rows e order full =
       let both = first_none (misfit_member k (row_named k rows) (λ f. misfit f d)) (misfit_members ms rows) e in
       by_row (row_named n rows)
-      (member_said n k d ms rows (slice_cmp nat_cmp n k) refl both.0 (λ f fit. itself d f fit order.1 (or_left _ _ full))
-      (members_itself n ms rows both.1 order.2 (or_right (has_empty_list d) _ full)))
+      (member_said n k d ms rows (slice_cmp nat_cmp n k) refl both.0 (λ f fit. itself d f fit order.1 (or_parts _ _ full).0)
+      (members_itself n ms rows both.1 order.2 (or_parts (has_empty_list d) _ full).1))
     where
       by_row : (o : Option Row) {x : Option Data}
           → said (λ m f. match_ordering (slice_cmp nat_cmp n k) (canonical_member ms m f) (canonical f d) (canonical_member ms m f)) n o ≡ x
@@ -170,12 +163,8 @@ mutual
   all_itself no_members e order full = refl
   all_itself (member k d ms) e order full =
       let both = first_none (option_map (λ p. in_member k ∷ p) (misfit plain d)) (misfit_all ms) e in
-      ap₂ (add k) (itself d plain (map_none (λ p. in_member k ∷ p) (misfit plain d) both.0) order.1 (or_left _ _ full))
-      (all_itself ms both.1 order.2 (or_right (has_empty_list d) _ full))
-
-not_true : (b : Bool) → not b ≡ true → b ≡ false
-not_true true e = absurd (true≢false (sym e))
-not_true false e = refl
+      ap₂ (add k) (itself d plain (map_none (λ p. in_member k ∷ p) (misfit plain d) both.0) order.1 (or_parts _ _ full).0)
+      (all_itself ms both.1 order.2 (or_parts (has_empty_list d) _ full).1)
 
 none_is : {A : Type 0} (o : Option A) → is_none o ≡ true → o ≡ None
 none_is None e = refl
@@ -189,7 +178,7 @@ part_fits s d e =
 -- the canonical JSON of something says itself
 pub says_itself : (s : Sort) (d : Data) → is_part s d ≡ true → IsOrdered d → canonical (one s) d ≡ Some d
 says_itself s d e order =
-    itself d (one s) (part_fits s d e) order (not_true (has_empty_list d) (and_right (is_none (misfit (one s) d) && is_none (too_deep (one s) d limits)) _ e))
+    itself d (one s) (part_fits s d e) order (not-true (has_empty_list d) (and_right (is_none (misfit (one s) d) && is_none (too_deep (one s) d limits)) _ e))
 
 pub part_shallow : (s : Sort) (d : Data) → is_part s d ≡ true → too_deep (one s) d limits ≡ None
 part_shallow s d e =

@@ -1,5 +1,6 @@
 -- Two updates one after the other are one, by the second value laid over the first.
 use Rattle.std.proofs.Common.{◌≡◌, ◌↔◌, Bool, true, List, [], ◌∷◌, Option, Some, None, option_map, refl, sym, ap, ◌∙◌, subst}
+use Rattle.std.proofs.lemmas.Option.{same_Some}
 use Rattle.serde_json.specs.Data.{Data}
 use Rattle.aas_json_spelling.specs.Values.{IsOrdered}
 use Rattle.aas_model_names.specs.declared.modifiers.Extent.TheVariants as extent
@@ -102,9 +103,6 @@ updates_compose e u x v w order first second a =
 
 -- ---- in a submodel
 
-some_same : (a b : Element) → Some a ≡ Some b → a ≡ b
-some_same a b e = cc
-
 -- the path leads to the updated element, and a further one takes its place
 record IsAgain (d u : Submodel) (p : List PathStep) (w : Element) : Type 0 where
   found : element_at u p ≡ Some w
@@ -121,14 +119,14 @@ at_path : (d u x : Submodel) (p : List PathStep) (e : Element) (v w : Data) → 
     → element_at d p ≡ Some e → IsUpdateAt d p v u → IsUpdateAt u p w x ↔ (HasShape e w × IsUpdateAt d p (lay e v w) x)
 at_path d u x p e v w valid first second there a =
     let after = again d u p v valid a in
-    let old = subst (λ z. IsElementUpdate z v a.new) (some_same a.old e (sym a.found ∙ there)) a.update in
+    let old = subst (λ z. IsElementUpdate z v a.new) (same_Some a.old e (sym a.found ∙ there)) a.update in
     let both = λ (z : Element). updates_compose e a.new z v w (order_at d p e valid there) first second old in (
       λ b.
-          let news = some_same b.old a.new (sym b.found ∙ after.found) in
+          let news = same_Some b.old a.new (sym b.found ∙ after.found) in
           let one = (both b.new).0 (subst (λ z. IsElementUpdate z w b.new) news b.update) in
           (one.0, record { old = e; new = b.new; found = there; update = one.1; outside = b.outside ∙ after.outside b.new }),
       λ b.
-          let same = some_same b.1.old e (sym b.1.found ∙ there) in
+          let same = same_Some b.1.old e (sym b.1.found ∙ there) in
           record {
             old = a.new;
             new = b.1.new;
@@ -149,5 +147,5 @@ of_body d u x e v w valid first second is a =
     ))
 
 pub value_updates_compose : ValueUpdatesCompose
-value_updates_compose d u x [] e v w valid first second there a = of_body d u x e v w valid first second (some_same (body d) e there) a
+value_updates_compose d u x [] e v w valid first second there a = of_body d u x e v w valid first second (same_Some (body d) e there) a
 value_updates_compose d u x (s ∷ p) e v w valid first second there a = at_path d u x (s ∷ p) e v w valid first second there a

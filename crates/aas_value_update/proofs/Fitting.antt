@@ -5,6 +5,7 @@ use Rattle.std.proofs.Common.{refl, sym, ap, ◌∙◌, subst, true≢false}
 use Rattle.std.specs.Prelude.{bytes_eq, if◌then◌else◌}
 use Rattle.std.specs.Str.{encode_utf8_all}
 use Rattle.std.proofs.lemmas.Bool.{and_from}
+use Rattle.std.proofs.lemmas.Option.{none-some}
 use Rattle.serde_json.specs.Data.{Data, array, object, Items, no_items, item, Members, no_members, member}
 use Rattle.serde_json.specs.Find.{get, get_member}
 use Rattle.aas_lemmas.proofs.Truth.{and_left, and_right}
@@ -67,9 +68,6 @@ members_allow xs ys pairs (member n d ms) fits =
     and_from _ _ (by_name_allows n d xs ys (pairs n d) (λ e. false) (λ e. false) (λ e. e) (and_left _ _ fits))
     (members_allow xs ys pairs ms (and_right _ _ fits))
 
-none_some : (d : Data) → ◌≡◌ {A = Option Data} None (Some d) → ⊥
-none_some d e = cc
-
 each_fits : (xs : List Part) (ms : Members) → Rises ms → ((n : List ℕ) (d : Data) → get_member n ms ≡ Some d → fits_named n xs d ≡ true)
     → members_fit xs ms ≡ true
 each_fits xs no_members rises each = refl
@@ -78,7 +76,7 @@ each_fits xs (member k d ms) rises each =
     (each_fits xs ms rises.1 (λ n e there. by_test n e there (bytes_eq n k) refl))
   where
     by_test : (n : List ℕ) (e : Data) → get_member n ms ≡ Some e → (b : Bool) → bytes_eq n k ≡ b → fits_named n xs e ≡ true
-    by_test n e there true is = absurd (none_some e (sym (ap (λ m. get_member m ms) (same_name n k is) ∙ absent k ms rises.0) ∙ there))
+    by_test n e there true is = absurd (none-some e (sym (ap (λ m. get_member m ms) (same_name n k is) ∙ absent k ms rises.0) ∙ there))
     by_test n e there false is = each n e (get_past n k d ms is ∙ there)
 
 -- what stands under it, where names rise

@@ -3,6 +3,7 @@ use Rattle.std.proofs.Common.{◌≡◌, ℕ, Bool, true, false, ◌&&◌, List,
 use Rattle.std.specs.Prelude.{bytes_eq, if◌then◌else◌}
 use Rattle.std.specs.Str.{encode_utf8_all}
 use Rattle.std.specs.List.{cons_option}
+use Rattle.std.proofs.lemmas.Option.{none-some}
 use Rattle.serde_json.specs.Data.{Data, object, put, Items, no_items, item, Members, no_members, member}
 use Rattle.serde_json.specs.Find.{get_member}
 use Rattle.serde_json.proofs.Views.{get_member-put, get_member-put_other}
@@ -115,10 +116,7 @@ settle_called : (n : List ℕ) (d w : Data) (x : Part) (t : Data → Bool) (f : 
     → (b : Bool) (q : Option Data) → (b ≡ true → q ≡ Some d)
     → Settled (if b && true then x.fits else t) (if b && true then x.lay else f) (if b && true then Some w else o) (if b && is_some (over x.lay (Some w) q) then over x.lay (Some w) q else new) d
 settle_called n d w x t f o new s false q h = s
-settle_called n d w x t f o new s true None h = absurd (none_some d (h refl))
-  where
-    none_some : (e : Data) → ◌≡◌ {A = Option Data} None (Some e) → ⊥
-    none_some e p = cc
+settle_called n d w x t f o new s true None h = absurd (none-some d (h refl))
 settle_called n d w x t f o new s true (Some v) h = is_laid (ap (λ q. over x.lay (Some w) q) (h refl))
 
 settle_one : (n : List ℕ) (ms : Members) (d : Data) → get_member n ms ≡ Some d → (x : Part) (t : Data → Bool) (f : Data → Data → Data) (o new : Option Data) → Settled t f o new d

@@ -6,6 +6,7 @@ use Rattle.std.specs.Ordering.{match_ordering, ordering_reverse}
 use Rattle.std.proofs.lemmas.Cmp.{nat_list_cmp_total}
 use Rattle.std.proofs.lemmas.Slice.Eq.{bytes_eq-Decides}
 use Rattle.std.proofs.lemmas.Map.Text.{is_eq-slice_cmp}
+use Rattle.std.proofs.lemmas.Option.{none-some}
 use Rattle.serde_json.specs.Data.{Data, put, Members, no_members, member}
 use Rattle.serde_json.specs.Find.{get_member}
 use Rattle.aas_json_spelling.specs.Values.{AreAbove}
@@ -73,20 +74,17 @@ tail_at : (n k : List ℕ) (d e : Data) (ms ns : Members) (b : Bool) → bytes_e
 tail_at n k d e ms ns true is a b h = let same = same_name n k is in ap (λ x. get_member x ms) same ∙ absent k ms a ∙ sym (absent k ns b) ∙ sym (ap (λ x. get_member x ns) same)
 tail_at n k d e ms ns false is a b h = sym (get_past n k d ms is) ∙ h ∙ get_past n k e ns is
 
-none_some : (d : Data) → ◌≡◌ {A = Option Data} None (Some d) → ⊥
-none_some d e = cc
-
 pub known : (ms ns : Members) → Rises ms → Rises ns → ((n : List ℕ) → get_member n ms ≡ get_member n ns) → ms ≡ ns
 known no_members no_members a b h = refl
-known no_members (member l e ns) a b h = absurd (none_some e (h l ∙ get_here l l e ns (name_itself l)))
-known (member k d ms) no_members a b h = absurd (none_some d (sym (h k) ∙ get_here k k d ms (name_itself k)))
+known no_members (member l e ns) a b h = absurd (none-some e (h l ∙ get_here l l e ns (name_itself l)))
+known (member k d ms) no_members a b h = absurd (none-some d (sym (h k) ∙ get_here k k d ms (name_itself k)))
 known (member k d ms) (member l e ns) a b h = by_order (slice_cmp nat_cmp k l) refl (known ms ns a.1 b.1)
   where
     by_order : (o : Ordering) → slice_cmp nat_cmp k l ≡ o → (((n : List ℕ) → get_member n ms ≡ get_member n ns) → ms ≡ ns) → member k d ms ≡ member l e ns
-    by_order Less is tails = absurd (none_some d (sym (absent k (member l e ns) (is, above_all k l ns is b.0)) ∙ sym (h k) ∙ get_here k k d ms (name_itself k)))
+    by_order Less is tails = absurd (none-some d (sym (absent k (member l e ns) (is, above_all k l ns is b.0)) ∙ sym (h k) ∙ get_here k k d ms (name_itself k)))
     by_order Greater is tails =
         let back = nat_list_cmp_total.antisymm l k ∙ ap ordering_reverse is in
-        absurd (none_some e (sym (absent l (member k d ms) (back, above_all l k ms back a.0)) ∙ h l ∙ get_here l l e ns (name_itself l)))
+        absurd (none-some e (sym (absent l (member k d ms) (back, above_all l k ms back a.0)) ∙ h l ∙ get_here l l e ns (name_itself l)))
     by_order Equal is tails =
         let same : k ≡ l = same_name k l (sym (is_eq-slice_cmp k l) ∙ ap is_eq is) in
         let values : Some d ≡ Some e = sym (get_here k k d ms (name_itself k)) ∙ h k ∙ get_here k l e ns (sym (is_eq-slice_cmp k l) ∙ ap is_eq is) in

@@ -2,6 +2,7 @@
 use Rattle.std.proofs.Common.{◌≡◌, ℕ, Bool, true, false, ◌&&◌, List, [], ◌∷◌, map, codes, Option, Some, None, is_some, option_and_then, refl, sym, ap, ap₂, ◌∙◌, true≢false}
 use Rattle.std.specs.Prelude.{if◌then◌else◌}
 use Rattle.std.specs.Str.{encode_utf8_all}
+use Rattle.std.proofs.lemmas.Option.{same_Some}
 use Rattle.serde_json.specs.Data.{Data, null, boolean, number, string, array, object, Items, no_items, item, no_members, member}
 use Rattle.serde_json.specs.Find.{get, get_member}
 use Rattle.aas_json_table.specs.Spelled.{onto}
@@ -166,13 +167,10 @@ module _ (n : List ℕ) (xs ys : List Part) (old new : Data) (was : by_name n fo
   member_laid (string s) fits e = absurd (true≢false (sym fits))
   member_laid (array ds) fits e = absurd (true≢false (sym fits))
 
-some_same : (a b : Data) → Some a ≡ Some b → a ≡ b
-some_same a b e = cc
-
 statements_taken : (xs ys : List Part) (s : Option Data) → Apart (children ys) → Alike (children ys) (children xs)
     → Some (named (children ys)) ≡ over (lay_form (object_of xs)) (Some (named (children xs))) s → ((d : Data) → s ≡ Some d → fits_form (object_of xs) d ≡ true)
     → children ys ≡ children (all_taken xs (if_sent (by_names (children xs)) (children xs) s))
-statements_taken xs ys None apart alike e fits = same_named (children ys) (children xs) apart alike (some_same _ _ e) ∙ sym (nothing_taken xs)
+statements_taken xs ys None apart alike e fits = same_named (children ys) (children xs) apart alike (same_Some _ _ e) ∙ sym (nothing_taken xs)
 statements_taken xs ys (Some d) apart alike e fits = named_taken xs ys d apart alike (fits d refl) e
 
 entries_taken : (y : Payload) → ((cs ds : List Child) → in_order (map annotation_value cs) ≡ in_order (map annotation_value ds) → value_over extent.WithBlobValue y cs ≡ value_over extent.WithBlobValue y ds)
@@ -181,7 +179,7 @@ entries_taken : (y : Payload) → ((cs ds : List Child) → in_order (map annota
     → ((d : Data) → s ≡ Some d → fits_form (entries_of xs) d ≡ true)
     → children ys ≡ children (all_taken xs (if_sent (λ d. by_entries (children xs) (items_in d)) (children xs) s))
 entries_taken y by shows xs ys None apart alike names e fits =
-    (same_with_children y y (children ys) (children xs) shows refl apart alike (by (children ys) (children xs) (some_same _ _ e))).1 ∙ sym (nothing_taken xs)
+    (same_with_children y y (children ys) (children xs) shows refl apart alike (by (children ys) (children xs) (same_Some _ _ e))).1 ∙ sym (nothing_taken xs)
 entries_taken y by shows xs ys (Some d) apart alike names e fits = annotations_taken y by shows xs ys d apart alike names (fits d refl) e
 
 -- ---- kinds

@@ -1,8 +1,9 @@
 use Rattle.std.proofs.Common.{◌≡◌, ◌<◌, ◌≤◌, ℕ, ◌+◌, ◌-◌, List, length, get_or, drop, ap, subst, arith, rules}
+use Rattle.std.proofs.lemmas.List.{get_or_default}
 use Rattle.aas_rows.specs.Rows.{count_deeper}
 use Rattle.aas_sheet_index.specs.Sides.{levels}
 use Rattle.aas_sheet_index.specs.declared.side.Side.{Side}
-use Rattle.aas_sheet_index.proofs.Measures.{count_on, counted_at_end, counted_before, same_get, size_is}
+use Rattle.aas_sheet_index.proofs.Measures.{count_on, counted_at_end, counted_before, size_is}
 use Rattle.aas_sheet_index.proofs.measuring.size_at.Goals as goal
 use Rattle.aas_sheet_index.proofs.measuring.size_at.Goals.{then-loop-end-test+else-sides-end, else-loop-end-test}
 
@@ -11,7 +12,7 @@ overflow_add-end-in-loop-end c =
     let ss : List Side = c.args.sides.now in
     let k : ℕ = (get_or ss c.args.place c.index-sides-place.result).level in
     let s : Side = get_or ss c.loop-end.end c.index-sides-end-in-loop-end.result in
-    let deep : k < s.level = subst (λ (x : Side). k < x.level) (same_get ss c.loop-end.end c.index-sides-end.result c.index-sides-end-in-loop-end.result c.loop-end-test.true) c.if-sides-end.true in
+    let deep : k < s.level = subst (λ (x : Side). k < x.level) (get_or_default ss c.loop-end.end c.index-sides-end.result c.index-sides-end-in-loop-end.result c.loop-end-test.true) c.if-sides-end.true in
     let on = count_on ss k (c.args.place + 1) c.loop-end.end s c.requires.known c.loop-end.invariant c.loop-end-test.true (ap (get_or ss c.loop-end.end) c.index-sides-end-in-loop-end.is) deep in
     let inside : c.loop-end.end + s.size ≤ length ss = on.0.inside in
     search rules
@@ -21,7 +22,7 @@ loop-end-smaller c =
     let ss : List Side = c.args.sides.now in
     let k : ℕ = (get_or ss c.args.place c.index-sides-place.result).level in
     let s : Side = get_or ss c.loop-end.end c.index-sides-end-in-loop-end.result in
-    let deep : k < s.level = subst (λ (x : Side). k < x.level) (same_get ss c.loop-end.end c.index-sides-end.result c.index-sides-end-in-loop-end.result c.loop-end-test.true) c.if-sides-end.true in
+    let deep : k < s.level = subst (λ (x : Side). k < x.level) (get_or_default ss c.loop-end.end c.index-sides-end.result c.index-sides-end-in-loop-end.result c.loop-end-test.true) c.if-sides-end.true in
     let on = count_on ss k (c.args.place + 1) c.loop-end.end s c.requires.known c.loop-end.invariant c.loop-end-test.true (ap (get_or ss c.loop-end.end) c.index-sides-end-in-loop-end.is) deep in
     let less : length ss - (c.loop-end.end + s.size) < length ss - c.loop-end.end = let inside = on.0.inside in let some = on.1 in omega (arith, inside, some) in
     less
@@ -31,7 +32,7 @@ loop-end-preserved c =
     let ss : List Side = c.args.sides.now in
     let k : ℕ = (get_or ss c.args.place c.index-sides-place.result).level in
     let s : Side = get_or ss c.loop-end.end c.index-sides-end-in-loop-end.result in
-    let deep : k < s.level = subst (λ (x : Side). k < x.level) (same_get ss c.loop-end.end c.index-sides-end.result c.index-sides-end-in-loop-end.result c.loop-end-test.true) c.if-sides-end.true in
+    let deep : k < s.level = subst (λ (x : Side). k < x.level) (get_or_default ss c.loop-end.end c.index-sides-end.result c.index-sides-end-in-loop-end.result c.loop-end-test.true) c.if-sides-end.true in
     (count_on ss k (c.args.place + 1) c.loop-end.end s c.requires.known c.loop-end.invariant c.loop-end-test.true (ap (get_or ss c.loop-end.end) c.index-sides-end-in-loop-end.is) deep).0
 
 pub returns : goal.returns
