@@ -1,5 +1,5 @@
 -- What a path leads to, and that it leads nowhere.
-use Rattle.std.proofs.Common.{◌≡◌, ◌⊎◌, inl, inr, ⊎_elim, ℕ, ◌<◌, false, List, [], ◌∷◌, length, Option, Some, None, Err, refl, sym, ap, ◌∙◌, subst, arith}
+use Rattle.std.proofs.Common.{◌≡◌, ◌⊎◌, inl, inr, ⊎_elim, ℕ, ◌<◌, List, [], ◌∷◌, length, Option, Some, None, Err, refl, sym, ap, ◌∙◌, subst, arith}
 use Rattle.std.specs.Prelude.{is_some, MatchOption, take}
 use Rattle.std.specs.Option.{option_map_or}
 use Rattle.aas_command.specs.declared.refusal.Absent.TheVariants as absent
@@ -13,7 +13,6 @@ use Rattle.aas_model.specs.declared.path.PathStep.{PathStep}
 use Rattle.aas_path_trees.specs.ElementAt.{depth_found, element_at}
 use Rattle.aas_form.proofs.Keys.{reference_is_there}
 use Rattle.aas_form.specs.ReferenceTo.{reference_to}
-use Rattle.aas_model.specs.declared.reference.Reference.{Reference}
 use Rattle.aas_store.specs.Edited.{Holds, LeadsNowhere}
 use Rattle.aas_store.specs.Documents.{Documents}
 use Rattle.aas_store.specs.Reads.{IsRowOf}
@@ -22,6 +21,7 @@ use Rattle.aas_store.specs.declared.lack.Lack.TheVariants as lack
 use Rattle.aas_rows.specs.declared.view.RowView.{RowView}
 use Rattle.std.specs.FinMap as map
 use Rattle.std.specs.Str.{encode_utf8_all}
+use Rattle.aas_lemmas.proofs.Truth.{None-from_is_some}
 use Rattle.aas_answer.specs.Answers.{Answer, lost, of_element, of_reference}
 use Rattle.aas_answer.specs.Found.{IsFound, IsLost, IsRefusalOf}
 
@@ -83,8 +83,4 @@ reference_lost s p m r none depth is = ap (λ o. of_reference o (lost p s)) none
 -- a path without an element has no reference
 pub no_reference : (s : Submodel) (p : List PathStep) → 0 < length p → element_at s p ≡ None → reference_to s p ≡ None
 no_reference s [] some none = absurd (omega (arith, some))
-no_reference s (t ∷ p) some none = no_some (reference_to s (t ∷ p)) (reference_is_there s t p ∙ ap is_some none)
-  where
-    no_some : (o : Option Reference) → is_some o ≡ false → o ≡ None
-    no_some None is = refl
-    no_some (Some r) is = absurd (cc)
+no_reference s (t ∷ p) some none = None-from_is_some (reference_to s (t ∷ p)) (reference_is_there s t p ∙ ap is_some none)

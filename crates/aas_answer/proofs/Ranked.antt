@@ -5,6 +5,7 @@ use Rattle.std.proofs.lemmas.Bool.{ltb-false}
 use Rattle.std.proofs.lemmas.Bool.Decides.{Decides-ltb}
 use Rattle.std.specs.FinMap as documents
 use Rattle.std.specs.Str.{encode_utf8_all}
+use Rattle.aas_lemmas.proofs.Lists.{at_seam}
 use Rattle.serde_json.specs.Written.{compact_text}
 use Rattle.aas_json_mapping.specs.Elements.{spell_element}
 use Rattle.aas_model.specs.declared.documents.Submodel.{Submodel}
@@ -79,10 +80,6 @@ voices_front w (r ∷ rs) k rest h =
     voices_out w k r (rs ++ rest) ∙ front_more w k r rs rest h (λ l g. voices_front w rs l rest g) (nat_lt k r.level) refl ∙ sym (voices_out w k r rs)
 
 -- ---- an element and its rows
-
-at_seam : (b : List Line) (x : Line) (xs : List Line) → slice_get (b ++ x ∷ xs) (length b) ≡ Some x
-at_seam [] x xs = refl
-at_seam (y ∷ b) x xs = at_seam b x xs
 
 behind_seam : (b : List Line) (x : Line) (xs : List Line) → drop (length b + 1) (b ++ x ∷ xs) ≡ xs
 behind_seam [] x xs = refl

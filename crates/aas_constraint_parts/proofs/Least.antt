@@ -1,11 +1,11 @@
 -- The least number that references break, in several lists.
 use Rattle.std.proofs.Common.{◌≡◌, ℕ, ◌+◌, ◌<◌, ◌≤◌, List, [], ◌∷◌, ◌++◌, length, flat_map, drop, get_or, Option, Some, None, refl, sym, ap, ◌∙◌, length-drop, arith}
 use Rattle.std.proofs.lemmas.List.{nil_from_length}
+use Rattle.aas_lemmas.proofs.Lists.{drop_at}
 use Rattle.aas_model.specs.declared.reference.Reference.{Reference}
 use Rattle.aas_reference.specs.Faults.{least}
 use Rattle.aas_reference.proofs.Faults.{least_none}
 use Rattle.aas_constraint_parts.specs.References.{reference_fault, references_fault}
-use Rattle.aas_constraint_parts.proofs.Lists.{left}
 
 pub least_assoc : (a b c : Option ℕ) → least (least a b) c ≡ least a (least b c)
 least_assoc None b c = refl
@@ -28,7 +28,7 @@ module _ {X : Type 0} (references : X → List Reference) where
       → all ≡ least so_far (fault_of_all (drop i xs)) → all ≡ least next (fault_of_all (drop (i + 1) xs))
   one_more_fault xs i x all so_far here next lt at is sum h =
       let rest = fault_of_all (drop (i + 1) xs) in
-      h ∙ ap (λ ys. least so_far (fault_of_all ys)) (left xs i x lt at) ∙ ap (least so_far) (fault_append (references x) (flat_map references (drop (i + 1) xs)))
+      h ∙ ap (λ ys. least so_far (fault_of_all ys)) (drop_at xs i x lt at) ∙ ap (least so_far) (fault_append (references x) (flat_map references (drop (i + 1) xs)))
       ∙ sym (least_assoc so_far (references_fault (references x)) rest) ∙ ap (λ y. least (least so_far y) rest) (sym is) ∙ ap (λ y. least y rest) (sym sum)
 
   pub no_more_fault : (xs : List X) (i : ℕ) (all so_far : Option ℕ) → length xs ≤ i → all ≡ least so_far (fault_of_all (drop i xs)) → so_far ≡ all

@@ -1,14 +1,8 @@
 -- Lists, item by item.
-use Rattle.std.proofs.Common.{◌≡◌, ℕ, suc, ◌+◌, ◌<◌, List, [], ◌∷◌, ◌++◌, length, drop, get_or, filter_map, flat_map, Option, Some, None, ◌&&◌, Bool, refl, sym, ap, ◌∙◌}
+use Rattle.std.proofs.Common.{◌≡◌, List, [], ◌∷◌, ◌++◌, filter_map, flat_map, Option, Some, None, ◌&&◌, Bool, refl, ap, ◌∙◌}
 use Rattle.std.specs.List.{cons_option, list_all}
-use Rattle.std.proofs.Math.Seq.{drop-cons}
-use Rattle.std.proofs.Math.Numerals.{add-one}
 use Rattle.std.proofs.lemmas.Grind.{flat_map-append}
 use Rattle.std.proofs.lemmas.List.Folds.{list_all-append}
-
--- what is left begins with the item at a place
-pub left : {X : Type 0} (xs : List X) (i : ℕ) (x : X) → i < length xs → x ≡ get_or xs i x → drop i xs ≡ x ∷ drop (i + 1) xs
-left xs i x lt at = drop-cons xs i x lt ∙ ap (λ y. y ∷ drop (suc i) xs) (sym at) ∙ ap (λ n. x ∷ drop n xs) (sym (add-one i))
 
 cons_before : {Y : Type 0} (o : Option Y) (ys : List Y) (y : Y) → cons_option o (ys ++ y ∷ []) ≡ cons_option o ys ++ y ∷ []
 cons_before None ys y = refl

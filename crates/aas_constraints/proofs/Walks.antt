@@ -3,6 +3,7 @@ use Rattle.std.proofs.Common.{◌≡◌, ℕ, ◌+◌, ◌<◌, ◌≤◌, lengt
 use Rattle.std.proofs.lemmas.Grind.{flat_map-append}
 use Rattle.std.proofs.lemmas.List.{length-map, length-take, map-append, nil_from_length}
 use Rattle.std.proofs.lemmas.Simd.{map-map}
+use Rattle.aas_lemmas.proofs.Lists.{drop_at}
 use Rattle.aas_model.specs.declared.element.Element.{Element, out-Element}
 use Rattle.aas_model.specs.declared.path.Fault.{Fault}
 use Rattle.aas_model.specs.declared.path.PathStep.{PathStep}
@@ -15,7 +16,6 @@ use Rattle.aas_constraint_rules.specs.Faults.{document_faults, submodel_rules, i
 use Rattle.aas_constraint_rules.specs.Sentences.{Sentence, holds_of}
 use Rattle.aas_constraints.specs.Own.{least_broken}
 use Rattle.aas_constraint_rules.specs.Rules.{semantics_of, first_some, is_repeat}
-use Rattle.aas_constraint_parts.proofs.Lists.{left}
 use Rattle.aas_json_table.specs.Rows.{first_of}
 use Rattle.aas_constraint_rules.proofs.Elements.{tree_out, under_fault}
 use Rattle.aas_constraints.specs.declared.place.Scope.{Scope}
@@ -69,7 +69,7 @@ pub turn : (c : Scope) (t : Bool) (a : Option Own) (all : Option Fault) (ks : Li
     → all ≡ first_of (option_map (under_fault (step_to a i (own_of k))) (found_in c t a (map own_of (take i ks)) k)) (found_among c t a (map own_of (take (i + 1) ks)) (drop (i + 1) ks))
 turn c t a all ks i k lt at so_far =
     let long : length (map own_of (take i ks)) ≡ i = length-map (take i ks) own_of ∙ omega (arith, length-take i ks) in
-    so_far ∙ ap (found_among c t a (map own_of (take i ks))) (left ks i k lt at) ∙ found_among_cons c t a (map own_of (take i ks)) k (drop (i + 1) ks)
+    so_far ∙ ap (found_among c t a (map own_of (take i ks))) (drop_at ks i k lt at) ∙ found_among_cons c t a (map own_of (take i ks)) k (drop (i + 1) ks)
     ∙ (λ j. first_of (option_map (under_fault (step_to a (long j) (own_of k))) (found_in c t a (map own_of (take i ks)) k)) (found_among c t a (sym (taken_map own_of ks i k lt at) j) (drop (i + 1) ks)))
 
 -- ---- what the walk answers

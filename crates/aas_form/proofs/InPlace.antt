@@ -3,10 +3,9 @@ use Rattle.std.proofs.Common.{◌≡◌, ℕ, ◌+◌, ◌<◌, ◌≤◌, List,
 use Rattle.std.proofs.Math.Seq.{take-suc-set, take-append_seam}
 use Rattle.std.proofs.Math.Numerals.{add-one}
 use Rattle.std.proofs.lemmas.List.{drop-set-lt, nil_from_length, append-nil, take_all}
-use Rattle.aas_lemmas.proofs.Lists.{append_one}
+use Rattle.aas_lemmas.proofs.Lists.{append_one, drop_at}
 use Rattle.aas_model.specs.declared.element.Element.{Element}
 use Rattle.aas_model_text.specs.Many.{filled}
-use Rattle.aas_constraint_parts.proofs.Lists.{left}
 
 -- a loop over children, of which those before place i are changed
 abbrev pub Reached : (Element → Element) → List Element → List Element → ℕ → Type 0
@@ -20,7 +19,7 @@ pub turn : (f : Element → Element) (start ks : List Element) (i : ℕ) (x y : 
 turn f start ks i x y lt at is so_far =
     let rest : drop (i + 1) ks ≡ drop (i + 1) (set ks i y) = sym (drop-set-lt (i + 1) ks i y (omega arith)) in
     let done : take i ks ++ y ∷ [] ≡ take (i + 1) (set ks i y) = sym (ap (λ n. take n (set ks i y)) (add-one i) ∙ take-suc-set ks i y lt) in
-    so_far ∙ ap (λ l. take i ks ++ map f l) (left ks i x lt at) ∙ ap (λ z. take i ks ++ z ∷ map f (drop (i + 1) ks)) (sym is)
+    so_far ∙ ap (λ l. take i ks ++ map f l) (drop_at ks i x lt at) ∙ ap (λ z. take i ks ++ z ∷ map f (drop (i + 1) ks)) (sym is)
     ∙ sym (append_one (take i ks) y (map f (drop (i + 1) ks))) ∙ ap₂ (λ a b. a ++ map f b) done rest
 
 pub ended : (f : Element → Element) (start ks : List Element) (i : ℕ) → length ks ≤ i → Reached f start ks i → ks ≡ map f start

@@ -2,11 +2,10 @@
 use Rattle.std.proofs.Common.{◌≡◌, ℕ, ◌+◌, ◌<◌, ◌≤◌, Bool, List, [], ◌∷◌, ◌++◌, length, take, drop, get_or, map}
 use Rattle.std.proofs.Common.{Option, Some, refl, sym, ap, ap₂, ◌∙◌, append_assoc, length-drop, arith}
 use Rattle.std.proofs.lemmas.List.{append-nil, length-map, length-take, map-append, nil_from_length}
-use Rattle.aas_lemmas.proofs.Lists.{append_one}
+use Rattle.aas_lemmas.proofs.Lists.{append_one, drop_at}
 use Rattle.aas_model.specs.declared.element.Element.{Element}
 use Rattle.aas_model.specs.declared.path.Path.{Path}
 use Rattle.aas_model.specs.declared.path.PathStep.{PathStep}
-use Rattle.aas_constraint_parts.proofs.Lists.{left}
 use Rattle.aas_constraint_rules.specs.Sites.{Own, own_of, Site, under, step_to, root, sites, sites_among, trees, tree_of}
 use Rattle.aas_constraint_rules.proofs.Elements.{tree_out}
 use Rattle.aas_constraints.proofs.Lists.{taken_map}
@@ -50,7 +49,7 @@ turn start now new p q t a ks i k lt at is added so_far =
     let b = map own_of (take i ks) in
     let long : length b ≡ i = length-map (take i ks) own_of ∙ omega (arith, length-take i ks) in
     let here : List PathStep → List Path = λ q. map (path_behind q) (sites t a b (tree_of k)) in
-    so_far ∙ ap (λ l. now ++ paths_among p t a b l) (left ks i k lt at) ∙ ap (λ l. now ++ l) (paths_among_cons p t a b k (drop (i + 1) ks))
+    so_far ∙ ap (λ l. now ++ paths_among p t a b l) (drop_at ks i k lt at) ∙ ap (λ l. now ++ l) (paths_among_cons p t a b k (drop (i + 1) ks))
     ∙ ap (λ n. now ++ (here (p ++ step_to a n (own_of k) ∷ []) ++ paths_among p t a (b ++ own_of k ∷ []) (drop (i + 1) ks))) long
     ∙ sym (append_assoc now (here (p ++ step_to a i (own_of k) ∷ [])) (paths_among p t a (b ++ own_of k ∷ []) (drop (i + 1) ks)))
     ∙ ap (λ q. (now ++ here q) ++ paths_among p t a (b ++ own_of k ∷ []) (drop (i + 1) ks)) (sym is)

@@ -23,11 +23,11 @@ use Rattle.std.specs.Str.{IsUtf8}
 use Rattle.std.proofs.lemmas.Str.{IsUtf8-from_ascii}
 use Rattle.std.proofs.lemmas.Str.Ascii.{IsAscii-from_all}
 use Rattle.std.proofs.lemmas.List.Elements.{All-weaker}
-use Rattle.aas_http.proofs.Lengths.{left, right}
+use Rattle.aas_lemmas.proofs.Truth.{and_left, and_right}
 
 not_blank : (b more : List ℕ) → ¬ (IsBlank b) → ¬ (IsBlank (b ++ more))
 not_blank b more some blank = some (record {
-  lines = left (list_all ends_line b) (list_all ends_line more) (sym (list_all-append ends_line b more) ∙ blank.lines);
+  lines = and_left (list_all ends_line b) (list_all ends_line more) (sym (list_all-append ends_line b more) ∙ blank.lines);
   short = omega (arith, blank.short, length-append b more);
 })
 
@@ -149,15 +149,15 @@ not_token m ends token = ⊎_elim
 
 not_method : (method : List ℕ) → 0 < length method → AllPass is_token_byte method → list_all ends_line method ≡ true → ⊥
 not_method [] some token lines = absurd (omega arith)
-not_method (m ∷ method) some token lines = not_token m (left (ends_line m) (list_all ends_line method) lines) (token 0 m (omega arith))
+not_method (m ∷ method) some token lines = not_token m (and_left (ends_line m) (list_all ends_line method) lines) (token 0 m (omega arith))
 
 pub blank_none : (b : List ℕ) → IsBlank b → AdmitsNone b
 blank_none b blank h rest a =
     let behind = 32 ∷ (h.target ++ 32 ∷ (print_version h.minor ++ (print_end h.line_end ++ (print_section h.fields h.last ++ rest)))) in
     let is : b ≡ print_blank h.blank ++ (h.method ++ behind) = a.reads.1 ∙ print_request-append h rest in
     let all : list_all ends_line (print_blank h.blank ++ (h.method ++ behind)) ≡ true = sym (ap (list_all ends_line) is) ∙ blank.lines in
-    let more : list_all ends_line (h.method ++ behind) ≡ true = right (list_all ends_line (print_blank h.blank)) _ (sym (list_all-append ends_line (print_blank h.blank) (h.method ++ behind)) ∙ all) in
-    not_method h.method a.reads.0.method.0 a.reads.0.method.1 (left (list_all ends_line h.method) (list_all ends_line behind) (sym (list_all-append ends_line h.method behind) ∙ more))
+    let more : list_all ends_line (h.method ++ behind) ≡ true = and_right (list_all ends_line (print_blank h.blank)) _ (sym (list_all-append ends_line (print_blank h.blank) (h.method ++ behind)) ∙ all) in
+    not_method h.method a.reads.0.method.0 a.reads.0.method.1 (and_left (list_all ends_line h.method) (list_all ends_line behind) (sym (list_all-append ends_line h.method behind) ∙ more))
 
 ascii : (b : ℕ) → is_token_byte b ≡ true → b < 128
 unfolding is_token_byte

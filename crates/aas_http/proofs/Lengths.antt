@@ -8,26 +8,19 @@ use Rattle.std.proofs.lemmas.Bool.{lt-ltb, cond-false}
 use Rattle.std.proofs.lemmas.Bool.Decides.{nat_tests}
 use Rattle.std.proofs.lemmas.Int.Digits.{digits_value-lt}
 use Rattle.std.proofs.Math.Nat.{pow-le-pow_right}
+use Rattle.aas_lemmas.proofs.Truth.{and_left, and_right}
 use Rattle.http1.specs.Fields.{Header, is_number, values_named, known_fields, content_length}
 use Rattle.http1.specs.declared.fields.KnownFields.{KnownFields}
 use Rattle.http1.specs.declared.fields.ContentLength.TheVariants as Length
 use Rattle.aas_http.specs.BodyLength.{is_length, length_value}
 use Rattle.aas_http.specs.OnlyValue.{number_of}
 
-pub left : (a b : Bool) → (a && b) ≡ true → a ≡ true
-left true b h = refl
-left false b h = cc
-
-pub right : (a b : Bool) → (a && b) ≡ true → b ≡ true
-right true b h = h
-right false b h = cc
-
 digit : (c : ℕ) → is_ascii_digit c ≡ true → digit_value c < 10
 digit c is = grind (arith, nat_tests)
 
 all_digits : (cs : List ℕ) → list_all is_ascii_digit cs ≡ true → AllDigits 10 cs
 all_digits [] is = tt
-all_digits (c ∷ cs) is = (digit c (left (is_ascii_digit c) (list_all is_ascii_digit cs) is), all_digits cs (right (is_ascii_digit c) (list_all is_ascii_digit cs) is))
+all_digits (c ∷ cs) is = (digit c (and_left (is_ascii_digit c) (list_all is_ascii_digit cs) is), all_digits cs (and_right (is_ascii_digit c) (list_all is_ascii_digit cs) is))
 
 below : (n : ℕ) → n ≤ 19 → 10 ^ n ≤ 10 ^ 19
 below n h = pow-le-pow_right (omega arith) h

@@ -4,6 +4,7 @@ use Rattle.std.specs.Prelude.{All}
 use Rattle.std.specs.Int.{from_be_bytes, to_be_bytes, w32}
 use Rattle.std.proofs.lemmas.List.{take_at, drop_at}
 use Rattle.std.proofs.lemmas.Nat.{from_be_bytes-to_be_bytes_4}
+use Rattle.aas_lemmas.proofs.Lists.{same_heads, same_tails}
 use Rattle.aas_journal.specs.Image.{records}
 
 abbrev pub Short : List (List ℕ) → Type 0
@@ -30,12 +31,6 @@ drop_size payload rest = drop_at (size payload) rest 4 (size_four payload)
 
 pub read_size : (payload : List ℕ) → length payload < 2 ^ 32 → from_be_bytes w32 (size payload) ≡ length payload
 read_size payload short = from_be_bytes-to_be_bytes_4 (length payload) short
-
-pub first_is : (x y : ℕ) (a b : List ℕ) → x ∷ a ≡ y ∷ b → x ≡ y
-first_is x y a b e = cc
-
-pub rest_is : (x y : ℕ) (a b : List ℕ) → x ∷ a ≡ y ∷ b → a ≡ b
-rest_is x y a b e = cc
 
 -- bytes after an open gate that have room for a record and one more gate
 abbrev pub Reaches : List ℕ → Type 0
@@ -69,8 +64,8 @@ open_behind : (payload : List ℕ) (payloads : List (List ℕ)) (g h : ℕ) (r s
 open_behind payload payloads g h r s short e =
     let more = records payloads ++ h ∷ s in
     let all : g ∷ r ≡ 1 ∷ (size payload ++ (payload ++ more)) = e ∙ records_then payload payloads (h ∷ s) in (
-      first_is g 1 r (size payload ++ (payload ++ more)) all,
-      subst (λ (l : List ℕ). Reaches l) (sym (rest_is g 1 r (size payload ++ (payload ++ more)) all)) (reaches payload more short (omega (arith, length-append (records payloads) (h ∷ s)))),
+      same_heads g 1 r (size payload ++ (payload ++ more)) all,
+      subst (λ (l : List ℕ). Reaches l) (sym (same_tails g 1 r (size payload ++ (payload ++ more)) all)) (reaches payload more short (omega (arith, length-append (records payloads) (h ∷ s)))),
     )
 
 one_more : (p q : List ℕ) (a b : List (List ℕ)) (g h : ℕ) (r s : List ℕ) → p ≡ q → OneOrOpen a b g h r s → OneOrOpen (p ∷ a) (q ∷ b) g h r s
@@ -80,12 +75,12 @@ one_more p q a b g h r s same it = ⊎_elim
     it
 
 pub one_or_open : (a b : List (List ℕ)) (g h : ℕ) (r s : List ℕ) → Short a → Short b → records a ++ g ∷ r ≡ records b ++ h ∷ s → OneOrOpen a b g h r s
-one_or_open [] [] g h r s a_short b_short e = inl (refl, first_is g h r s e)
+one_or_open [] [] g h r s a_short b_short e = inl (refl, same_heads g h r s e)
 one_or_open [] (q ∷ b) g h r s a_short b_short e = inr (inl (open_behind q b g h r s (short_head q b b_short) e))
 one_or_open (p ∷ a) [] g h r s a_short b_short e = inr (inr (open_behind p a h g s r (short_head p a a_short) (sym e)))
 one_or_open (p ∷ a) (q ∷ b) g h r s a_short b_short e =
     let p_rest = size p ++ (p ++ (records a ++ g ∷ r)) in
     let q_rest = size q ++ (q ++ (records b ++ h ∷ s)) in
-    let all : p_rest ≡ q_rest = rest_is 1 1 p_rest q_rest (sym (records_then p a (g ∷ r)) ∙ e ∙ records_then q b (h ∷ s)) in
+    let all : p_rest ≡ q_rest = same_tails 1 1 p_rest q_rest (sym (records_then p a (g ∷ r)) ∙ e ∙ records_then q b (h ∷ s)) in
     let same = same_payload p q (records a ++ g ∷ r) (records b ++ h ∷ s) (short_head p a a_short) (short_head q b b_short) all in
     one_more p q a b g h r s same.0 (one_or_open a b g h r s (short_tail p a a_short) (short_tail q b b_short) same.1)

@@ -1,9 +1,8 @@
 -- Children that were read, as the attributes that hold them.
-use Rattle.std.proofs.Common.{◌≡◌, ◌⊎◌, inl, inr, ℕ, List, [], ◌∷◌, ◌++◌, Bool, true, false, Option, Some, None, option_map, option_to_list, IfSome, map, filter, cond, length, get_or, drop, add-one, ◌+◌, zero, suc, ◌<◌, ◌≤◌, arith, refl, sym, ap, ap₂, ◌∙◌, true≢false}
+use Rattle.std.proofs.Common.{◌≡◌, ◌⊎◌, inl, inr, ℕ, List, [], ◌∷◌, ◌++◌, Bool, true, false, Option, Some, None, option_map, option_to_list, IfSome, map, filter, cond, length, get_or, zero, suc, ◌<◌, ◌≤◌, arith, refl, sym, ap, ap₂, ◌∙◌, true≢false}
 use Rattle.std.proofs.lemmas.Simd.{map-map}
 use Rattle.std.proofs.lemmas.List.{append_assoc, append-nil}
 use Rattle.std.specs.List.{list_all}
-use Rattle.std.proofs.Math.Seq.{drop-cons}
 use Rattle.std.proofs.lemmas.List.{map-append}
 use Rattle.std.proofs.lemmas.List.Elements.{filter-append}
 use Rattle.serde_json.specs.Data.{Data, Items, no_items, item, depth, items_depth}
@@ -63,10 +62,6 @@ pub item_depth : (vs : List Value) (i : ℕ) (v : Value) → i < length vs → v
 item_depth [] i v h e = absurd (omega arith)
 item_depth (x ∷ vs) zero v h e = let same : depth (view v) ≡ depth (view x) = ap (λ y. depth (view y)) e in omega arith
 item_depth (x ∷ vs) (suc i) v h e = let later : depth (view v) ≤ items_depth (items_view vs) = item_depth vs i v (omega arith) e in omega arith
-
--- what is left of the items, with the next one before it
-pub drop_item : (vs : List Value) (i : ℕ) (v : Value) → i < length vs → v ≡ get_or vs i v → drop i vs ≡ v ∷ drop (i + 1) vs
-drop_item vs i v h e = rw add-one (drop-cons vs i v h ∙ ap (λ x. x ∷ drop (suc i) vs) (sym e))
 
 -- ---- children, as they are spelled
 

@@ -1,5 +1,7 @@
 -- Lists.
-use Rattle.std.proofs.Common.{◌≡◌, List, [], ◌∷◌, ◌++◌, map, append_assoc, refl}
+use Rattle.std.proofs.Common.{◌≡◌, ℕ, zero, suc, ◌+◌, ◌<◌, List, [], ◌∷◌, ◌++◌, map, append_assoc, length, drop, get_or, slice_get, Some, refl, sym, ap, ◌∙◌, arith}
+use Rattle.std.proofs.Math.Numerals.{add-one}
+use Rattle.std.proofs.Math.Seq.{drop-cons}
 
 pub no_first : {X : Type 0} (xs ys : List X) → xs ++ ys ≡ [] → xs ≡ []
 no_first [] ys e = refl
@@ -16,3 +18,28 @@ no_map f (x ∷ xs) e = cc
 -- an item at the end is the first of what follows
 pub append_one : {X : Type 0} (xs : List X) (x : X) (rest : List X) → (xs ++ x ∷ []) ++ rest ≡ xs ++ x ∷ rest
 append_one xs x rest = append_assoc xs (x ∷ []) rest
+
+pub same_heads : {X : Type 0} (x y : X) (xs ys : List X) → x ∷ xs ≡ y ∷ ys → x ≡ y
+same_heads x y xs ys e = cc
+
+pub same_tails : {X : Type 0} (x y : X) (xs ys : List X) → x ∷ xs ≡ y ∷ ys → xs ≡ ys
+same_tails x y xs ys e = cc
+
+-- what stands in a list of two
+pub get_front : {X : Type 0} (xs ys : List X) (i : ℕ) (x : X) → slice_get xs i ≡ Some x → slice_get (xs ++ ys) i ≡ Some x
+get_front [] ys i x e = absurd (cc)
+get_front (y ∷ xs) ys zero x e = e
+get_front (y ∷ xs) ys (suc i) x e = get_front xs ys i x e
+
+pub get_behind : {X : Type 0} (xs ys : List X) (n i : ℕ) → n + length xs ≡ i → slice_get (xs ++ ys) i ≡ slice_get ys n
+get_behind [] ys n i e = let same : i ≡ n = omega (arith, e) in ap (slice_get ys) same
+get_behind (x ∷ xs) ys n zero e = absurd (omega (arith, e))
+get_behind (x ∷ xs) ys n (suc i) e = get_behind xs ys n i (omega (arith, e))
+
+pub at_seam : {X : Type 0} (xs : List X) (x : X) (ys : List X) → slice_get (xs ++ x ∷ ys) (length xs) ≡ Some x
+at_seam [] x ys = refl
+at_seam (y ∷ xs) x ys = at_seam xs x ys
+
+-- what is left from a place on begins with the item there
+pub drop_at : {X : Type 0} (xs : List X) (i : ℕ) (x : X) → i < length xs → x ≡ get_or xs i x → drop i xs ≡ x ∷ drop (i + 1) xs
+drop_at xs i x lt at = drop-cons xs i x lt ∙ ap (λ y. y ∷ drop (suc i) xs) (sym at) ∙ ap (λ n. x ∷ drop n xs) (sym (add-one i))

@@ -8,6 +8,7 @@ use Rattle.std.specs.Char.{is_ascii_alphabetic, is_ascii_alphanumeric}
 use Rattle.std.specs.List.{list_all}
 use Rattle.std.specs.Str.{encode_utf8_all}
 use Rattle.std.proofs.lemmas.Bool.{and_parts}
+use Rattle.aas_lemmas.proofs.Lists.{same_tails}
 use Rattle.aas_lexical_forms.specs.Form.{one, any, ◌▸◌}
 use Rattle.aas_model.specs.declared.path.PathStep.{PathStep}
 use Rattle.aas_model.specs.declared.path.PathStep.TheVariants.{Name, Place}
@@ -64,14 +65,11 @@ pub record NameStep (text : List ℕ) (s : PathStep) (rest : List ℕ) : Type 0 
   pub good : IsName name
   pub whole : text ≡ name ++ rest
 
-pub tails : (c : ℕ) (x y : List ℕ) → c ∷ x ≡ c ∷ y → x ≡ y
-tails c x y e = cc
-
 pub dot_no_bracket : (x y : List ℕ) → 46 ∷ x ≡ 91 ∷ y → ⊥
 dot_no_bracket x y e = absurd (cc)
 
 dotted_name : (text n m rest : List ℕ) → id_short n → m ≡ n → 46 ∷ text ≡ 46 ∷ (m ++ rest) → NameStep text (Name n) rest
-dotted_name text n m rest keeps same whole = record { name = n; is = refl; good = name_from n keeps; whole = tails 46 text (m ++ rest) whole ∙ ap (λ (m : List ℕ). m ++ rest) same }
+dotted_name text n m rest keeps same whole = record { name = n; is = refl; good = name_from n keeps; whole = same_tails 46 46 text (m ++ rest) whole ∙ ap (λ (m : List ℕ). m ++ rest) same }
 
 pub dotted : (text : List ℕ) (s : PathStep) (rest : List ℕ) → IsStep (46 ∷ text) s rest → NameStep text s rest
 dotted text (Name n) rest h = dotted_name text n (encode_utf8_all n) rest h.keeps (name_bytes n h.keeps.0) h.whole

@@ -7,6 +7,7 @@ use Rattle.std.proofs.lemmas.List.Concat.{flat_map-append}
 use Rattle.std.specs.Char.{is_ascii_digit}
 use Rattle.std.specs.List.{AllByRecursion, flat_map}
 use Rattle.std.specs.Str.{encode_utf8_all}
+use Rattle.aas_lemmas.proofs.Lists.{same_tails}
 use Rattle.aas_model.specs.declared.path.PathStep.{PathStep}
 use Rattle.aas_model.specs.declared.path.PathStep.TheVariants.{Name, Place}
 use Rattle.aas_path.specs.ParseFaults.{IsStepFault, IsPathFault, behind}
@@ -33,18 +34,12 @@ path_dotted [] keeps = absurd keeps
 path_dotted (Name n ∷ p) keeps = (refl, keeps)
 path_dotted (Place i ∷ p) keeps = absurd keeps
 
-behind_dot : (x y : List ℕ) → 46 ∷ x ≡ 46 ∷ y → x ≡ y
-behind_dot x y e = cc
-
-behind_byte : (c : ℕ) (x y : List ℕ) → c ∷ x ≡ c ∷ y → x ≡ y
-behind_byte c x y e = cc
-
 something : (x : List ℕ) → 46 ∷ x ≡ [] → ⊥
 something x e = absurd (cc)
 
 path_undotted : (p : List PathStep) (text : List ℕ) → 46 ∷ text ≡ steps_text p → Keep p → IsPath text p
 path_undotted [] text e keep = absurd (something text e)
-path_undotted (Name n ∷ p) text e keep = (behind_dot text (encode_utf8_all n ++ steps_text p) e, keep)
+path_undotted (Name n ∷ p) text e keep = (same_tails 46 46 text (encode_utf8_all n ++ steps_text p) e, keep)
 path_undotted (Place i ∷ p) text e keep = absurd (dot_no_bracket text ((decimal i ++ codes "]") ++ steps_text p) e)
 
 -- ---- one step alone stands at the front of a text
@@ -58,7 +53,7 @@ same_place : (text : List ℕ) (s t : PathStep) (y z : List ℕ) → PlaceStep t
 same_place text s t y z a b =
     let same = same_front is_ascii_digit a.digits b.digits (93 ∷ y) (93 ∷ z) a.good.all b.good.all refl refl (sym a.whole ∙ b.whole) in
     let place : a.place ≡ b.place = decimal_injective a.place b.place (omega (arith, a.small)) (omega (arith, b.small)) (sym a.writes ∙ same.0 ∙ b.writes) in
-    (a.is ∙ ap (λ (n : ℕ). Place n) place ∙ sym b.is, behind_byte 93 y z same.1)
+    (a.is ∙ ap (λ (n : ℕ). Place n) place ∙ sym b.is, same_tails 93 93 y z same.1)
 
 -- by what the step begins with
 same_step_by : (c : ℕ) (text : List ℕ) (s t : PathStep) (y z : List ℕ) → (c ≡ 46) ⊎ (c ≡ 91) → IsStep (c ∷ text) s y → IsStep (c ∷ text) t z → (s ≡ t) × (y ≡ z)

@@ -8,6 +8,7 @@ use Rattle.std.proofs.lemmas.Str.Parse.{IsDigitsTest, IsNumeralModel, numerals_b
 use Rattle.std.specs.Char.{is_ascii_digit}
 use Rattle.std.specs.Str.{encode_utf8_all}
 use Rattle.std.specs.Str.Parse.{digits_value}
+use Rattle.aas_lemmas.proofs.Lists.{same_heads, same_tails}
 use Rattle.aas_lexical_forms.proofs.Cuts.{word-sound, word-full}
 use Rattle.aas_lexical_forms.specs.Cut.{after_word}
 use Rattle.aas_lexical_forms.specs.Form.{any}
@@ -18,7 +19,7 @@ use Rattle.aas_path.specs.Runs.{Stops, IsRun}
 use Rattle.aas_path.specs.StepText.{EndsStep, IsPlace, IsStep, IsNoStep, most_behind, most_digits}
 use Rattle.aas_path_trees.specs.PathRule.{StepKeepsRule}
 use Rattle.aas_path.proofs.RunsFound.{front_no_longer, same_front}
-use Rattle.aas_path.proofs.NameSteps.{dot_no_bracket, step_behind, stops_more, front_of, tails}
+use Rattle.aas_path.proofs.NameSteps.{dot_no_bracket, step_behind, stops_more, front_of}
 
 tells : IsDigitsTest (any is_ascii_digit)
 tells = search rules
@@ -71,7 +72,7 @@ bracketed_place text ds rest n is small ends whole = record {
   small = small;
   writes = is;
   good = subst IsDigits (sym is) (digits_of_place n small);
-  whole = tails 91 text ((ds ++ 93 ∷ []) ++ rest) whole ∙ append_assoc ds (93 ∷ []) rest;
+  whole = same_tails 91 91 text ((ds ++ 93 ∷ []) ++ rest) whole ∙ append_assoc ds (93 ∷ []) rest;
   ends = ends;
 }
 
@@ -100,12 +101,6 @@ bracket_no_digit = refl
 
 zero_digit : IsDigits (48 ∷ [])
 zero_digit = record { all = refl; some = lit< tt; short = lit≤ tt; no_zero = λ _. refl }
-
-heads : (c d : ℕ) (x y : List ℕ) → c ∷ x ≡ d ∷ y → c ≡ d
-heads c d x y e = cc
-
-rests : (c d : ℕ) (x y : List ℕ) → c ∷ x ≡ d ∷ y → x ≡ y
-rests c d x y e = cc
 
 -- the digits of a step that begins as a run of digits and then something else
 same_digits : (text : List ℕ) (n : ℕ) (y : List ℕ) (whole : List ℕ) (s : PathStep) (rest : List ℕ) → any is_ascii_digit (take n text) → Stops is_ascii_digit y → whole ≡ take n text ++ y
@@ -215,7 +210,7 @@ no_bracket text n run good not = record {
       let within : n < length text = omega arith in
       let p = bracketed (take (n + 1) text ++ more) s rest (step_behind 91 text more (n + 1) s rest h) in
       let same = same_digits text n (get_or text n 0 ∷ more) (take (n + 1) text ++ more) s rest run.front (stop_next text more n within run.behind) (next_behind text more n within) p in
-      let bracket : get_or text n 0 ≡ 93 = heads (get_or text n 0) 93 more rest same.1 in
+      let bracket : get_or text n 0 ≡ 93 = same_heads (get_or text n 0) 93 more rest same.1 in
       not (drop (n + 1) text) (drop_more text n 0 within ∙ ap (λ c. c ∷ drop (n + 1) text) bracket);
 }
 
@@ -224,13 +219,13 @@ no_end_at : (text behind : List ℕ) (n : ℕ) → IsRun is_ascii_digit text n �
 no_end_at text behind n run good is not =
     let within : n < length text = omega (arith, length-drop n text, ap length is) in
     let next : get_or text n 0 ∷ drop (n + 1) text ≡ 93 ∷ behind = sym (drop_more text n 0 within) ∙ is in
-    let bracket : get_or text n 0 ≡ 93 = heads (get_or text n 0) 93 (drop (n + 1) text) behind next in
-    let rest_is : drop (n + 1) text ≡ behind = rests (get_or text n 0) 93 (drop (n + 1) text) behind next in
+    let bracket : get_or text n 0 ≡ 93 = same_heads (get_or text n 0) 93 (drop (n + 1) text) behind next in
+    let rest_is : drop (n + 1) text ≡ behind = same_tails (get_or text n 0) 93 (drop (n + 1) text) behind next in
     let two : n + 2 ≡ suc (n + 1) = omega arith in record {
       none = λ s rest h.
           let p = bracketed text s rest h in
           let same = same_digits text n (drop n text) text s rest run.front run.behind (sym (take-append-drop n text)) p in
-          not (subst EndsStep (rests 93 93 rest behind (sym same.1 ∙ is)) p.ends);
+          not (subst EndsStep (same_tails 93 93 rest behind (sym same.1 ∙ is)) p.ends);
       within = omega arith;
       begins = begun (take n text) (take (n + 2) (91 ∷ text)) [] good
           (append-nil (take (n + 2) (91 ∷ text)) ∙ ap (λ k. take k (91 ∷ text)) two ∙ ap (λ (t : List ℕ). 91 ∷ t) (take_more text n 0 within ∙ ap (λ (c : ℕ). take n text ++ c ∷ []) bracket));
@@ -242,7 +237,7 @@ no_end_at text behind n run good is not =
           let parts : take (n + 2) text ++ more ≡ take n text ++ get_or text n 0 ∷ c ∷ more =
           ap (λ k. take k text ++ more) three ∙ next_behind text more (n + 1) further ∙ next_behind text (c ∷ more) n within in
           let same = same_digits text n (get_or text n 0 ∷ c ∷ more) (take (n + 2) text ++ more) s rest run.front (stop_next text (c ∷ more) n within run.behind) parts p in
-          let ends : EndsStep (c ∷ more) = subst EndsStep (sym (rests (get_or text n 0) 93 (c ∷ more) rest same.1)) p.ends in
+          let ends : EndsStep (c ∷ more) = subst EndsStep (sym (same_tails (get_or text n 0) 93 (c ∷ more) rest same.1)) p.ends in
           let behind_is : behind ≡ c ∷ drop (n + 1 + 1) text = sym rest_is ∙ drop_more text (n + 1) 0 further in
           not (ends_by behind c (drop (n + 1 + 1) text) more behind_is ends);
     }

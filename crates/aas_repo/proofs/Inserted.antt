@@ -17,6 +17,7 @@ use Rattle.aas_edit_laws.proofs.Attributes.{insert_keeps_attributes}
 use Rattle.aas_edit_laws.specs.Laws.{at_level}
 use Rattle.aas_json_mapping.specs.Whole.{is_whole_element}
 use Rattle.aas_lemmas.proofs.Lists.{no_first, no_map, no_second}
+use Rattle.aas_lemmas.proofs.Truth.{None-from_is_some}
 use Rattle.aas_model.specs.declared.common.Common.{Common}
 use Rattle.aas_model.specs.declared.documents.Submodel.{Submodel}
 use Rattle.aas_model.specs.declared.element.Element.{Element, out-Element}
@@ -81,11 +82,7 @@ among_none t a b e none = under_none _ (sites t a b (tree_of e)) none
 
 new_name : (ks : List Element) (n : Option (List ℕ)) → is_named_among n ks ≡ false → IsNewName ks n
 new_name ks None new = tt
-new_name ks (Some n) new = by_place (place_named n ks) new
-  where
-    by_place : (place : Option ℕ) → is_some place ≡ false → place ≡ None
-    by_place None is = refl
-    by_place (Some i) is = absurd (cc)
+new_name ks (Some n) new = None-from_is_some (place_named n ks) new
 
 agrees : (x z : Option Reference) → z ≡ None → agree x z ≡ true
 agrees None z is = refl

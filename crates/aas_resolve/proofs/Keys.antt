@@ -3,7 +3,7 @@ use Rattle.std.proofs.Common.{◌≡◌, ℕ, ◌+◌, ◌<◌, List, [], ◌∷
 use Rattle.std.specs.Prelude.{OnOk}
 use Rattle.std.proofs.lemmas.Grind.{flat_map-append}
 use Rattle.std.proofs.lemmas.List.Elements.{filter_map-append}
-use Rattle.aas_constraint_parts.proofs.Lists.{left}
+use Rattle.aas_lemmas.proofs.Lists.{drop_at}
 use Rattle.aas_model.specs.declared.reference.Reference.{Reference}
 use Rattle.aas_store.specs.Documents.{Documents}
 use Rattle.aas_resolve.specs.Dangling.{dangling_key, dangling_keys}
@@ -38,7 +38,7 @@ module _ (m : Documents) where
       → new ≡ now ++ dangling_keys m (held x) → SoFar held start now items i → SoFar held start new items (i + 1)
   one_more held start now new items i x lt at added so_far =
       let rest = dangling_keys m (flat_map held (drop (i + 1) items)) in
-      so_far ∙ ap (λ xs. now ++ dangling_keys m (flat_map held xs)) (left items i x lt at) ∙ ap (λ l. now ++ l) (keys_append (held x) (flat_map held (drop (i + 1) items)))
+      so_far ∙ ap (λ xs. now ++ dangling_keys m (flat_map held xs)) (drop_at items i x lt at) ∙ ap (λ l. now ++ l) (keys_append (held x) (flat_map held (drop (i + 1) items)))
       ∙ sym (append_assoc now (dangling_keys m (held x)) rest) ∙ ap (λ l. l ++ rest) (sym added)
 
 -- a list of references as things that hold one each

@@ -8,6 +8,7 @@ use Rattle.std.specs.Str.{encode_utf8_all}
 use Rattle.std.proofs.lemmas.List.Quantifiers.{position-Some}
 use Rattle.std.proofs.lemmas.Option.{get_or_from_slice_get, slice_get_within, cond_some}
 use Rattle.std.proofs.lemmas.Slice.Eq.{bytes_eq-Decides}
+use Rattle.aas_lemmas.proofs.Lists.{get_front, get_behind}
 use Rattle.aas_form.specs.ReferenceTo.{element_key, key_type_of, key_value, keys_in, model_reference, reference_to, shell_reference, submodel_key}
 use Rattle.aas_model.specs.Element.{kind_of}
 use Rattle.aas_model.specs.Payload as payload_kind
@@ -35,7 +36,7 @@ use Rattle.aas_store.specs.declared.spot.Spot.{Spot}
 use Rattle.aas_resolve.specs.Laws.{ElementsLeadBack, LeadsTo, ShellsLeadBack, SubmodelsLeadBack, rank_at, rank_below}
 use Rattle.aas_resolve.specs.Resolved.{HaveFewElements, admits, along, child_named, child_of, collection_named, if_admitted, is_list, is_list_at, lost, number, rank_of, reached, resolved, resolved_by, stays, step_spelled}
 use Rattle.aas_resolve.proofs.Numbers.{number_decimal}
-use Rattle.aas_resolve.proofs.Preorder.{elements_out, few_first, few_kids, get_front, get_behind}
+use Rattle.aas_resolve.proofs.Preorder.{elements_out, few_first, few_kids}
 
 -- ---- keys of elements
 
@@ -121,8 +122,8 @@ kid_stands (x ∷ xs) zero k at j e there =
     ap (slice_get (elements_of_all (x ∷ xs))) (zero-add j) ∙ get_front (elements x) (elements_of_all xs) j e (ap (λ k. slice_get (elements k) j) same ∙ there)
 kid_stands (x ∷ xs) (suc i) k at j e there =
     let front = elements_of_all (take i xs) in
-    let place : length (elements x ++ front) + j ≡ length (elements x) + (length front + j) = omega (arith, length-append (elements x) front) in
-    get_behind (elements x) (elements_of_all xs) (length (elements x ++ front) + j) (length front + j) place ∙ kid_stands xs i k at j e there
+    let place : (length front + j) + length (elements x) ≡ length (elements x ++ front) + j = omega (arith, length-append (elements x) front) in
+    get_behind (elements x) (elements_of_all xs) (length front + j) (length (elements x ++ front) + j) place ∙ kid_stands xs i k at j e there
 
 from_kid : (all : List Element) (n : ℕ) (ks : List Element) (i : ℕ) (k : Element) → StandFrom all n (elements_of_all ks) → slice_get ks i ≡ Some k
     → StandFrom all (n + length (elements_of_all (take i ks))) (elements k)

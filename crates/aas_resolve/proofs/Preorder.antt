@@ -1,5 +1,5 @@
 -- Elements in preorder.
-use Rattle.std.proofs.Common.{◌≡◌, ◌⊎◌, inl, inr, ℕ, zero, suc, ◌+◌, ◌<◌, ◌≤◌, List, [], ◌∷◌, ◌++◌, length, map, slice_get, Some, refl, sym, ap, ap₂, ◌∙◌, subst, arith, length-append}
+use Rattle.std.proofs.Common.{◌≡◌, ◌⊎◌, inl, inr, ℕ, zero, suc, ◌<◌, ◌≤◌, List, [], ◌∷◌, ◌++◌, length, map, slice_get, Some, refl, sym, ap, ap₂, ◌∙◌, subst, arith, length-append}
 use Rattle.std.proofs.lemmas.List.Folds.{flat_map-map}
 use Rattle.aas_model.specs.declared.documents.Submodel.{Submodel}
 use Rattle.aas_model.specs.declared.element.Element.{Element, out-Element, roll-Element, out-roll-Element, roll-out-Element, fold-Element, fold_out-Element, ind-Element}
@@ -41,16 +41,6 @@ elements_out e =
     ∙ ap₂ (λ x xs. x ∷ xs) (sym (ap (λ f. f.0) (fold_out-Element Listed listed_over e)) ∙ itself e) (flat_map-map (λ (f : Listed). f.1) listed (kids_of e))
 
 -- ---- what stands in a list of two
-
-pub get_front : {X : Type 0} (xs ys : List X) (i : ℕ) (x : X) → slice_get xs i ≡ Some x → slice_get (xs ++ ys) i ≡ Some x
-get_front [] ys i x e = absurd (cc)
-get_front (y ∷ xs) ys zero x e = e
-get_front (y ∷ xs) ys (suc i) x e = get_front xs ys i x e
-
-pub get_behind : {X : Type 0} (xs ys : List X) (i n : ℕ) → i ≡ length xs + n → slice_get (xs ++ ys) i ≡ slice_get ys n
-get_behind [] ys i n e = let same : i ≡ n = omega (arith, e) in ap (slice_get ys) same
-get_behind (x ∷ xs) ys zero n e = absurd (omega (arith, e))
-get_behind (x ∷ xs) ys (suc i) n e = get_behind xs ys i n (omega (arith, e))
 
 get_either : {X : Type 0} (xs ys : List X) (i : ℕ) (x : X) → slice_get (xs ++ ys) i ≡ Some x → (slice_get xs i ≡ Some x) ⊎ ((n : ℕ) × (slice_get ys n ≡ Some x))
 get_either [] ys i x e = inr (i, e)

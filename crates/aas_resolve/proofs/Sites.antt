@@ -6,11 +6,10 @@ use Rattle.std.specs.List.{remove}
 use Rattle.std.proofs.lemmas.List.Edits.{remove-append_right}
 use Rattle.std.proofs.lemmas.Grind.{flat_map-append}
 use Rattle.std.proofs.lemmas.List.{append-nil, length-map, length-take, nil_from_length}
-use Rattle.aas_lemmas.proofs.Lists.{append_one}
+use Rattle.aas_lemmas.proofs.Lists.{append_one, drop_at}
 use Rattle.aas_model.specs.declared.element.Element.{Element}
 use Rattle.aas_model.specs.declared.path.PathStep.{PathStep}
 use Rattle.aas_model_names.specs.declared.collection.Collection.TheVariants.{Submodels}
-use Rattle.aas_constraint_parts.proofs.Lists.{left}
 use Rattle.aas_constraint_rules.specs.Sites.{Own, own_of, Site, under, step_to, root, sites, sites_among, trees, tree_of}
 use Rattle.aas_constraint_rules.proofs.Elements.{tree_out}
 use Rattle.aas_constraints.proofs.Lists.{taken_map}
@@ -78,7 +77,7 @@ module _ (m : Documents) (id : Identifier) where
       let b = map own_of (take i ks) in
       let long : length b ≡ i = length-map (take i ks) own_of ∙ omega (arith, length-take i ks) in
       let here : List PathStep → List Dangling = λ q. in_element q t a b k in
-      so_far ∙ ap (λ l. now ++ among p t a b l) (left ks i k lt at) ∙ ap (λ l. now ++ l) (among_cons p t a b k (drop (i + 1) ks))
+      so_far ∙ ap (λ l. now ++ among p t a b l) (drop_at ks i k lt at) ∙ ap (λ l. now ++ l) (among_cons p t a b k (drop (i + 1) ks))
       ∙ ap (λ n. now ++ (here (p ++ step_to a n (own_of k) ∷ []) ++ among p t a (b ++ own_of k ∷ []) (drop (i + 1) ks))) long
       ∙ sym (append_assoc now (here (p ++ step_to a i (own_of k) ∷ [])) (among p t a (b ++ own_of k ∷ []) (drop (i + 1) ks)))
       ∙ ap (λ q. (now ++ here q) ++ among p t a (b ++ own_of k ∷ []) (drop (i + 1) ks)) (sym is)

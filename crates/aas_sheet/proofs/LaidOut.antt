@@ -1,21 +1,17 @@
 -- Submodels that are laid out as tables, from the last to the first.
-use Rattle.std.proofs.Common.{◌≡◌, ℕ, zero, suc, ◌+◌, List, [], ◌∷◌, ◌++◌, length, slice_get, reverse, Some, sym, ap, ◌∙◌, subst, append_assoc}
+use Rattle.std.proofs.Common.{◌≡◌, ℕ, ◌+◌, List, [], ◌∷◌, ◌++◌, length, slice_get, reverse, Some, sym, ap, ◌∙◌, subst, append_assoc}
 use Rattle.std.specs.List.{All, remove}
 use Rattle.std.proofs.lemmas.List.{length_push, reverse-append}
 use Rattle.std.proofs.lemmas.Option.{get_or_from_slice_get, slice_get_within}
+use Rattle.aas_lemmas.proofs.Lists.{get_front}
 use Rattle.aas_model.specs.declared.documents.Submodel.{Submodel}
 use Rattle.aas_store.specs.Storable.{IsStorable}
 use Rattle.aas_store.proofs.Merges.{without_last}
 
-in_front : (left made : List Submodel) (n : ℕ) (s : Submodel) → slice_get left n ≡ Some s → slice_get (left ++ made) n ≡ Some s
-in_front [] made n s at = absurd (cc)
-in_front (x ∷ left) made zero s at = at
-in_front (x ∷ left) made (suc n) s at = in_front left made n s at
-
 -- one that is left can be stored as all can
 pub storable_left : (all left made : List Submodel) (n : ℕ) (s : Submodel) → All IsStorable all → left ++ made ≡ all → slice_get left n ≡ Some s → IsStorable s
 storable_left all left made n s storable is at =
-    let there : slice_get all n ≡ Some s = ap (λ (xs : List Submodel). slice_get xs n) (sym is) ∙ in_front left made n s at in
+    let there : slice_get all n ≡ Some s = ap (λ (xs : List Submodel). slice_get xs n) (sym is) ∙ get_front left made n s at in
     subst IsStorable (get_or_from_slice_get all n s s there) (storable n s (slice_get_within all n s there))
 
 -- the last that is left goes to those that are made

@@ -11,10 +11,11 @@ use Rattle.std.proofs.lemmas.Bool.Decides.{Decides-eqb}
 use Rattle.std.proofs.lemmas.List.{length-map}
 use Rattle.std.proofs.lemmas.List.Folds.{list_any-append}
 use Rattle.std.proofs.Math.Bool.{or-false, or-true}
+use Rattle.aas_lemmas.proofs.Truth.{and_left}
 use Rattle.aas_sheet_index.specs.Index.{compared, has_name, is_between, key_at, key_of, order, IsPart, Listed}
 use Rattle.aas_sheet_index.specs.Moving.{moved, renumbered, stays}
 use Rattle.aas_sheet_index.specs.declared.side.Side.{Side}
-use Rattle.aas_sheet_index.proofs.Ranks.{and_left, apart, each_listed, is_within, too_high, within}
+use Rattle.aas_sheet_index.proofs.Ranks.{apart, each_listed, is_within, too_high, within}
 use Rattle.aas_sheet_index.proofs.Ordered.{is_less, numbers, weak}
 use Rattle.aas_sheet_index.proofs.Rising.{Rises, each_weaker, rises_from_sorted, sorted_from_rises}
 

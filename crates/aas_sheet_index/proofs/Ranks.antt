@@ -7,16 +7,9 @@ use Rattle.std.proofs.lemmas.Bool.Decides.{Decides-eqb}
 use Rattle.std.proofs.lemmas.List.Folds.{list_any-append}
 use Rattle.std.proofs.lemmas.Option.{slice_get-get_or}
 use Rattle.std.proofs.Math.Bool.{and-false, or-false, or-true}
+use Rattle.aas_lemmas.proofs.Truth.{and_left, and_right}
 use Rattle.aas_sheet_index.specs.Index.{has_name, is_between, Listed}
 use Rattle.aas_sheet_index.specs.declared.side.Side.{Side}
-
-pub and_left : (b c : Bool) → (b && c) ≡ true → b ≡ true
-and_left true c e = refl
-and_left false c e = e
-
-pub and_right : (b c : Bool) → (b && c) ≡ true → c ≡ true
-and_right true c e = e
-and_right false c e = absurd (cc)
 
 pub apart : (m n : ℕ) → (m ≡ n → ⊥) → (m == n) ≡ false
 apart m n ne = by (m == n) refl

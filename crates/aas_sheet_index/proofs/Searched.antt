@@ -15,12 +15,13 @@ use Rattle.std.proofs.lemmas.List.Folds.{Any-from_list_any, list_any_at}
 use Rattle.std.proofs.lemmas.List.Sorted.{sorted_far}
 use Rattle.std.proofs.lemmas.Option.{slice_get-get_or, slice_get_within}
 use Rattle.std.proofs.lemmas.Slice.Eq.{bytes_eq-Decides}
+use Rattle.aas_lemmas.proofs.Truth.{and_right}
 use Rattle.aas_path_trees.specs.ElementAt.{is_text}
 use Rattle.aas_rows.proofs.Stepping.{first_where, position_first}
 use Rattle.aas_sheet_index.specs.Index.{compared, has_name, is_between, key_at, key_of, name_bytes, IsPart}
 use Rattle.aas_sheet_index.specs.Sides.{is_named_below}
 use Rattle.aas_sheet_index.specs.declared.side.Side.{Side}
-use Rattle.aas_sheet_index.proofs.Ranks.{and_right, within}
+use Rattle.aas_sheet_index.proofs.Ranks.{within}
 use Rattle.aas_sheet_index.proofs.Ordered.{is_less, numbers, weak}
 
 -- ---- what stands between

@@ -2,6 +2,7 @@
 use Rattle.std.proofs.Common.{◌≡◌, ℕ, ◌+◌, ◌-◌, ◌<◌, ◌≤◌, ◌⊎◌, inl, inr, false, List, [], ◌∷◌, ◌++◌, length, get_or, Option, Some, None, is_some, option_and_then, option_map, slice_get, refl, sym, ap, ◌∙◌, subst, append_assoc, arith, length-append}
 use Rattle.std.specs.Option.{MatchOption, option_map_or, option_or}
 use Rattle.std.proofs.lemmas.Option.{slice_get_cases}
+use Rattle.aas_lemmas.proofs.Lists.{at_seam}
 use Rattle.aas_model.specs.declared.documents.Submodel.{Submodel}
 use Rattle.aas_model.specs.declared.element.Element.{Element}
 use Rattle.aas_model.specs.declared.path.PathStep.{PathStep}
@@ -20,7 +21,7 @@ use Rattle.aas_rows.specs.declared.view.RowView.{RowView}
 use Rattle.aas_sheet_index.specs.Sides.{sizes_of}
 use Rattle.aas_sheet_index.specs.declared.side.Side.{Side}
 use Rattle.aas_sheet_rows.proofs.Edits.{reached}
-use Rattle.aas_sheet_rows.proofs.Found.{at_seam, own_row, own_size, stood}
+use Rattle.aas_sheet_rows.proofs.Found.{own_row, own_size, stood}
 use Rattle.aas_sheet_rows.proofs.Standing.{no_side, own_side, spot_of}
 use Rattle.aas_sheet_rows.specs.Found.{Among}
 use Rattle.aas_sheet_rows.specs.Table.{line_of, lines_of, IsTable}

@@ -16,6 +16,7 @@ use Rattle.aas_rows.proofs.Edited.{child_rows, count_at}
 use Rattle.aas_rows.proofs.Sizing.{size_at, size_inside, size_positive}
 use Rattle.std.specs.List.{count_by}
 use Rattle.std.proofs.lemmas.List.Sums.{sum_by-cons}
+use Rattle.aas_lemmas.proofs.Lists.{at_seam}
 use Rattle.aas_rows.proofs.Counting.{have_child_count}
 use Rattle.aas_rows.proofs.Ranked.{StandsAt}
 use Rattle.aas_rows.proofs.Stepping.{first_where, have_child_rows, map_twice, position_first, position_inside, nth_inside}
@@ -119,10 +120,6 @@ step_found rs ss first end k ks l s t a =
     ∙ map_twice (λ i. first + i) (λ (c : Child). count (take c.0 ks)) (child_by l s ks)
 
 -- ---- one element
-
-pub at_seam : (b : List Line) (x : Line) (xs : List Line) → slice_get (b ++ x ∷ xs) (length b) ≡ Some x
-at_seam [] x xs = refl
-at_seam (y ∷ b) x xs = at_seam b x xs
 
 pub line_there : (rs : List Row) (ss : List Side) (n : ℕ) (r : Row) (s : Side) → length rs ≡ length ss → n < length ss → slice_get (lines_of rs ss) n ≡ Some (line_of (get_or rs n r) (get_or ss n s))
 line_there [] [] n r s e lt = absurd (omega arith)

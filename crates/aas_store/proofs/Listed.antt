@@ -5,6 +5,7 @@ use Rattle.std.proofs.Math.Numerals.{add-one}
 use Rattle.std.proofs.lemmas.List.{drop_all}
 use Rattle.std.proofs.lemmas.List.Folds.{flat_map-map}
 use Rattle.std.proofs.lemmas.Option.{slice_get_past}
+use Rattle.aas_lemmas.proofs.Lists.{get_front, get_behind}
 use Rattle.aas_model.specs.Element.{kind_of}
 use Rattle.aas_model.specs.declared.documents.Submodel.{Submodel}
 use Rattle.aas_model.specs.declared.element.Element.{Element, out-Element, roll-Element, out-roll-Element, roll-out-Element, fold-Element, fold_out-Element, ind-Element}
@@ -115,16 +116,6 @@ size_at (x ∷ ks) (suc i) k is =
     omega (arith, whole, part, fewer)
 
 -- ---- what stands at a rank
-
-get_front : (xs ys : List Element) (i : ℕ) (x : Element) → slice_get xs i ≡ Some x → slice_get (xs ++ ys) i ≡ Some x
-get_front [] ys i x e = absurd (cc)
-get_front (y ∷ xs) ys zero x e = e
-get_front (y ∷ xs) ys (suc i) x e = get_front xs ys i x e
-
-get_behind : (xs ys : List Element) (n i : ℕ) → n + length xs ≡ i → slice_get (xs ++ ys) i ≡ slice_get ys n
-get_behind [] ys n i e = let same : i ≡ n = omega (arith, e) in ap (slice_get ys) same
-get_behind (x ∷ xs) ys n zero e = absurd (omega (arith, e))
-get_behind (x ∷ xs) ys n (suc i) e = get_behind xs ys n i (omega (arith, e))
 
 pub first_rank : (e : Element) (n : ℕ) → n ≡ 0 → IsRanked (elements e) n e
 first_rank e n none =

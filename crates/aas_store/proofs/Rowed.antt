@@ -1,8 +1,9 @@
 -- Rows in preorder, one at a time.
-use Rattle.std.proofs.Common.{◌≡◌, ℕ, zero, suc, ◌+◌, ◌-◌, ◌<◌, ◌≤◌, List, [], ◌∷◌, ◌++◌, length, drop, get_or, slice_get, Some, None, Result, Ok, Err, MatchResult, sym, ap, ◌∙◌, arith, length-append}
+use Rattle.std.proofs.Common.{◌≡◌, ℕ, suc, ◌+◌, ◌-◌, ◌<◌, ◌≤◌, List, ◌∷◌, ◌++◌, length, drop, get_or, slice_get, Some, None, Result, Ok, Err, MatchResult, sym, ap, ◌∙◌, arith, length-append}
 use Rattle.std.proofs.Math.Seq.{drop-cons}
 use Rattle.std.proofs.Math.Numerals.{add-one}
 use Rattle.std.proofs.lemmas.Option.{slice_get_past}
+use Rattle.aas_lemmas.proofs.Lists.{get_front, get_behind}
 use Rattle.aas_model.specs.declared.element.Element.{Element}
 use Rattle.aas_path_trees.specs.Children.{kids_of}
 use Rattle.aas_rows.proofs.Trees.{rows_out}
@@ -13,16 +14,6 @@ use Rattle.aas_rows.specs.declared.view.RowView.{RowView}
 front : (ks : List Element) (k i : ℕ) (x : Element) → i < length ks → x ≡ get_or ks i x → rows_of_all (drop i ks) k ≡ rows x k ++ rows_of_all (drop (i + 1) ks) k
 front ks k i x lt at =
     ap (λ es. rows_of_all es k) (drop-cons ks i x lt ∙ ap (λ y. y ∷ drop (suc i) ks) (sym at) ∙ ap (λ n. x ∷ drop n ks) (sym (add-one i)))
-
-get_front : (xs ys : List Line) (i : ℕ) (x : Line) → slice_get xs i ≡ Some x → slice_get (xs ++ ys) i ≡ Some x
-get_front [] ys i x e = absurd (cc)
-get_front (y ∷ xs) ys zero x e = e
-get_front (y ∷ xs) ys (suc i) x e = get_front xs ys i x e
-
-get_behind : (xs ys : List Line) (n i : ℕ) → n + length xs ≡ i → slice_get (xs ++ ys) i ≡ slice_get ys n
-get_behind [] ys n i e = let same : i ≡ n = omega (arith, e) in ap (slice_get ys) same
-get_behind (x ∷ xs) ys n zero e = absurd (omega (arith, e))
-get_behind (x ∷ xs) ys n (suc i) e = get_behind xs ys n i (omega (arith, e))
 
 pub first_row : (e : Element) (k n : ℕ) (v : RowView) → n ≡ 0 → line_of v ≡ line_at k e → slice_get (rows e k) n ≡ Some (line_of v)
 first_row e k n v none is =

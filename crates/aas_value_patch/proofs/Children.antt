@@ -1,13 +1,12 @@
 -- Children as parts of their parent's value form.
-use Rattle.std.proofs.Common.{◌≡◌, ℕ, suc, ◌+◌, ◌<◌, ◌≤◌, ◌==◌, ◌&&◌, Bool, true, false, List, [], ◌∷◌, length, map, drop, get_or, Option, Some, None}
+use Rattle.std.proofs.Common.{◌≡◌, ℕ, ◌+◌, ◌<◌, ◌≤◌, ◌==◌, ◌&&◌, Bool, true, false, List, [], ◌∷◌, length, map, drop, get_or, Option, Some, None}
 use Rattle.std.proofs.Common.{is_some, option_and_then, refl, sym, ap, ap₂, ◌∙◌, arith}
-use Rattle.std.proofs.Math.Seq.{drop-cons}
-use Rattle.std.proofs.Math.Numerals.{add-one}
 use Rattle.std.proofs.lemmas.Bool.Decides.{nat_tests}
 use Rattle.std.proofs.lemmas.List.{drop_all}
 use Rattle.std.specs.Prelude.{if◌then◌else◌}
 use Rattle.std.specs.Str.{encode_utf8_all}
 use Rattle.std.proofs.Math.Bool.{and-false, and-true}
+use Rattle.aas_lemmas.proofs.Lists.{drop_at}
 use Rattle.serde_json.specs.Data.{Data, object, Items, no_items, Members}
 use Rattle.serde_json.specs.Events.{members_len}
 use Rattle.serde_json.specs.View.{view, items_view}
@@ -84,15 +83,12 @@ turn_first k cs v (w ∷ vs) there long at = turn_next k cs w vs there ∙ ap (�
 
 -- ---- along children
 
-pub front_kid : (ks : List Element) (i : ℕ) (k : Element) → i < length ks → k ≡ get_or ks i k → drop i ks ≡ k ∷ drop (i + 1) ks
-front_kid ks i k lt at = drop-cons ks i k lt ∙ ap (λ y. y ∷ drop (suc i) ks) (sym at) ∙ ap (λ n. k ∷ drop n ks) (sym (add-one i))
-
 pub found_step : (ks : List Element) (i : ℕ) (k : Element) (ms : Members) (n m all : ℕ) → i < length ks → k ≡ get_or ks i k
     → m ≡ one_if_some (under_name (object ms) (part_of k).child)
     → n + found (map part_of (drop i ks)) ms ≡ all → (n + m) + found (map part_of (drop (i + 1) ks)) ms ≡ all
 found_step ks i k ms n m all lt at one so_far =
     let front : found (map part_of (drop i ks)) ms ≡ one_if_some (under_name (object ms) (part_of k).child) + found (map part_of (drop (i + 1) ks)) ms = ap
-    (λ l. found (map part_of l) ms) (front_kid ks i k lt at) in
+    (λ l. found (map part_of l) ms) (drop_at ks i k lt at) in
     omega (arith, front, one, so_far)
 
 pub found_end : (ks : List Element) (i : ℕ) (ms : Members) (n all : ℕ) → length ks ≤ i → n + found (map part_of (drop i ks)) ms ≡ all → n ≡ all
@@ -161,7 +157,7 @@ pub entries_step : (ks : List Element) (i : ℕ) (k : Element) (ds es : Items) (
     → entry (part_of k).child ds ≡ (o, es)
     → entries_fit (map part_of (drop i ks)) ds ≡ all → entries_fit (map part_of (drop (i + 1) ks)) es ≡ all
 entries_step ks i k ds es o all lt at step so_far =
-    sym (ap (λ l. entries_fit (map part_of l) ds) (front_kid ks i k lt at)
+    sym (ap (λ l. entries_fit (map part_of l) ds) (drop_at ks i k lt at)
     ∙ ap (λ (p : Option Data × Items). fits_if (part_of k).fits p.0 && entries_fit (map part_of (drop (i + 1) ks)) p.1) step
     ∙ ap (λ (t : Data → Bool). fits_if t o && entries_fit (map part_of (drop (i + 1) ks)) es) (kid_fits k)
     ∙ any o (entries_fit (map part_of (drop (i + 1) ks)) es))

@@ -1,5 +1,5 @@
 -- Rows of a patch, and the elements that they are for.
-use Rattle.std.proofs.Common.{◌≡◌, ℕ, zero, suc, ◌+◌, ◌<◌, ◌≤◌, ◌==◌, Bool, true, false, List, [], ◌∷◌, ◌++◌, length, Some, slice_get, refl, sym, ap, ap₂}
+use Rattle.std.proofs.Common.{◌≡◌, ℕ, suc, ◌+◌, ◌<◌, ◌≤◌, ◌==◌, Bool, true, false, List, [], ◌∷◌, ◌++◌, length, Some, slice_get, refl, sym, ap, ap₂}
 use Rattle.std.proofs.Common.{◌∙◌, length-append, arith, if◌then◌else◌}
 use Rattle.std.specs.List.{All}
 use Rattle.std.proofs.lemmas.Bool.Decides.{Decides-eqb}
@@ -16,6 +16,7 @@ use Rattle.aas_model_names.specs.declared.kind.Kind.{Kind}
 use Rattle.aas_json_mapping.proofs.Elements.{made, by_children}
 use Rattle.aas_json_spelling.specs.Lists.{Each}
 use Rattle.std.proofs.lemmas.List.Folds.{flat_map-map}
+use Rattle.aas_lemmas.proofs.Lists.{get_front, at_seam}
 use Rattle.aas_path_trees.specs.Patched.{RiseFrom, Rise, Fits, payload_at, kinds_over, kinds, kinds_of_all, Ranked, patched_over, patched, patched_all}
 use Rattle.aas_value_patch.specs.Gathered.{HaveKinds, SoFar}
 
@@ -127,18 +128,9 @@ at_last seen (r ∷ rows) last h is own =
         absurd (omega (arith, same, within, is))
     by_test false e = refl
 
-still_there : (xs ys : List Kind) (i : ℕ) (k : Kind) → slice_get xs i ≡ Some k → slice_get (xs ++ ys) i ≡ Some k
-still_there [] ys i k e = absurd (cc)
-still_there (x ∷ xs) ys zero k e = e
-still_there (x ∷ xs) ys (suc i) k e = still_there xs ys i k e
-
-there_last : (xs : List Kind) (k : Kind) → slice_get (xs ++ k ∷ []) (length xs) ≡ Some k
-there_last [] k = refl
-there_last (x ∷ xs) k = there_last xs k
-
 pub more_seen : (seen more : List Kind) (rows : List PatchRow) → HaveKinds seen rows → HaveKinds (seen ++ more) rows
 more_seen seen more [] h = tt
-more_seen seen more (r ∷ rows) h = (still_there seen more r.rank (kind_of r.payload) h.0, more_seen seen more rows h.1)
+more_seen seen more (r ∷ rows) h = (get_front seen more r.rank (kind_of r.payload) h.0, more_seen seen more rows h.1)
 
 rise_last : (m : ℕ) (seen : List Kind) (rows : List PatchRow) (last : PatchRow) → m < length seen → HaveKinds seen rows → RiseFrom m rows
     → last.rank ≡ length seen → RiseFrom m (rows ++ last ∷ [])
@@ -147,8 +139,8 @@ rise_last m seen (r ∷ rows) last lt h up is = (up.0, rise_last r.rank seen row
 
 kinds_last : (seen : List Kind) (rows : List PatchRow) (last : PatchRow) → HaveKinds seen rows → last.rank ≡ length seen
     → HaveKinds (seen ++ kind_of last.payload ∷ []) (rows ++ last ∷ [])
-kinds_last seen [] last h is = (ap (slice_get (seen ++ kind_of last.payload ∷ [])) is ∙ there_last seen (kind_of last.payload), tt)
-kinds_last seen (r ∷ rows) last h is = (still_there seen (kind_of last.payload ∷ []) r.rank (kind_of r.payload) h.0, kinds_last seen rows last h.1 is)
+kinds_last seen [] last h is = (ap (slice_get (seen ++ kind_of last.payload ∷ [])) is ∙ at_seam seen (kind_of last.payload) [], tt)
+kinds_last seen (r ∷ rows) last h is = (get_front seen (kind_of last.payload ∷ []) r.rank (kind_of r.payload) h.0, kinds_last seen rows last h.1 is)
 
 pub pushed : (seen : List Kind) (rows : List PatchRow) (last : PatchRow) → SoFar seen rows → last.rank ≡ length seen
     → SoFar (seen ++ kind_of last.payload ∷ []) (rows ++ last ∷ [])

@@ -3,6 +3,7 @@ use Rattle.std.proofs.Common.{◌≡◌, ℕ, true, false, List, [], ◌++◌, l
 use Rattle.std.proofs.Common.{refl, sym, ap, ◌∙◌, subst, true≢false}
 use Rattle.std.specs.Prelude.{if◌then◌else◌}
 use Rattle.std.specs.Result.{IsErr, IsErrAnd, IfErr}
+use Rattle.aas_lemmas.proofs.Truth.{None-from_is_some}
 use Rattle.serde_json.specs.Data.{Data}
 use Rattle.aas_json_spelling.specs.Values.{IsOrdered}
 use Rattle.aas_model.specs.declared.documents.Submodel.{Submodel}
@@ -73,11 +74,7 @@ whole_walk e v old rows after empty order ordered walk =
 -- ---- faults
 
 pub formless : (e : Element) → is_some (part_of e).child.form ≡ false → value_form extent.WithBlobValue e ≡ None
-formless e there = sym (ap (λ (c : Child). c.form) (child_is e)) ∙ none (part_of e).child.form there
-  where
-    none : (f : Option Data) → is_some f ≡ false → f ≡ None
-    none None e = refl
-    none (Some d) e = absurd (true≢false e)
+formless e there = sym (ap (λ (c : Child). c.form) (child_is e)) ∙ None-from_is_some (part_of e).child.form there
 
 form_some : (e : Element) → is_some (part_of e).child.form ≡ true → IsSome (value_form extent.WithBlobValue e)
 form_some e there = subst IsSome (ap (λ (c : Child). c.form) (child_is e)) (some (part_of e).child.form there)

@@ -4,6 +4,7 @@ use Rattle.std.proofs.Common.{IfOk, slice_get, refl, sym, ap, ap₂, ◌∙◌, 
 use Rattle.std.specs.Prelude.{if◌then◌else◌}
 use Rattle.std.proofs.lemmas.List.{drop_all}
 use Rattle.std.proofs.lemmas.Option.{slice_get-get_or}
+use Rattle.aas_lemmas.proofs.Lists.{drop_at}
 use Rattle.serde_json.specs.Data.{Data}
 use Rattle.aas_model.specs.Payload.{kind_of}
 use Rattle.aas_model.specs.declared.common.Common.{Common}
@@ -43,7 +44,6 @@ use Rattle.aas_value_patch.specs.declared.fault.Stop.{Stop}
 use Rattle.aas_value_patch.specs.declared.sent.Sent.{Sent}
 use Rattle.aas_value_patch.specs.declared.sent.Sent.TheVariants as to
 use Rattle.aas_value_patch.specs.declared.step.Step.{Step}
-use Rattle.aas_value_patch.proofs.Children.{front_kid}
 use Rattle.aas_value_patch.proofs.Preorder.{taken_here, skipped, reach_on, reach_end}
 use Rattle.aas_value_patch.proofs.Rows.{pushed}
 use Rattle.aas_value_patch.proofs.Ordered.{sent_ordered}
@@ -171,7 +171,7 @@ kid_order ks i k lt at all = all i k (there_at ks i k lt at)
 -- what is sent for the first child and for the rest
 turned : (ks : List Element) (i : ℕ) (k : Element) (f g : List Child → List (Option Data)) (s : Option Data) → i < length ks → k ≡ get_or ks i k
     → ((cs : List Child) → f ((part_of k).child ∷ cs) ≡ s ∷ g cs) → f (children (map part_of (drop i ks))) ≡ s ∷ g (children (map part_of (drop (i + 1) ks)))
-turned ks i k f g s lt at next = ap (λ l. f (children (map part_of l))) (front_kid ks i k lt at) ∙ next (children (map part_of (drop (i + 1) ks)))
+turned ks i k f g s lt at next = ap (λ l. f (children (map part_of l))) (drop_at ks i k lt at) ∙ next (children (map part_of (drop (i + 1) ks)))
 
 pub loop_order : (ks : List Element) (i : ℕ) (k : Element) (f g : List Child → List (Option Data)) (s : Option Data) → i < length ks → k ≡ get_or ks i k
     → ((cs : List Child) → f ((part_of k).child ∷ cs) ≡ s ∷ g cs) → AllOrdered (f (children (map part_of (drop i ks))))
@@ -190,7 +190,7 @@ front_among : (o : Own) (ks : List Element) (i : ℕ) (k : Element) (f g : List 
     ≡ first_of (option_map (λ q. step_to (Some o) i (own_of k) ∷ q) (misshapen k s))
     (among o (i + 1) (map sendable (drop (i + 1) ks)) (g (children (map part_of (drop (i + 1) ks)))))
 front_among o ks i k f g s lt at next =
-    ap₂ (λ l ss. among o i (map sendable l) ss) (front_kid ks i k lt at) (turned ks i k f g s lt at next)
+    ap₂ (λ l ss. among o i (map sendable l) ss) (drop_at ks i k lt at) (turned ks i k f g s lt at next)
     ∙ among_first o i k (map sendable (drop (i + 1) ks)) s (g (children (map part_of (drop (i + 1) ks))))
 
 pub loop_shape : (o : Own) (ks : List Element) (i : ℕ) (k : Element) (f g : List Child → List (Option Data)) (s : Option Data) (all : Option (List PathStep))
@@ -229,7 +229,7 @@ pub loop_rows : (ks : List Element) (ss : List (Option Data)) (seen : List Kind)
     → ((now : List Kind) → length now ≡ rank → SoFar now rows → (after ≡ length (now ++ kinds k)) × Gathered k s now rows new)
     → Reached ks ss seen old (drop (i + 1) ks) (g (children (map part_of (drop (i + 1) ks)))) after new
 loop_rows ks ss seen old i k f g s rank after rows new lt at next so_far step =
-    let front = subst (λ l. Reached ks ss seen old l (f (children (map part_of (drop i ks)))) rank rows) (front_kid ks i k lt at) so_far in
+    let front = subst (λ l. Reached ks ss seen old l (f (children (map part_of (drop i ks)))) rank rows) (drop_at ks i k lt at) so_far in
     reach_on ks ss seen old k (drop (i + 1) ks) s (g (children (map part_of (drop (i + 1) ks)))) rank after rows new
     (subst (λ l. Reached ks ss seen old (k ∷ drop (i + 1) ks) l rank rows) (turned ks i k f g s lt at next) front) step
 

@@ -1,4 +1,5 @@
 use Rattle.std.proofs.Common.{◌≡◌, ◌∙◌, ◌≤◌, ◌+◌, IfSome, drop, option_map, ap, sym, subst, arith}
+use Rattle.aas_lemmas.proofs.Lists.{drop_at}
 use Rattle.serde_json.specs.Data.{object, depth, items_depth}
 use Rattle.serde_json.specs.View.{view, items_view, members_view}
 use Rattle.serde_json.proofs.Views.{view-Object}
@@ -8,7 +9,7 @@ use Rattle.aas_json_table.specs.Canonical.{canonical, canonical_items, canonical
 use Rattle.aas_model.specs.Payload.{kind_of}
 use Rattle.aas_json_read.specs.Own.{sort_under, spell_own}
 use Rattle.aas_json_read.specs.Children.{AddsItems}
-use Rattle.aas_json_read.proofs.Kids.{item_depth, drop_item, adds_one, variable_under, variable_sort}
+use Rattle.aas_json_read.proofs.Kids.{item_depth, adds_one, variable_under, variable_sort}
 use Rattle.aas_json_read.proofs.KidsRead.{annotations_read, statements_read, members_read, variables_read}
 use Rattle.aas_json_read.proofs.Levels.{element_is}
 use Rattle.aas_json_read.proofs.elements.+element.Goals as goal
@@ -33,7 +34,7 @@ items_after-loop-item-preserved t c =
     let i = c.loop-item.item-index in
     let o = c.in_ok-child_of.field-0 in
     let split : canonical_items (items_view (drop i xs)) f ≡ add_item (canonical f (view c.item-item.result)) (canonical_items (items_view (drop (i + 1) xs)) f) =
-    ap (λ vs. canonical_items (items_view vs) f) (drop_item xs i c.item-item.result (omega arith) c.item-item.is) in
+    ap (λ vs. canonical_items (items_view vs) f) (drop_at xs i c.item-item.result (omega arith) c.item-item.is) in
     subst (λ all. AddsItems c.args.role c.args.before all (canonical_items (items_view (drop (i + 1) xs)) f) (canonical_items (items_view xs) f)) (sym c.in_ok-add_found.ensures)
     (adds_one c.args.role c.args.before c.loop-item.all o (canonical f (view c.item-item.result)) (canonical_items (items_view (drop (i + 1) xs)) f) (canonical_items (items_view xs) f)
     (subst (λ rest. AddsItems c.args.role c.args.before c.loop-item.all rest (canonical_items (items_view xs) f)) split c.loop-item.invariant) c.in_ok-child_of.ensures.says c.in_ok-child_of.ensures.place)
