@@ -5,17 +5,14 @@ use Rattle.std.specs.List.{AllByRecursion}
 use Rattle.std.specs.Str.{IsUtf8, encode_utf8_all}
 use Rattle.std.proofs.lemmas.Fmt.{IsAscii-decimal}
 use Rattle.std.proofs.lemmas.Str.{IsUtf8-append, IsUtf8-from_ascii, IsUtf8-nil}
-use Rattle.std.proofs.lemmas.Str.Ascii.{IsAscii-nil, IsAscii-cons}
 use Rattle.aas_lexical.proofs.NamesAscii.{name_ascii, name_bytes}
 use Rattle.aas_lexical.specs.Names.{id_short}
 use Rattle.aas_model.specs.declared.path.PathStep.{PathStep}
 use Rattle.aas_model.specs.declared.path.PathStep.TheVariants.{Name, Place}
 use Rattle.aas_path.specs.PathText.{path_text, step_text}
+use Rattle.aas_path.proofs.Utf8.{one_utf8}
 use Rattle.aas_path_trees.specs.PathRule.{KeepsRule, StepKeepsRule}
 use Rattle.aas_command.specs.Commands.{IsPlace}
-
-one_utf8 : (c : ℕ) → c < 128 → IsUtf8 (c ∷ [])
-one_utf8 c small = IsUtf8-from_ascii (c ∷ []) (IsAscii-cons c [] small IsAscii-nil)
 
 name_utf8 : (n : List ℕ) → id_short n → IsUtf8 (encode_utf8_all n)
 name_utf8 n h = subst IsUtf8 (sym (name_bytes n h.0)) (IsUtf8-from_ascii n (name_ascii n h.0))

@@ -3,7 +3,6 @@ use Rattle.std.proofs.Common.{◌≡◌, ℕ, zero, suc, Bool, true, false, List
 use Rattle.std.specs.Prelude.{if◌then◌else◌, nat_lt}
 use Rattle.std.proofs.lemmas.List.Quantifiers.{position-Some}
 use Rattle.std.proofs.lemmas.Option.{get_or_from_slice_get, cond_some}
-use Rattle.std.proofs.lemmas.Slice.Eq.{bytes_eq-Decides}
 use Rattle.aas_model.specs.declared.documents.Submodel.{Submodel}
 use Rattle.aas_model.specs.declared.element.Element.{Element}
 use Rattle.aas_model.specs.declared.payload.Payload.{Payload}
@@ -20,6 +19,7 @@ use Rattle.aas_path_trees.specs.Children.{kids_of, id_short_of, is_list, is_list
 use Rattle.aas_path_trees.specs.ElementAt.{is_text, place_of, child_by, element_below, element_at}
 use Rattle.aas_path_trees.specs.WithElement.{with_child as with_child_by, with_below, with_element}
 use Rattle.aas_path_trees.proofs.Paths.{child_by-there}
+use Rattle.aas_path_trees.proofs.OnePath.{text_is}
 use Rattle.aas_lemmas.proofs.Lists.{no_first, no_second, no_map}
 use Rattle.aas_constraint_rules.proofs.Elements.{tree_out}
 use Rattle.aas_constraint_laws.specs.Law.{behind, local_faults}
@@ -33,10 +33,6 @@ abbrev Child : Type 0
 Child = ℕ × Element
 
 -- ---- a child, by its step
-
-text_is : (n : List ℕ) (o : Option (List ℕ)) → is_text n o ≡ true → o ≡ Some n
-text_is n None e = absurd (cc)
-text_is n (Some m) e = ap (λ (t : List ℕ). Some t) ((bytes_eq-Decides m n).0 e)
 
 named_step : (i : ℕ) (n : List ℕ) (name : Option (List ℕ)) → name ≡ Some n → if_any is_id_short name ≡ true → Name n ≡ named_or name i
 named_step i n name is named = sym (ap (λ o. named_or o i) is ∙ ap (λ (b : Bool). if b then Name n else Place i) (sym (ap (if_any is_id_short) is) ∙ named))
@@ -160,10 +156,10 @@ path_there (s ∷ p) e k is clean =
 -- ---- the law
 
 -- the faults of a submodel itself are no matter of its elements
-own_faults : Submodel → List Fault
+unfoldable pub own_faults : Submodel → List Fault
 own_faults d = document_faults submodel_rules (seen_of_submodel d).references d
 
-document_alike : (d : Submodel) (ks : List Element) → own_faults (record d { kids = ks }) ≡ own_faults d
+pub document_alike : (d : Submodel) (ks : List Element) → own_faults (record d { kids = ks }) ≡ own_faults d
 unfolding own_faults
 document_alike d ks = refl
 

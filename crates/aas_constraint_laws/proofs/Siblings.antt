@@ -38,7 +38,7 @@ later_hold P (suc n) [] h = h
 later_hold P (suc n) (x ∷ xs) h = later_hold P n xs h.1
 
 -- a name is new, whether or not the place is among variables
-neither : (p q : Bool) → p || not q ≡ true → not p || not q ≡ true → q ≡ false
+pub neither : (p q : Bool) → p || not q ≡ true → not p || not q ≡ true → q ≡ false
 neither p false e f = refl
 neither true true e f = absurd (cc)
 neither false true e f = absurd (cc)
@@ -134,7 +134,7 @@ clean_in_all t (i ∷ q) ks e c there = clean_child t None ks i q e (slice_get k
 -- ---- siblings
 
 -- the names of siblings, and one more
-among_last : (n : List ℕ) (b : List Own) (o : Own) → is_among n (filter_map name_of (b ++ o ∷ [])) ≡ (is_among n (filter_map name_of b) || is_among n (cons_option (name_of o) []))
+pub among_last : (n : List ℕ) (b : List Own) (o : Own) → is_among n (filter_map name_of (b ++ o ∷ [])) ≡ (is_among n (filter_map name_of b) || is_among n (cons_option (name_of o) []))
 among_last n b o = ap (is_among n) (filter_map-append name_of b (o ∷ [])) ∙ list_any-append (bytes_eq n) (filter_map name_of b) (cons_option (name_of o) [])
 
 still_among : (n : List ℕ) (b : List Own) (o : Own) → is_among n (filter_map name_of b) ≡ true → is_among n (filter_map name_of (b ++ o ∷ [])) ≡ true

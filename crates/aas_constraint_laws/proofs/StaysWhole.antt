@@ -117,7 +117,7 @@ role_out e = ap (λ (z : Placed). z.role) (of_out placed_over e)
 
 -- ---- parts
 
-all_parts : (ks : List Element) → list_all (λ b. b) (map (has_whole_parts limits) ks) ≡ list_all (has_whole_parts limits) ks
+pub all_parts : (ks : List Element) → list_all (λ b. b) (map (has_whole_parts limits) ks) ≡ list_all (has_whole_parts limits) ks
 all_parts [] = refl
 all_parts (k ∷ ks) = ap (λ b. has_whole_parts limits k && b) (all_parts ks)
 

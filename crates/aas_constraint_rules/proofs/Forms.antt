@@ -1,10 +1,10 @@
 -- The tests of texts tell whether the texts have the forms.
 use Rattle.std.proofs.Common.{◌≡◌, ℕ, ℤ, ◌↔◌, ◌⊎◌, ◌||◌, Decides, List, [], ◌∷◌, Bool, true, false, Option, Some, None, bytes_eq, codes, refl, arith}
-use Rattle.std.specs.Prelude.{◌≤ℤ◌, int_le, pos, neg_ℤ, ◌-◌, ◌^◌, ◌%◌, ◌≤◌, nat_le, length}
+use Rattle.std.specs.Prelude.{◌≤ℤ◌, int_le, pos, neg_ℤ, ◌-◌, ◌^◌, ◌%◌, nat_le, length}
 use Rattle.std.specs.Char.{is_ascii_hexdigit}
 use Rattle.std.specs.List.{list_all}
 use Rattle.std.specs.Str.{encode_utf8_all}
-use Rattle.std.proofs.lemmas.Bool.Decides.{Decides-and, Decides-or, Decides-eqb, nat_tests}
+use Rattle.std.proofs.lemmas.Bool.Decides.{Decides-and, Decides-or, Decides-eqb}
 use Rattle.std.proofs.lemmas.Int.{ints}
 use Rattle.std.proofs.lemmas.Slice.Eq.{bytes_eq-Decides}
 use Rattle.aas_model_names.specs.declared.value_type.ValueType.{ValueType}
@@ -20,7 +20,7 @@ use Rattle.aas_lexical.specs.Cut.Times.{after_utc_date_time}
 use Rattle.aas_lexical.specs.Cut.Numbers.{after_integer, after_decimal_with_exponent}
 use Rattle.aas_lexical.proofs.NumbersExact.{decimal_exact, decimal_with_exponent_exact, integer_exact}
 use Rattle.aas_lexical.proofs.BinaryExact.{base64_exact}
-use Rattle.aas_lexical.proofs.DatesExact.{date_exact, g_year_month_exact, g_year_exact, g_month_day_exact, g_day_exact, g_month_exact}
+use Rattle.aas_lexical.proofs.DatesExact.{date_exact, g_year_month_exact, g_year_exact, g_month_day_exact, g_day_exact, g_month_exact, le_decided}
 use Rattle.aas_lexical.proofs.TimesExact.{time_exact, date_time_exact, utc_date_time_exact}
 use Rattle.aas_lexical.proofs.DurationsExact.{duration_exact}
 use Rattle.aas_lexical.proofs.MediaExact.{media_type_exact}
@@ -49,9 +49,6 @@ one_of_four a b c d text =
     (Decides-or (bytes_eq text b) _ (bytes_eq-Decides text b) (Decides-or (bytes_eq text c) _ (bytes_eq-Decides text c) (last_word text d)))
 
 -- ---- numbers
-
-le_tells : (a b : ℕ) → Decides (nat_le a b) (a ≤ b)
-le_tells a b = (λ h. grind (arith, nat_tests), λ h. grind (arith, nat_tests))
 
 int_le_tells : (a b : ℤ) → Decides (int_le a b) (a ≤ℤ b)
 int_le_tells a b = (λ h. grind (arith, ints), λ h. grind (arith, ints))
@@ -113,7 +110,7 @@ form_tells xs.UnsignedShort text = between_tells (pos 0) (pos (2 ^ 16 - 1)) text
 -- ---- other texts
 
 pub identifier_tells : (s : List ℕ) → Decides (is_identifier s) (IsIdentifier s)
-identifier_tells s = Decides-and (nat_le 1 (length s)) _ (le_tells 1 (length s)) (le_tells (length s) 2048)
+identifier_tells s = Decides-and (nat_le 1 (length s)) _ (le_decided 1 (length s)) (le_decided (length s) 2048)
 
 pub language_tells : (s : List ℕ) → Decides (is_language s) (language (encode_utf8_all s))
 language_tells s = end_tells (after_language (encode_utf8_all s)) (language_exact (encode_utf8_all s))

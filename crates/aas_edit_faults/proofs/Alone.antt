@@ -13,6 +13,7 @@ use Rattle.aas_constraint_rules.specs.Sites.{Own, own_of, Site, sites, step_to, 
 use Rattle.aas_constraint_rules.proofs.Elements.{tree_out, under_fault}
 use Rattle.aas_constraint_laws.specs.Law.{behind}
 use Rattle.aas_constraint_laws.proofs.Places.{each_passes}
+use Rattle.aas_constraint_laws.proofs.Siblings.{neither}
 use Rattle.aas_edit_faults.proofs.Earlier.{first_of, if_then, is_placed, placed_among}
 use Rattle.aas_edit_faults.proofs.Level.{at_root, broken_at, faults_among, faults_below, faults_in, among_cons, among_none}
 
@@ -22,11 +23,6 @@ pub record BreakNothing (a : Option Own) (b : List Own) (o : Own) : Type 0 where
   pub semantics : stands_in_list a ≡ true → agree (first_of b) (semantics_of o) ≡ true
 
 -- ---- where there are no faults they break nothing
-
-neither : (p q : Bool) → p || not q ≡ true → not p || not q ≡ true → q ≡ false
-neither p false e f = refl
-neither true true e f = absurd (cc)
-neither false true e f = absurd (cc)
 
 pub break_nothing : (t : Bool) (a : Option Own) (b : List Own) (o : Own) → broken_at t a b o ≡ [] → BreakNothing a b o
 unfolding broken_at

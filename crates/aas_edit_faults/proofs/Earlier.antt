@@ -2,9 +2,6 @@
 use Rattle.std.proofs.Common.{◌≡◌, ℕ, Bool, true, false, not, ◌||◌, cond, List, [], ◌∷◌, ◌++◌, map, filter, filter_map, Option, Some, None, refl, sym, ap, ◌∙◌, subst}
 use Rattle.std.specs.List.{AllByRecursion, cons_option}
 use Rattle.std.specs.Option.{option_or}
-use Rattle.std.specs.Prelude.{bytes_eq}
-use Rattle.std.proofs.lemmas.List.Elements.{filter_map-append}
-use Rattle.std.proofs.lemmas.List.Folds.{list_any-append}
 use Rattle.std.proofs.lemmas.Bool.{or_parts, or_from}
 use Rattle.aas_model.specs.declared.reference.Reference.{Reference}
 use Rattle.aas_reference.specs.Rules.{Rule, failing}
@@ -14,12 +11,10 @@ use Rattle.aas_constraint_rules.specs.Rules.{ElementSentence, local, placed, hol
 use Rattle.aas_constraint_rules.specs.Sites.{Own, Site, stands_in_list}
 use Rattle.aas_constraint_rules.specs.Texts.{is_among}
 use Rattle.aas_constraint_laws.proofs.Places.{Passes, each_passes}
+use Rattle.aas_constraint_laws.proofs.Siblings.{among_last}
 use Rattle.aas_edit_faults.proofs.Level.{at_root, broken_at}
 
 -- ---- names
-
-last_name : (n : List ℕ) (b : List Own) (o : Own) → is_among n (filter_map name_of (b ++ o ∷ [])) ≡ (is_among n (filter_map name_of b) || is_among n (cons_option (name_of o) []))
-last_name n b o = ap (is_among n) (filter_map-append name_of b (o ∷ [])) ∙ list_any-append (bytes_eq n) (filter_map name_of b) (cons_option (name_of o) [])
 
 -- ---- semanticIds
 
@@ -76,14 +71,14 @@ pub record Allows (a : Option Own) (b c : List Own) : Type 0 where
 -- one sibling fewer
 pub allows_fewer : (a : Option Own) (b : List Own) (o : Own) → Allows a (b ++ o ∷ []) b
 allows_fewer a b o = record {
-  names = λ n e. (or_parts (is_among n (filter_map name_of b)) (is_among n (cons_option (name_of o) [])) (sym (last_name n b o) ∙ e)).0;
+  names = λ n e. (or_parts (is_among n (filter_map name_of b)) (is_among n (cons_option (name_of o) [])) (sym (among_last n b o) ∙ e)).0;
   semantics = λ in_list. subst (λ x. Follows x (first_of b)) (sym (first_last b o)) (follows_fewer (first_of b) (semantics_of o));
 }
 
 -- another one with the same name and the same semanticId
 pub allows_other : (a : Option Own) (b : List Own) (o u : Own) → name_of u ≡ name_of o → semantics_of u ≡ semantics_of o → Allows a (b ++ o ∷ []) (b ++ u ∷ [])
 allows_other a b o u names semantics = record {
-  names = λ n e. last_name n b u ∙ ap (λ m. is_among n (filter_map name_of b) || is_among n (cons_option m [])) names ∙ sym (last_name n b o) ∙ e;
+  names = λ n e. among_last n b u ∙ ap (λ m. is_among n (filter_map name_of b) || is_among n (cons_option m [])) names ∙ sym (among_last n b o) ∙ e;
   semantics = λ in_list.
       let is : first_of (b ++ o ∷ []) ≡ first_of (b ++ u ∷ []) = first_last b o ∙ ap (option_or (first_of b)) (sym semantics) ∙ sym (first_last b u) in
       subst (Follows (first_of (b ++ o ∷ []))) is (follows_itself (first_of (b ++ o ∷ [])));
@@ -166,8 +161,8 @@ module _ (t : Bool) (a : Option Own) (b c : List Own) (o : Own) where
   allows_more allows e =
       let agrees : not (stands_in_list a) || agree (first_of b) (semantics_of o) ≡ true = (each_passes (λ s. holds s here) rules e).1.1.1.1.1.1.1.1.1.1.0 in record {
         names = λ n none.
-            let own : is_among n (filter_map name_of b) || is_among n (cons_option (name_of o) []) ≡ false = sym (last_name n b o) ∙ none in
-            last_name n c o ∙ or_from (is_among n (filter_map name_of c)) (is_among n (cons_option (name_of o) []))
+            let own : is_among n (filter_map name_of b) || is_among n (cons_option (name_of o) []) ≡ false = sym (among_last n b o) ∙ none in
+            among_last n c o ∙ or_from (is_among n (filter_map name_of c)) (is_among n (cons_option (name_of o) []))
             (allows.names n (or_parts (is_among n (filter_map name_of b)) (is_among n (cons_option (name_of o) [])) own).0)
             (or_parts (is_among n (filter_map name_of b)) (is_among n (cons_option (name_of o) [])) own).1;
         semantics = λ in_list.

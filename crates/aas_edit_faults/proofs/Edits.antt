@@ -11,8 +11,7 @@ use Rattle.aas_model.specs.declared.element.Role.{Role}
 use Rattle.aas_model.specs.declared.element.Role.TheVariants.{Member}
 use Rattle.aas_model.specs.declared.path.Fault.{Fault}
 use Rattle.aas_model.specs.declared.path.PathStep.{PathStep}
-use Rattle.aas_constraint_rules.specs.Attributes.{seen_of_submodel}
-use Rattle.aas_constraint_rules.specs.Faults.{document_faults, faults, faults_at, is_template, submodel, submodel_rules, HasNoFault}
+use Rattle.aas_constraint_rules.specs.Faults.{faults, faults_at, is_template, submodel, HasNoFault}
 use Rattle.aas_constraint_rules.specs.Rules.{name_of, semantics_of}
 use Rattle.aas_constraint_rules.specs.Sites.{Own, own_of, sites, step_to, tree_of}
 use Rattle.aas_path_trees.specs.Children.{id_short_of, kids_of, role_of, is_list, with_kids, with_role}
@@ -21,6 +20,7 @@ use Rattle.aas_path_trees.specs.ElementAt.{child_by, element_at, element_below, 
 use Rattle.aas_path_trees.specs.WithElement.{with_below, with_among, with_child, with_element}
 use Rattle.aas_path_trees.proofs.Paths.{child_by-there, element_among-append, with_among-append, with_element-same}
 use Rattle.aas_constraint_laws.specs.Law.{behind}
+use Rattle.aas_constraint_laws.proofs.Bridge.{document_alike, own_faults}
 use Rattle.aas_edit_laws.proofs.Edits.{insert_keeps_whole, replace_keeps_whole, remove_keeps_whole}
 use Rattle.aas_edit_faults.specs.Laws.{child_at, faults_alone, faults_as_child, FaultsOfInserted, FaultsOfReplaced, RemovingKeepsFaultless, EditsKeepValid}
 use Rattle.aas_edit_faults.specs.Laws.{InsertedStandsAlone, ListsHaveNoNames, ReplacedStandsAlone}
@@ -32,14 +32,6 @@ use Rattle.aas_edit_faults.proofs.Walks.{Child, own_with_kids, own_with_role, be
 
 -- ---- a submodel with other elements
 
--- the faults of a submodel itself are no matter of its elements
-own_faults : Submodel → List Fault
-own_faults d = document_faults submodel_rules (seen_of_submodel d).references d
-
-other_elements : (d : Submodel) (ks : List Element) → own_faults (record d { kids = ks }) ≡ own_faults d
-unfolding own_faults
-other_elements d ks = refl
-
 own_none : (d : Submodel) → HasNoFault (submodel d) → own_faults d ≡ []
 unfolding own_faults faults_among
 own_none d none = no_first (own_faults d) (faults_among (is_template d.kind) None [] d.kids) none
@@ -50,7 +42,7 @@ kids_none d none = no_second (own_faults d) (faults_among (is_template d.kind) N
 
 faults_with : (d : Submodel) (ks : List Element) → HasNoFault (submodel d) → faults (record d { kids = ks }) ≡ faults_among (is_template d.kind) None [] ks
 unfolding own_faults faults_among
-faults_with d ks none = ap (λ l. l ++ faults_among (is_template d.kind) None [] ks) (other_elements d ks ∙ own_none d none)
+faults_with d ks none = ap (λ l. l ++ faults_among (is_template d.kind) None [] ks) (document_alike d ks ∙ own_none d none)
 
 -- with another element of the same attributes where a path leads
 faults_changed : (d : Submodel) (p : List PathStep) (o w : Element) → HasNoFault (submodel d) → element_at d p ≡ Some o → own_of w ≡ own_of o

@@ -1,4 +1,4 @@
-mod Blamed
+pub mod Blamed
 mod Payload
 mod Poured
 mod Put

@@ -91,10 +91,6 @@ at_place l s ks i at = ap (option_and_then (λ i. option_map (λ k. (i, k)) (sli
 pub no_child : (l : Bool) (s : PathStep) (ks : List Element) (i : ℕ) → place_of l s ks ≡ Some i → slice_get ks i ≡ None → child_by l s ks ≡ None
 no_child l s ks i at none = at_place l s ks i at ∙ ap (option_map (λ k. (i, k))) none
 
-pub one_child : (l : Bool) (s : PathStep) (ks : List Element) (i : ℕ) (k : Element)
-    → place_of l s ks ≡ Some i → slice_get ks i ≡ Some k → child_by l s ks ≡ Some (i, k)
-one_child l s ks i k at there = at_place l s ks i at ∙ ap (option_map (λ k. (i, k))) there
-
 keys_by : (l : Bool) (path : List PathStep) (s : PathStep) (p : List PathStep) (ks : List Element) (c : Option (ℕ × Element))
     → path ≡ s ∷ p → child_by l s ks ≡ c → keys_in l path ks ≡ option_and_then (keys_through l p) c
 unfolding keys_in

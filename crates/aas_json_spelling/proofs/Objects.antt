@@ -32,7 +32,7 @@ none_left : (n : List ℕ) (rows : List Row) (g : List ℕ → MemberType → Op
 none_left n [] g e = refl
 none_left n (r ∷ rs) g e = past_add n r.name (g r.name r.member_type) (members_by rs g) (other n r.name (and_left _ _ e)) ∙ none_left n rs g (and_right _ _ e)
 
-at_itself : (o : Ordering) (a b : Option Data) → is_eq o ≡ true → match_ordering o a b a ≡ b
+pub at_itself : (o : Ordering) (a b : Option Data) → is_eq o ≡ true → match_ordering o a b a ≡ b
 at_itself Less a b e = absurd (true≢false (sym e))
 at_itself Equal a b e = refl
 at_itself Greater a b e = absurd (true≢false (sym e))
@@ -112,11 +112,11 @@ members_clear : (all : List Row) (l : Levels) (rows : List Row) (g : List ℕ �
 members_clear all l [] g n a = (refl, refl)
 members_clear all l (r ∷ rs) g n a = add_clear all l r (g r.name r.member_type) (members_by rs g) n.0 a.0 (members_clear all l rs g n.1 a.1)
 
-add_above : (n l : List ℕ) (o : Option Data) (ms : Members) → is_lt (slice_cmp nat_cmp n l) ≡ true → AreAbove n ms → AreAbove n (add l o ms)
+pub add_above : (n l : List ℕ) (o : Option Data) (ms : Members) → is_lt (slice_cmp nat_cmp n l) ≡ true → AreAbove n ms → AreAbove n (add l o ms)
 add_above n l None ms e a = a
 add_above n l (Some d) ms e a = (Less-from_is_lt (slice_cmp nat_cmp n l) e, a)
 
-members_above : (n : List ℕ) (rows : List Row) (g : List ℕ → MemberType → Option Data) → is_below n rows ≡ true → AreAbove n (members_by rows g)
+pub members_above : (n : List ℕ) (rows : List Row) (g : List ℕ → MemberType → Option Data) → is_below n rows ≡ true → AreAbove n (members_by rows g)
 members_above n [] g e = tt
 members_above n (r ∷ rs) g e = add_above n r.name (g r.name r.member_type) (members_by rs g) (and_left _ _ e) (members_above n rs g (and_right _ _ e))
 

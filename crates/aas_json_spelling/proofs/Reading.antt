@@ -11,17 +11,17 @@ use Rattle.serde_json.specs.Read.{of_json, of_items, of_members, read, number_of
 use Rattle.aas_json_spelling.specs.Values.{IsOrdered, AreOrdered, HasOrder, AreAbove}
 use Rattle.aas_json_spelling.specs.Reading.{reading}
 
-above_all : (k l : List ℕ) (ms : Members) → slice_cmp nat_cmp k l ≡ Less → AreAbove l ms → AreAbove k ms
+pub above_all : (k l : List ℕ) (ms : Members) → slice_cmp nat_cmp k l ≡ Less → AreAbove l ms → AreAbove k ms
 above_all k l no_members e a = tt
 above_all k l (member m d ms) e a = (nat_list_cmp_total.trans k l m e a.0, above_all k l ms e a.1)
 
-put_above : (o : Ordering) (l k m : List ℕ) (d e : Data) (ms rest : Members) → slice_cmp nat_cmp l k ≡ Less → AreAbove l (member m e ms) → AreAbove l rest
+pub put_above : (o : Ordering) (l k m : List ℕ) (d e : Data) (ms rest : Members) → slice_cmp nat_cmp l k ≡ Less → AreAbove l (member m e ms) → AreAbove l rest
     → AreAbove l (match_ordering o (member k d (member m e ms)) (member m d ms) (member m e rest))
 put_above Less l k m d e ms rest less a later = (less, a)
 put_above Equal l k m d e ms rest less a later = a
 put_above Greater l k m d e ms rest less a later = (a.0, later)
 
-still_above : (l k : List ℕ) (d : Data) (ms : Members) → slice_cmp nat_cmp l k ≡ Less → AreAbove l ms → AreAbove l (put k d ms)
+pub still_above : (l k : List ℕ) (d : Data) (ms : Members) → slice_cmp nat_cmp l k ≡ Less → AreAbove l ms → AreAbove l (put k d ms)
 still_above l k d no_members less a = (less, tt)
 still_above l k d (member m e ms) less a = put_above (slice_cmp nat_cmp k m) l k m d e ms (put k d ms) less a (still_above l k d ms less a.1)
 

@@ -1,6 +1,6 @@
 -- Forms of trees that are in order are in order.
 use Rattle.std.proofs.Common.{◌≡◌, ◌&&◌, List, [], ◌∷◌, Bool, true, map, refl, ap, ap₂, sym, ◌∙◌, subst}
-use Rattle.aas_json_mapping.proofs.Elements.{each_within}
+use Rattle.aas_json_mapping.proofs.Elements.{each_within, made}
 use Rattle.std.specs.List.{All, Contains, flat_map, list_all}
 use Rattle.std.proofs.lemmas.Bool.{and_from, and_parts}
 use Rattle.std.proofs.lemmas.List.Elements.{All-contains}
@@ -14,7 +14,6 @@ use Rattle.aas_model.specs.declared.element.Element.TheFolds.{ind-Element, fold-
 use Rattle.aas_model.specs.declared.element.Role.{Role}
 use Rattle.aas_model.specs.declared.payload.Payload.{Payload}
 use Rattle.aas_json_write.specs.Order.{kept_in_order, commons, element_in_order, elements_in_order, head_in_order, submodel_in_order}
-use Rattle.aas_json_write.proofs.InWhole.{made}
 
 abbrev common_in_order : Common → Bool
 common_in_order c = kept_in_order c.embedded_data_specifications

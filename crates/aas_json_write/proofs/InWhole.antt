@@ -1,6 +1,6 @@
 -- Whole trees are in order.
 use Rattle.std.proofs.Common.{◌≡◌, ◌&&◌, List, [], ◌∷◌, Bool, true, map, Option, Some, None, refl, ◌∙◌, sym, subst}
-use Rattle.aas_json_mapping.proofs.Elements.{each_within}
+use Rattle.aas_json_mapping.proofs.Elements.{each_within, made}
 use Rattle.std.proofs.lemmas.Bool.{and_from}
 use Rattle.std.specs.List.{list_all}
 use Rattle.aas_json_table.specs.TooDeep.{Levels}
@@ -30,9 +30,6 @@ kept_of_whole : (l : Levels) (ps : List Plain) → whole_kept l ps ≡ true → 
 kept_of_whole l ps e = and_left (kept_in_order ps) _ e
 
 -- ---- elements
-
-abbrev pub made : Role → Common → Payload → List Element → Element
-made r c x ks = roll-Element (record { common = c; payload = x; role = r; kids = ks })
 
 abbrev Ordered : Levels → Element → Type 0
 Ordered l e = has_whole_parts l e ≡ true → element_in_order e ≡ true

@@ -65,7 +65,7 @@ any_by : (class : ℕ → Bool) (b : ℕ) (t : List ℕ) (v : Bool) → class b 
 any_by class b t true h r = (b ∷ r.0, ap (λ (l : List ℕ). b ∷ l) r.1, rw h r.2)
 any_by class b t false h r = ([], refl, refl)
 
-any-sound : (class : ℕ → Bool) (t : List ℕ) → (x : List ℕ) × (t ≡ x ++ after_any class t) × any class x
+pub any-sound : (class : ℕ → Bool) (t : List ℕ) → (x : List ℕ) × (t ≡ x ++ after_any class t) × any class x
 any-sound class [] = ([], refl, refl)
 any-sound class (b ∷ t) = any_by class b t (class b) refl (any-sound class t)
 

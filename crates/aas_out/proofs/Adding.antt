@@ -3,14 +3,11 @@ use Rattle.std.proofs.Common.{◌≡◌, ℕ, ◌+◌, ◌≤◌, ◌^◌, List,
 use Rattle.std.proofs.lemmas.List.{append-nil}
 use Rattle.std.specs.Io.KnownBytes.{append_known}
 use Rattle.aas_outside.specs.Faults.{Rose}
+use Rattle.aas_outside.proofs.KnownBytes.{append_known-more}
 use Rattle.aas_out.specs.Told.{Told, Wrote, WroteFront, Grows, capped, Puts}
 use Rattle.aas_out.specs.Adds.{Adds, outcome_of}
 use Rattle.aas_out.specs.declared.pouring.Pouring.{Pouring}
 use Rattle.aas_out.specs.declared.pouring.Pouring.TheVariants as pouring
-
-pub append_known-more : (known : Option (List ℕ)) (xs ys : List ℕ) → append_known (append_known known xs) ys ≡ append_known known (xs ++ ys)
-append_known-more None xs ys = refl
-append_known-more (Some s) xs ys = ap (λ t. Some t) (append_assoc s xs ys)
 
 pub append_known-nil : (known : Option (List ℕ)) → known ≡ append_known known []
 append_known-nil None = refl

@@ -9,11 +9,12 @@ use Rattle.std.specs.Prelude.{Ok, Err, OnOk, OnErr, IsErr}
 use Rattle.aas_outside.specs.Faults.{HasCause, Rose}
 use Rattle.aas_outside.specs.Link.{GivesFront}
 use Rattle.aas_outside.specs.Surroundings.{Surroundings}
+use Rattle.aas_outside.proofs.KnownBytes.{append_known-more}
 use Rattle.aas_out.specs.Held.{held_by, HoldsNothing}
 use Rattle.aas_out.specs.declared.buffered.BufferOut.{BufferOut}
 use Rattle.aas_out.specs.LinkTold.{LinkKept, link_kept, link_told, holding_told}
 use Rattle.aas_out.specs.Told.{Told, Puts, Wrote, WroteFront}
-use Rattle.aas_out.proofs.Adding.{append_known-more, append_known-nil}
+use Rattle.aas_out.proofs.Adding.{append_known-nil}
 
 pub kept_by : (reference reference_now : ℕ) (left left_now : Option (List ℕ)) (around around_now : Surroundings) → reference_now ≡ reference → left_now ≡ left → around_now ≡ around
     → link_kept reference_now left_now around_now ≡ link_kept reference left around

@@ -17,11 +17,11 @@ use Rattle.aas_path_trees.proofs.Patches.{patched_out}
 -- ---- one element
 
 -- no row from a rank on has a lower one
-skipped : (k : ℕ) (r : PatchRow) (rows : List PatchRow) (own : Payload) → ¬ (r.rank ≡ k) → (b : Bool) → (r.rank == k) ≡ b → payload_at k (r ∷ rows) own ≡ payload_at k rows own
+pub skipped : (k : ℕ) (r : PatchRow) (rows : List PatchRow) (own : Payload) → ¬ (r.rank ≡ k) → (b : Bool) → (r.rank == k) ≡ b → payload_at k (r ∷ rows) own ≡ payload_at k rows own
 skipped k r rows own other true e = absurd (other ((Decides-eqb r.rank k).0 e))
 skipped k r rows own other false e = ap (λ b. if b then r.payload else payload_at k rows own) e
 
-none_below : (k m : ℕ) (rows : List PatchRow) (own : Payload) → k ≤ m → RiseFrom m rows → payload_at k rows own ≡ own
+pub none_below : (k m : ℕ) (rows : List PatchRow) (own : Payload) → k ≤ m → RiseFrom m rows → payload_at k rows own ≡ own
 none_below k m [] own le up = refl
 none_below k m (r ∷ rows) own le up =
     let above : k < r.rank = omega (arith, up.0) in skipped k r rows own (λ e. absurd (omega arith)) (r.rank == k) refl ∙ none_below k r.rank rows own (omega arith) up.1

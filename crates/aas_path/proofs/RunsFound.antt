@@ -5,7 +5,7 @@ use Rattle.std.proofs.lemmas.List.{drop_at, take_at}
 use Rattle.std.proofs.lemmas.Bool.{and_parts}
 use Rattle.aas_lexical_forms.specs.Cut.{after_any}
 use Rattle.aas_lexical_forms.specs.Form.{any}
-use Rattle.aas_lexical_forms.proofs.Cuts.{Cuts-any}
+use Rattle.aas_lexical_forms.proofs.Cuts.{any-sound}
 use Rattle.aas_path.specs.Runs.{Stops, IsRun}
 
 stops_by : (class : ℕ → Bool) (b : ℕ) (text : List ℕ) (v : Bool) → class b ≡ v → Stops class (after_any class text) → Stops class (if v then after_any class text else b ∷ text)
@@ -23,16 +23,13 @@ run_at class text x rest n whole long all stop = record {
   behind = subst (Stops class) (sym (ap (drop n) whole ∙ drop_at x rest n long)) stop;
 }
 
-split : (class : ℕ → Bool) (text : List ℕ) → (x : List ℕ) × (text ≡ x ++ after_any class text) × any class x
-split class text = (Cuts-any class).sound text (after_any class text) refl
-
 pub found : (class : ℕ → Bool) (text : List ℕ) → IsRun class text (length text - length (after_any class text))
 found class text =
-    let s = split class text in
+    let s = any-sound class text in
     run_at class text s.0 (after_any class text) _ s.1 (omega (arith, ap length s.1, length-append s.0 (after_any class text))) s.2 (stops class text)
 
 pub shorter : (class : ℕ → Bool) (text : List ℕ) → length (after_any class text) ≤ length text
-shorter class text = let s = split class text in omega (arith, ap length s.1, length-append s.0 (after_any class text))
+shorter class text = let s = any-sound class text in omega (arith, ap length s.1, length-append s.0 (after_any class text))
 
 -- ---- a front of bytes of a class, and what stops it
 

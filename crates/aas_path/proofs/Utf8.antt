@@ -13,7 +13,7 @@ use Rattle.aas_model.specs.declared.path.PathStep.{PathStep}
 use Rattle.aas_model.specs.declared.path.PathStep.TheVariants.{Name, Place}
 use Rattle.aas_path.specs.PathText.{fault_path_text, first_step_text, path_text, step_text}
 
-one_utf8 : (c : ℕ) → c < 128 → IsUtf8 (c ∷ [])
+pub one_utf8 : (c : ℕ) → c < 128 → IsUtf8 (c ∷ [])
 one_utf8 c small = IsUtf8-from_ascii (c ∷ []) (IsAscii-cons c [] small IsAscii-nil)
 
 pub place_utf8 : (i : ℕ) → i < 2 ^ 64 → IsUtf8 (step_text (Place i))

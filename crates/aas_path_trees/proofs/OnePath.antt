@@ -42,7 +42,7 @@ leads p (Some c) q e = leads_on p c (place_below p c.1) q refl e
 
 -- ---- the one step that leads to a child
 
-text_is : (n : List ℕ) (o : Option (List ℕ)) → is_text n o ≡ true → o ≡ Some n
+pub text_is : (n : List ℕ) (o : Option (List ℕ)) → is_text n o ≡ true → o ≡ Some n
 text_is n None e = absurd (cc)
 text_is n (Some m) e = ap (λ (t : List ℕ). Some t) ((bytes_eq-Decides m n).0 e)
 
@@ -126,7 +126,7 @@ named_first ks i k n differ there name =
     let first : position_or_len test ks ≡ i = position_or_len_is test ks i k (omega arith) (λ j below. no_earlier ks i j k n differ there name below within _ refl) (λ _. passes) in
     ap (λ (j : ℕ). if nat_lt j (length ks) then Some j else None) first ∙ ap (λ b. if b then Some i else None) ((Decides-ltb i (length ks)).1 within)
 
-child_at : (l : Bool) (s : PathStep) (ks : List Element) (i : ℕ) (k : Element) → place_of l s ks ≡ Some i → slice_get ks i ≡ Some k → child_by l s ks ≡ Some (i, k)
+pub child_at : (l : Bool) (s : PathStep) (ks : List Element) (i : ℕ) (k : Element) → place_of l s ks ≡ Some i → slice_get ks i ≡ Some k → child_by l s ks ≡ Some (i, k)
 unfolding child_by
 child_at l s ks i k place there = ap (λ o. option_and_then (λ i. option_map (λ k. (i, k)) (slice_get ks i)) o) place ∙ ap (λ o. option_map (λ k. (i, k)) o) there
 

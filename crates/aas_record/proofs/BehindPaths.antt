@@ -8,11 +8,12 @@ use Rattle.aas_edit_laws.specs.Laws.{at_level}
 use Rattle.aas_path.specs.PathText.{path_text}
 use Rattle.aas_path_trees.specs.PathRule.{KeepsRule}
 use Rattle.aas_command.specs.Commands.{IsPlace}
-use Rattle.aas_record.specs.FieldTypes.{HasType, IsCanonical, child, element}
+use Rattle.aas_command.proofs.PathTexts.{is_place}
+use Rattle.aas_record.specs.Forms.{HasForm, IsCanonical, child, element}
 use Rattle.aas_record.specs.Reading.{IsLastFault}
 use Rattle.aas_record.specs.declared.fault.RecordFault.{RecordFault}
 use Rattle.aas_record.specs.declared.fault.RecordFault.TheVariants.{NotARecord, NoMemory}
-use Rattle.aas_record.proofs.Places.{is_place, one_place}
+use Rattle.aas_record.proofs.Places.{one_place}
 
 pub whole_below : (l m : ℕ) (e : Element) → at_level l ≡ at_level m → elements.IsWhole (at_level l) e → elements.IsWhole (at_level m) e
 whole_below l m e same whole = subst (λ (left : Levels). elements.IsWhole left e) same whole

@@ -26,10 +26,6 @@ one_place [] (t ∷ q) a b e = absurd (some_path t q b (sym e))
 one_place (s ∷ p) [] a b e = absurd (some_path s p a e)
 one_place (s ∷ p) (t ∷ q) a b e = one_path (path_text (s ∷ p)) (s ∷ p) (t ∷ q) (refl, a) (e, b)
 
-pub is_place : (p : List PathStep) → KeepsRule p → IsPlace p
-is_place [] h = absurd h
-is_place (s ∷ p) h = h
-
 pub some_steps : (p : List PathStep) → KeepsRule p → 1 ≤ length p
 some_steps [] h = absurd h
 some_steps (s ∷ p) h = omega arith

@@ -18,12 +18,13 @@ use Rattle.aas_command.specs.Commands.{IsWellFormed, field, payload_of, tagged_o
 use Rattle.aas_command.specs.Encoding.{HasFields, IsField}
 use Rattle.aas_command.specs.declared.command.Command.{Command}
 use Rattle.aas_command.specs.declared.command.Command.TheVariants.{CreateShell, CreateSubmodel, CreateConcept, ReplaceShell, ReplaceSubmodel, ReplaceConcept, DeleteShell, DeleteSubmodel, DeleteConcept, SetAsset, AddReference, DropReference, InsertElement, ReplaceElement, DeleteElement, UpdateValue, Import}
+use Rattle.aas_command.proofs.PathTexts.{is_place}
 use Rattle.aas_record.specs.Records.{IsRecord, IsRecordFault}
 use Rattle.aas_record.specs.declared.fault.RecordFault.{RecordFault}
 use Rattle.aas_record.specs.declared.fault.RecordFault.TheVariants.{NotARecord, NoMemory}
 use Rattle.aas_record.proofs.Canonical.{at_limits, same_by_text, within_level}
 use Rattle.aas_record.proofs.Values.{same_value}
-use Rattle.aas_record.proofs.Places.{is_place, one_place, some_steps}
+use Rattle.aas_record.proofs.Places.{one_place, some_steps}
 use Rattle.aas_record.proofs.Once.{one}
 use Rattle.aas_record.proofs.Payloads.{right}
 

@@ -6,14 +6,12 @@ use Rattle.aas_model.specs.Payload.{kind_of}
 use Rattle.aas_model.specs.declared.documents.Submodel.{Submodel}
 use Rattle.aas_model.specs.declared.element.Element.{Element, out-Element}
 use Rattle.aas_model.specs.declared.element.Role.TheVariants as role
-use Rattle.aas_model.specs.declared.path.Fault.{Fault}
 use Rattle.aas_model.specs.declared.path.PathStep.{PathStep}
 use Rattle.aas_model.specs.declared.path.PathStep.TheVariants.{Place}
 use Rattle.aas_model.specs.declared.payload.Payload.{Payload}
 use Rattle.aas_model.specs.declared.payload.Payload.TheVariants as payload
 use Rattle.aas_model_names.specs.declared.kind.Kind.{Kind}
-use Rattle.aas_constraint_rules.specs.Attributes.{seen_of_submodel}
-use Rattle.aas_constraint_rules.specs.Faults.{faults, faults_at, document_faults, submodel_rules, is_template, submodel, HasNoFault}
+use Rattle.aas_constraint_rules.specs.Faults.{faults, faults_at, is_template, submodel, HasNoFault}
 use Rattle.aas_constraint_rules.specs.Sites.{Own, Trees, none, first, root, sites_among, stands_in_list, named_or, tree_of, trees}
 use Rattle.aas_constraint_rules.proofs.Elements.{under_fault}
 use Rattle.aas_lemmas.proofs.Lists.{no_first, no_second}
@@ -28,8 +26,9 @@ use Rattle.aas_constraint_laws.proofs.Bare.{bare_trees, tree_made, same_bare}
 use Rattle.aas_constraint_laws.proofs.Changed.{local_here, local_among, free, free_among}
 use Rattle.aas_constraint_laws.proofs.Places.{all_none_placed, all_local, same_placed}
 use Rattle.aas_constraint_laws.proofs.StaysWhole.{same_changed, same_with, same_with_child}
+use Rattle.aas_constraint_laws.proofs.Bridge.{document_alike, own_faults}
 use Rattle.aas_value_update.specs.Update.{body, no_attributes}
-use Rattle.aas_value_update.proofs.Alone.{fields, kids_made}
+use Rattle.aas_value_update.proofs.Alone.{fields}
 use Rattle.aas_value_update.proofs.Rest.{bare_at}
 
 -- ---- children that differ in values alone
@@ -63,9 +62,6 @@ pub as_many : (s n : Submodel) → map bare s.kids ≡ map bare n.kids → eleme
 as_many s n same = ap length (sym (same_kinds_of_all s.kids n.kids same))
 
 -- ---- an element that differs from a body
-
-pub body_kids : (s : Submodel) → kids_of (body s) ≡ s.kids
-body_kids s = kids_made role.Member no_attributes payload.SubmodelElementCollection s.kids
 
 is_collection : (x : Payload) → payload.SubmodelElementCollection ≡ without_values x → x ≡ payload.SubmodelElementCollection
 is_collection payload.SubmodelElementCollection e = refl
@@ -112,13 +108,6 @@ among_alike a b n (first t ts) same =
 own_body : Own
 own_body = record { common = no_attributes; payload = payload.SubmodelElementCollection; role = role.Member }
 
-own_faults : Submodel → List Fault
-own_faults s = document_faults submodel_rules (seen_of_submodel s).references s
-
-own_alike : (s : Submodel) (us : List Element) → own_faults (record s { kids = us }) ≡ own_faults s
-unfolding own_faults
-own_alike s us = refl
-
 body_local : (s : Submodel) → local_faults (body s) ≡ local_among (Some own_body) 0 (trees (map tree_of s.kids))
 unfolding own_body local_here
 body_local s = free true None [] (tree_of (body s)) ∙ ap local_here (tree_made own_body s.kids)
@@ -132,7 +121,7 @@ law_of_body s us valid same =
     let ws = trees (map tree_of us) in
     let own_none : own_faults s ≡ [] = no_first (own_faults s) (flat_map faults_at (sites_among t None [] ts)) valid in
     let clean : flat_map faults_at (sites_among t None [] ts) ≡ [] = no_second (own_faults s) (flat_map faults_at (sites_among t None [] ts)) valid in
-    ap (λ l. l ++ flat_map faults_at (sites_among t None [] ws)) (own_alike s us ∙ own_none)
+    ap (λ l. l ++ flat_map faults_at (sites_among t None [] ws)) (document_alike s us ∙ own_none)
     ∙ all_local (sites_among t None [] ws) (same_placed t ws ts (trees_alike s.kids us same) ∙ all_none_placed (sites_among t None [] ts) clean)
     ∙ free_among t None [] ws
     ∙ among_alike None (Some own_body) 0 ws refl

@@ -32,6 +32,7 @@ use Rattle.aas_step.specs.Causes.{Cause, document_causes, first_of, first_repeat
 use Rattle.aas_step.specs.Laws.{ValidIsStorable}
 use Rattle.aas_step.specs.Made.{documents_in, with_documents}
 use Rattle.aas_step.specs.Step.{ComesBy, ComesTo, accepted, later_causes, refused, result_of}
+use Rattle.aas_step.proofs.Validity.{no_cause}
 use Rattle.aas_store.specs.Documents.{Documents, with_all}
 use Rattle.aas_store.specs.Storable.{IsStorable}
 use Rattle.aas_repo.specs.Decisions.{IsDecision}
@@ -202,11 +203,6 @@ imports has_room d new e none same =
 
 -- ---- submodels that a store takes
 
-faultless : (faults : List Fault) (many : Bool) → first_of (option_map refusal_of_fault (first faults) ∷ when many TooMany ∷ []) ≡ None → (faults ≡ []) × (many ≡ false)
-faultless [] true e = absurd (cc)
-faultless [] false e = (refl, refl)
-faultless (f ∷ fs) many e = absurd (cc)
-
 all_of : {X : Type 0} (P : X → Type 0) (x : X) (xs : List X) → P x → All P xs → All P (x ∷ xs)
 all_of P x xs here rest zero d lt = here
 all_of P x xs here rest (suc k) d lt = rest k d (omega (arith, lt))
@@ -217,8 +213,8 @@ all_storable (s ∷ ss) law whole none =
     let wholes = and_parts (is_whole_submodel limits s) (list_all (is_whole_submodel limits) ss) whole in
     let nones = none_in (first_of (document_causes (submodel s))) (first_of (flat_map document_causes (map submodel ss)))
     (sym none ∙ first_in (document_causes (submodel s)) (flat_map document_causes (map submodel ss))) in
-    let own = faultless (faults_of (submodel s)) (has_too_many (submodel s)) nones.0 in
-    all_of IsStorable s ss (law s (record { whole = wholes.0; faultless = own.0 }) own.1) (all_storable ss law wholes.1 nones.1)
+    let own = no_cause (faults_of (submodel s)) (has_too_many (submodel s)) nones.0 in
+    all_of IsStorable s ss (law s (record { whole = wholes.0; no_cause = own.0 }) own.1) (all_storable ss law wholes.1 nones.1)
 
 pub storable : (has_room : Bool) (e : Environment) → ValidIsStorable → is_whole_environment limits e ≡ true → None ≡ first_of (import_causes has_room e) → All IsStorable e.submodels
 storable has_room e law whole none =

@@ -49,9 +49,9 @@ use Rattle.aas_value_update.specs.Shape.{HasShape, Sendable, among, first_missha
 use Rattle.aas_value_update.specs.Update.{IsElementUpdate, IsSubmodelUpdate, IsValueUpdate, body, valued_at}
 use Rattle.aas_value_update.specs.Laws.{IsInOrder}
 use Rattle.aas_value_update.proofs.WholeSubmodel.{update_stays_whole}
-use Rattle.aas_value_update.proofs.Order.{body_order, order_at}
+use Rattle.aas_value_update.proofs.Order.{body_order, order_at, body_kids}
 use Rattle.aas_constraint_rules.specs.Sites.{Own, own_of}
-use Rattle.aas_repo.proofs.Bodies.{as_many, body_kids, is_body, kids_differ, law_of_body}
+use Rattle.aas_repo.proofs.Bodies.{as_many, is_body, kids_differ, law_of_body}
 use Rattle.aas_repo.proofs.Decided.{makes, refused_by, refuses}
 use Rattle.aas_repo.proofs.Reached.{found_there, is_missing_at}
 use Rattle.aas_repo.specs.Decisions.{IsDecision, Makes}

@@ -33,10 +33,11 @@ use Rattle.aas_store.specs.Documents.{Documents, Identifier}
 use Rattle.aas_store.specs.Spots.{elements, elements_of_all, spot_among, spot_below}
 use Rattle.aas_path_trees.specs.Patched.{element_count}
 use Rattle.aas_store.specs.declared.spot.Spot.{Spot}
+use Rattle.aas_store.proofs.Listed.{elements_out}
 use Rattle.aas_resolve.specs.Laws.{ElementsLeadBack, LeadsTo, ShellsLeadBack, SubmodelsLeadBack, rank_at, rank_below}
 use Rattle.aas_resolve.specs.Resolved.{HaveFewElements, admits, along, child_named, child_of, collection_named, if_admitted, is_list, is_list_at, lost, number, rank_of, reached, resolved, resolved_by, stays, step_spelled}
 use Rattle.aas_resolve.proofs.Numbers.{number_decimal}
-use Rattle.aas_resolve.proofs.Preorder.{elements_out, few_first, few_kids}
+use Rattle.aas_resolve.proofs.Preorder.{few_first, few_kids}
 
 -- ---- keys of elements
 

@@ -1,44 +1,15 @@
 -- Elements in preorder.
-use Rattle.std.proofs.Common.{◌≡◌, ◌⊎◌, inl, inr, ℕ, zero, suc, ◌<◌, ◌≤◌, List, [], ◌∷◌, ◌++◌, length, map, slice_get, Some, refl, sym, ap, ap₂, ◌∙◌, subst, arith, length-append}
-use Rattle.std.proofs.lemmas.List.Folds.{flat_map-map}
+use Rattle.std.proofs.Common.{◌≡◌, ◌⊎◌, inl, inr, ℕ, zero, suc, ◌<◌, ◌≤◌, List, [], ◌∷◌, ◌++◌, length, map, slice_get, Some, sym, ap, ◌∙◌, subst, arith, length-append}
 use Rattle.aas_model.specs.declared.documents.Submodel.{Submodel}
-use Rattle.aas_model.specs.declared.element.Element.{Element, out-Element, roll-Element, out-roll-Element, roll-out-Element, fold-Element, fold_out-Element, ind-Element}
+use Rattle.aas_model.specs.declared.element.Element.{Element, roll-Element, out-roll-Element, ind-Element}
 use Rattle.aas_path_trees.proofs.Patches.{kinds_out}
 use Rattle.aas_path_trees.specs.Children.{kids_of}
 use Rattle.aas_path_trees.specs.Patched.{kinds, kinds_of_all, element_count}
-use Rattle.aas_store.specs.Spots.{Listed, listed_over, elements, elements_of_all}
+use Rattle.aas_store.specs.Spots.{elements, elements_of_all}
+use Rattle.aas_store.proofs.Listed.{elements_out}
 
 abbrev Known : (Element → Type 0) → Type 0
 Known P = (e : Element) × P e
-
--- ---- an element comes before those below it
-
-listed : Element → Listed
-listed = fold-Element Listed listed_over
-
-Itself : Element → Type 0
-Itself e = (listed e).0 ≡ e
-
-selves : (ks : List (Known Itself)) → map (λ (f : Listed). f.0) (map listed (map (λ k. k.0) ks)) ≡ map (λ k. k.0) ks
-unfolding Itself
-selves [] = refl
-selves (k ∷ ks) = ap₂ (λ x xs. x ∷ xs) k.1 (selves ks)
-
-level_itself : (e : Element) (ks : List (Known Itself)) → kids_of e ≡ map (λ k. k.0) ks → Itself e
-unfolding listed Itself
-level_itself e ks is =
-    ap (λ f. f.0) (fold_out-Element Listed listed_over e)
-    ∙ ap (λ ks. roll-Element (record (out-Element e) { kids = ks })) (ap (λ ks. map (λ (f : Listed). f.0) (map listed ks)) is ∙ selves ks ∙ sym is)
-    ∙ roll-out-Element e
-
-itself : (e : Element) → Itself e
-itself = ind-Element Itself (λ x y is. level_itself (roll-Element x) y.kids (ap (λ f. f.kids) (out-roll-Element x ∙ sym is)))
-
-pub elements_out : (e : Element) → elements e ≡ e ∷ elements_of_all (kids_of e)
-unfolding listed Itself elements
-elements_out e =
-    ap (λ f. f.1) (fold_out-Element Listed listed_over e)
-    ∙ ap₂ (λ x xs. x ∷ xs) (sym (ap (λ f. f.0) (fold_out-Element Listed listed_over e)) ∙ itself e) (flat_map-map (λ (f : Listed). f.1) listed (kids_of e))
 
 -- ---- what stands in a list of two
 

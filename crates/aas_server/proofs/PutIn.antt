@@ -1,5 +1,5 @@
 -- What importing into the repository that was opened on a disk comes to.
-use Rattle.std.proofs.Common.{◌≡◌, ◌⊎◌, ⊎_elim, ◌≤◌, ℕ, List, [], ◌∷◌, ◌++◌, Option, Some, None, Result, Ok, Err, refl, subst, ◌∙◌, inl, inr, arith}
+use Rattle.std.proofs.Common.{◌≡◌, ◌⊎◌, ◌≤◌, ℕ, List, [], ◌∷◌, ◌++◌, Option, Some, Result, Ok, Err, refl, subst, ◌∙◌, inl, inr, arith}
 use Rattle.std.specs.Prelude.{IfSome, length}
 use Rattle.std.proofs.lemmas.Option.{IfSome_then}
 use Rattle.aas_command.specs.Commands.{IsWellFormed, payload_of}
@@ -7,14 +7,12 @@ use Rattle.aas_command.specs.declared.command.Command.TheVariants.{Import}
 use Rattle.aas_command.specs.Encoding.{HasFields}
 use Rattle.aas_environment.specs.Imports.{Imports, Spell}
 use Rattle.aas_environment.specs.declared.import_fault.ImportFault.{ImportFault}
+use Rattle.aas_environment.proofs.Blamed.{spelled_whole}
 use Rattle.aas_environment.specs.declared.import_fault.ImportFault.TheVariants as fault
 use Rattle.aas_journal.specs.Bank.{IsBankImage}
 use Rattle.aas_journal.specs.Kept.{has_room_behind}
 use Rattle.aas_journal.specs.Laws.{HaveOneList}
-use Rattle.aas_json_mapping.specs.Trees.{environments}
 use Rattle.aas_json_spelling.specs.Reading.{reading}
-use Rattle.aas_json_spelling.specs.Reads.{ReadsIf}
-use Rattle.aas_json_table.specs.TooDeep.{limits}
 use Rattle.aas_model.specs.declared.documents.Environment.{Environment}
 use Rattle.aas_model.specs.declared.read_fault.ReadFault.{ReadFault}
 use Rattle.aas_outside.specs.Faults.{Rose}
@@ -26,7 +24,6 @@ use Rattle.aas_repo_replay.specs.Laws.{AcceptedReplay, OneReplay}
 use Rattle.aas_repo_replay.specs.Replay.{Replays}
 use Rattle.aas_rule.specs.Rule.{Repository, Room}
 use Rattle.aas_rule.specs.State.{State, Holds, IsSettledState, repository_of}
-use Rattle.serde_json.specs.Data.{Data}
 use Rattle.aas_step.specs.Step.{Steps, accepted}
 use Rattle.aas_store.specs.Documents.{Documents}
 use Rattle.aas_server.specs.Answer.{Answer, GivesAnswer, GivesFrontOf, Says, done}
@@ -45,13 +42,9 @@ use Rattle.aas_server.proofs.Standing.{image_stands, kept_opens, stood_before}
 read_or_not : (e : Environment) (f : ReadFault) → Ok e ≡ Err f → ⊥
 read_or_not e f is = cc
 
-spelled_whole : (e : Environment) (value : Option Data) → ReadsIf environments limits (Ok e) value → environments.IsWhole limits e
-spelled_whole e None is = absurd (⊎_elim (λ a. read_or_not e _ a) (λ b. read_or_not e _ b) is)
-spelled_whole e (Some j) is = is.whole
-
 spelled_well : (e : Environment) (bytes : List ℕ) → Spell bytes e → IsWellFormed (Import e)
 unfolding IsWellFormed
-spelled_well e bytes is = spelled_whole e (reading bytes) is
+spelled_well e bytes is = spelled_whole (reading bytes) e is
 
 -- ---- what came of it and what is said
 

@@ -1,10 +1,11 @@
 -- Payloads put into rows in place make the rows of a patched tree.
-use Rattle.std.proofs.Common.{◌≡◌, ℕ, zero, suc, ◌+◌, ◌<◌, ◌≤◌, Bool, true, false, ◌==◌, List, [], ◌∷◌, ◌++◌, length, map, Some, slice_get, slice_set, slice_index_or, refl, sym, ap, ap₂, ◌∙◌, subst, arith, length-append, if◌then◌else◌}
+use Rattle.std.proofs.Common.{◌≡◌, ℕ, zero, suc, ◌+◌, ◌<◌, ◌≤◌, false, ◌==◌, List, [], ◌∷◌, ◌++◌, length, map, Some, slice_get, slice_set, slice_index_or, refl, sym, ap, ap₂, ◌∙◌, subst, arith, length-append, if◌then◌else◌}
 use Rattle.std.specs.List.{All}
 use Rattle.std.proofs.lemmas.Bool.Decides.{Decides-eqb}
 use Rattle.std.proofs.lemmas.List.Elements.{All-head, All-tail}
 use Rattle.std.proofs.lemmas.List.{append-nil}
 use Rattle.std.proofs.lemmas.Option.{slice_get_within}
+use Rattle.aas_path.proofs.PatchWalk.{skipped, none_below}
 use Rattle.aas_model.specs.Payload.{kind_of}
 use Rattle.aas_model.specs.declared.documents.Submodel.{Submodel}
 use Rattle.aas_model.specs.declared.element.Element.{Element, out-Element}
@@ -66,15 +67,6 @@ lines_written rs ss base (p ∷ ps) =
     lines_written (with_payload rs (base + p.rank) p.payload) ss base ps ∙ ap (λ ls. line_written ls base ps) (lines_put rs ss (base + p.rank) p.payload)
 
 -- ---- one row of a patch
-
-skipped : (k : ℕ) (r : PatchRow) (rows : List PatchRow) (own : Payload) → ¬ (r.rank ≡ k) → (b : Bool) → (r.rank == k) ≡ b → payload_at k (r ∷ rows) own ≡ payload_at k rows own
-skipped k r rows own other true e = absurd (other ((Decides-eqb r.rank k).0 e))
-skipped k r rows own other false e = ap (λ b. if b then r.payload else payload_at k rows own) e
-
-none_below : (k m : ℕ) (rows : List PatchRow) (own : Payload) → k ≤ m → RiseFrom m rows → payload_at k rows own ≡ own
-none_below k m [] own le up = refl
-none_below k m (r ∷ rows) own le up =
-    let above : k < r.rank = omega (arith, up.0) in skipped k r rows own (λ e. absurd (omega arith)) (r.rank == k) refl ∙ none_below k r.rank rows own (omega arith) up.1
 
 behind : (ps : List PatchRow) (p : PatchRow) (k : ℕ) (m : List Line) → p.rank < k → patched_rows ps k m ≡ patched_rows (p ∷ ps) k m
 behind ps p k [] lt = refl

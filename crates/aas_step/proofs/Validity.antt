@@ -60,7 +60,7 @@ none_in_second [] more e = e
 none_in_second (None ∷ os) more e = none_in_second os more e
 none_in_second (Some why ∷ os) more e = absurd (cc)
 
-no_cause : (faults : List Fault) (many : Bool) → first_of (option_map refusal_of_fault (first faults) ∷ when many TooMany ∷ []) ≡ None → (faults ≡ []) × (many ≡ false)
+pub no_cause : (faults : List Fault) (many : Bool) → first_of (option_map refusal_of_fault (first faults) ∷ when many TooMany ∷ []) ≡ None → (faults ≡ []) × (many ≡ false)
 no_cause [] true e = absurd (cc)
 no_cause [] false e = (refl, refl)
 no_cause (f ∷ fs) many e = absurd (cc)

@@ -14,7 +14,7 @@ use Rattle.aas_model.specs.declared.patch.PatchRow.{PatchRow}
 use Rattle.aas_model.specs.declared.payload.Payload.TheVariants as payload
 use Rattle.aas_model_names.specs.declared.kind.Kind.{Kind}
 use Rattle.aas_model_names.specs.declared.modifiers.Extent.TheVariants as extent
-use Rattle.aas_path_trees.specs.Children.{kids_of, is_list_payload}
+use Rattle.aas_path_trees.specs.Children.{is_list_payload}
 use Rattle.aas_path_trees.specs.Patched.{Fits, kinds, kinds_of_all, patched, patched_all, patched_submodel}
 use Rattle.aas_path_trees.specs.Places.{Differ}
 use Rattle.aas_value.specs.ValueForm.{Child, value_form}
@@ -23,10 +23,10 @@ use Rattle.aas_value_update.specs.Laws.{IsInOrder}
 use Rattle.aas_value_update.specs.Parts.{Part, children, object_of, over, fits_form}
 use Rattle.aas_value_update.specs.Shape.{HasShape, first_misshapen, sendable, among, by_names}
 use Rattle.aas_value_update.specs.Update.{IsElementUpdate, no_attributes, body}
-use Rattle.aas_value_update.proofs.Alone.{kids_made}
 use Rattle.aas_value_update.proofs.Elements.{child_is, part_at}
-use Rattle.aas_value_update.proofs.Order.{order_below}
+use Rattle.aas_value_update.proofs.Order.{order_below, body_kids}
 use Rattle.aas_value_update.proofs.Rest.{differ_in_values, unshown_stays}
+use Rattle.aas_value_update.proofs.Sent.{misshapen_made}
 use Rattle.aas_constraint_rules.specs.Sites.{Own}
 use Rattle.aas_value_patch.specs.Faults.{IsPatchFault, Shapes, fault_of}
 use Rattle.aas_value_patch.specs.declared.fault.PatchFault.{PatchFault}
@@ -37,7 +37,7 @@ use Rattle.aas_value_patch.proofs.Attributes.{body_takes}
 use Rattle.aas_value_patch.proofs.Level.{level_taken}
 use Rattle.aas_value_patch.proofs.Ordered.{sent_ordered}
 use Rattle.aas_value_patch.proofs.Rows.{fits}
-use Rattle.aas_value_patch.proofs.Walk.{kids_differ, misshapen_made}
+use Rattle.aas_value_patch.proofs.Walk.{kids_differ}
 
 -- what has taken a value that fits is updated by it
 pub updated : (e u : Element) (v : Data) → is_some (part_of e).child.form ≡ true → HasShape e v → HasTaken e v u → IsElementUpdate e v u
@@ -95,9 +95,6 @@ patch_fault (Ok s) m e v there err and shown = absurd (cc)
 patch_fault (Err f) m e v there err and shown = subst (IsPatchFault e v) (sym and) (stop_fault m e v there shown)
 
 -- ---- a submodel
-
-body_kids : (d : Submodel) → kids_of (body d) ≡ d.kids
-body_kids d = kids_made role.Member no_attributes payload.SubmodelElementCollection d.kids
 
 pub body_all : (d : Submodel) → IsInOrder (body d) → AllInOrder d.kids
 body_all d order i k there = order_below (body d) order i k (ap (λ l. slice_get l i) (body_kids d) ∙ there)

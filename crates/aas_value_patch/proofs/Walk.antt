@@ -7,10 +7,7 @@ use Rattle.std.proofs.lemmas.Option.{slice_get-get_or}
 use Rattle.aas_lemmas.proofs.Lists.{drop_at}
 use Rattle.serde_json.specs.Data.{Data}
 use Rattle.aas_model.specs.Payload.{kind_of}
-use Rattle.aas_model.specs.declared.common.Common.{Common}
 use Rattle.aas_model.specs.declared.element.Element.{Element, out-Element}
-use Rattle.aas_model.specs.declared.element.Element.TheFolds.{fold-roll-Element}
-use Rattle.aas_model.specs.declared.element.Role.{Role}
 use Rattle.aas_model.specs.declared.patch.PatchRow.{PatchRow}
 use Rattle.aas_model.specs.declared.path.PathStep.{PathStep}
 use Rattle.aas_model.specs.declared.path.PathStep.TheVariants as step
@@ -18,8 +15,7 @@ use Rattle.aas_model.specs.declared.payload.Payload.{Payload}
 use Rattle.aas_model_names.specs.declared.kind.Kind.{Kind}
 use Rattle.aas_model_text.specs.declared.NoMemory.{NoMemory}
 use Rattle.aas_constraint_rules.specs.Sites.{Own, own_of, is_list, stands_in_list, step_to, named_or}
-use Rattle.aas_json_mapping.proofs.Elements.{made, made_out, by_children}
-use Rattle.aas_json_spelling.specs.Lists.{Each}
+use Rattle.aas_json_mapping.proofs.Elements.{made_out}
 use Rattle.aas_json_spelling.specs.Values.{IsOrdered}
 use Rattle.aas_json_table.specs.Rows.{first_of}
 use Rattle.aas_path_trees.specs.Children.{kids_of, is_list_payload}
@@ -27,14 +23,14 @@ use Rattle.aas_path_trees.specs.Patched.{kinds, kinds_of_all}
 use Rattle.aas_path_trees.proofs.Patches.{kinds_out}
 use Rattle.aas_path_trees.specs.Places.{element_in, Differ}
 use Rattle.aas_value.specs.ValueForm.{Child}
-use Rattle.aas_value_update.specs.Kinds.{form_of, part_of, part_over}
+use Rattle.aas_value_update.specs.Kinds.{form_of, part_of}
 use Rattle.aas_value_update.specs.Laws.{IsInOrder}
 use Rattle.aas_value_update.specs.Parts.{children, fits_form}
 use Rattle.aas_value_update.specs.Shape.{Sendable, sendable, sendable_over, among, sent, first_misshapen}
 use Rattle.aas_value_update.specs.Took.{NamedIn}
-use Rattle.aas_value_update.proofs.Elements.{part_at}
 use Rattle.aas_value_update.proofs.OneForm.{named_in}
 use Rattle.aas_value_update.proofs.Order.{order_below}
+use Rattle.aas_value_update.proofs.Sent.{sendable_at, all_parts_are}
 use Rattle.aas_value_patch.specs.Faults.{Shapes}
 use Rattle.aas_value_patch.specs.Gathered.{SoFar, Gathered, GatheredAll, Reached, AllInOrder, IfOrdered, AllOrdered, misshapen}
 use Rattle.aas_value_patch.specs.Sent.{sent_by}
@@ -62,25 +58,6 @@ kids_in_order e order = λ i k there. order_below e order i k there
 
 -- ---- the shape, one level at a time
 
-sendable_at : (r : Role) (c : Common) (x : Payload) (ks : List Element)
-    → sendable (made r c x ks) ≡ sendable_over (record { common = c; payload = x; role = r; kids = map sendable ks })
-unfolding sendable
-sendable_at r c x ks = fold-roll-Element Sendable sendable_over (record { common = c; payload = x; role = r; kids = ks })
-
-parts_same : (ks : List Element) → Each (λ e. (sendable e).part ≡ part_of e) ks → map (λ (k : Sendable). k.part) (map sendable ks) ≡ map part_of ks
-parts_same [] each = refl
-parts_same (k ∷ ks) each = ap₂ (λ z zs. z ∷ zs) each.0 (parts_same ks each.1)
-
-part_same : (e : Element) → (sendable e).part ≡ part_of e
-part_same = by_children (λ e. (sendable e).part ≡ part_of e) (λ r c x ks each.
-    ap (λ (k : Sendable). k.part) (sendable_at r c x ks)
-    ∙ ap (λ l. part_over (record { common = c; payload = x; role = r; kids = l })) (parts_same ks each)
-    ∙ sym (part_at r c x ks))
-
-kids_same : (ks : List Element) → map (λ (k : Sendable). k.part) (map sendable ks) ≡ map part_of ks
-kids_same [] = refl
-kids_same (k ∷ ks) = ap₂ (λ z zs. z ∷ zs) (part_same k) (kids_same ks)
-
 sendable_out : (e : Element) → sendable e ≡ sendable_over
     (record { common = (out-Element e).common; payload = (out-Element e).payload; role = (out-Element e).role; kids = map sendable (kids_of e) })
 sendable_out e = let x = out-Element e in ap sendable (sym (made_out e)) ∙ sendable_at x.role x.common x.payload x.kids
@@ -94,15 +71,7 @@ pub misshapen_at : (e : Element) (v : Data) → first_misshapen e v
 misshapen_at e v =
     ap (λ (k : Sendable). k.misshapen v) (sendable_out e)
     ∙ ap (λ l. if fits_form (form_of (out-Element e).payload l) v then among (own_of e) 0 (map sendable (kids_of e))
-    (sent (out-Element e).payload (children l) v) else Some []) (kids_same (kids_of e))
-
-pub misshapen_made : (r : Role) (c : Common) (x : Payload) (ks : List Element) (v : Data) → first_misshapen (made r c x ks) v
-    ≡ (if fits_form (form_of x (map part_of ks)) v then among (record { common = c; payload = x; role = r }) 0 (map sendable ks)
-    (sent x (children (map part_of ks)) v) else Some [])
-misshapen_made r c x ks v =
-    ap (λ (k : Sendable). k.misshapen v) (sendable_at r c x ks)
-    ∙ ap (λ l. if fits_form (form_of x l) v then among (record { common = c; payload = x; role = r }) 0 (map sendable ks) (sent x (children l) v) else Some
-    []) (kids_same ks)
+    (sent (out-Element e).payload (children l) v) else Some []) (all_parts_are (kids_of e))
 
 pub misshapen_here : (e : Element) (v : Data) → fits_form (form_of (out-Element e).payload (map part_of (kids_of e))) v ≡ false → first_misshapen e v ≡ Some []
 misshapen_here e v fits =

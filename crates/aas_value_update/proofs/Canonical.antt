@@ -1,12 +1,12 @@
 -- A value that fits the table and has no empty list says itself.
-use Rattle.std.proofs.Common.{◌≡◌, ℕ, ◌+◌, ◌&&◌, Bool, true, false, List, [], ◌∷◌, Option, Some, None, is_some, is_none, option_map, if◌then◌else◌, Ordering, Less, Equal, Greater, nat_cmp, is_lt, refl, sym, ap, ap₂, ◌∙◌, true≢false}
+use Rattle.std.proofs.Common.{◌≡◌, ℕ, ◌+◌, ◌&&◌, Bool, true, false, List, [], ◌∷◌, Option, Some, None, is_some, is_none, option_map, if◌then◌else◌, Ordering, Less, Equal, Greater, nat_cmp, refl, sym, ap, ap₂, ◌∙◌, true≢false}
 use Rattle.std.specs.Prelude.{bytes_eq}
 use Rattle.std.specs.Cmp.Lexicographic.{slice_cmp}
 use Rattle.std.specs.Ordering.{match_ordering}
 use Rattle.std.proofs.lemmas.Bool.{or_parts, not-true}
 use Rattle.serde_json.specs.Data.{Data, null, boolean, number, string, array, object, Items, no_items, item, Members, no_members, member}
 use Rattle.serde_json.specs.Find.{get_member}
-use Rattle.aas_lemmas.proofs.Truth.{and_left, and_right, Less-from_is_lt}
+use Rattle.aas_lemmas.proofs.Truth.{and_left, and_right}
 use Rattle.aas_json_table.specs.Names.{has}
 use Rattle.aas_json_table.specs.Table.{Sort, MemberType, text, flag, word, one, many, kept, plain, Row}
 use Rattle.aas_json_table.specs.Rows.{in_member, in_item, row_named, rows_of}
@@ -16,20 +16,12 @@ use Rattle.aas_json_table.specs.Canonical.{canonical, canonical_items, canonical
 use Rattle.aas_json_spelling.specs.Values.{IsOrdered, AreOrdered, AreAbove, HasOrder}
 use Rattle.aas_json_spelling.proofs.Fits.{first_none, map_none, fits_one, no_fault}
 use Rattle.aas_json_spelling.proofs.Nesting.{row_of}
-use Rattle.aas_json_spelling.proofs.Objects.{finds}
-use Rattle.aas_json_spelling.proofs.Rows.{is_below, rising, rows_rise, same_text}
+use Rattle.aas_json_spelling.proofs.Objects.{finds, members_above}
+use Rattle.aas_json_spelling.proofs.Rows.{rising, rows_rise, same_text}
 use Rattle.aas_value_update.specs.Json.{has_empty_list, some_has_empty_list, member_has_empty_list, is_part}
 use Rattle.aas_value_update.proofs.Members.{Rises, known, same_name, get_past}
 
 -- ---- the members that rows give
-
-add_above : (n l : List ℕ) (o : Option Data) (ms : Members) → is_lt (slice_cmp nat_cmp n l) ≡ true → AreAbove n ms → AreAbove n (add l o ms)
-add_above n l None ms e a = a
-add_above n l (Some d) ms e a = (Less-from_is_lt (slice_cmp nat_cmp n l) e, a)
-
-members_above : (n : List ℕ) (rows : List Row) (g : List ℕ → MemberType → Option Data) → is_below n rows ≡ true → AreAbove n (members_by rows g)
-members_above n [] g e = tt
-members_above n (r ∷ rs) g e = add_above n r.name (g r.name r.member_type) (members_by rs g) (and_left _ _ e) (members_above n rs g (and_right _ _ e))
 
 add_rises : (n : List ℕ) (o : Option Data) (ms : Members) → AreAbove n ms → Rises ms → Rises (add n o ms)
 add_rises n None ms a h = h

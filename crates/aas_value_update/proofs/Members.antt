@@ -10,25 +10,13 @@ use Rattle.std.proofs.lemmas.Option.{none-some}
 use Rattle.serde_json.specs.Data.{Data, put, Members, no_members, member}
 use Rattle.serde_json.specs.Find.{get_member}
 use Rattle.aas_json_spelling.specs.Values.{AreAbove}
+use Rattle.aas_json_spelling.proofs.Reading.{above_all, still_above}
+use Rattle.aas_json_spelling.proofs.Objects.{at_itself}
 
 -- names rise
 abbrev pub Rises : Members → Type 0
 Rises no_members = Unit {0}
 Rises (member k d ms) = AreAbove k ms × Rises ms
-
-above_all : (k l : List ℕ) (ms : Members) → slice_cmp nat_cmp k l ≡ Less → AreAbove l ms → AreAbove k ms
-above_all k l no_members e a = tt
-above_all k l (member m d ms) e a = (nat_list_cmp_total.trans k l m e a.0, above_all k l ms e a.1)
-
-put_above : (o : Ordering) (l k m : List ℕ) (d e : Data) (ms rest : Members) → slice_cmp nat_cmp l k ≡ Less → AreAbove l (member m e ms) → AreAbove l rest
-    → AreAbove l (match_ordering o (member k d (member m e ms)) (member m d ms) (member m e rest))
-put_above Less l k m d e ms rest less a later = (less, a)
-put_above Equal l k m d e ms rest less a later = a
-put_above Greater l k m d e ms rest less a later = (a.0, later)
-
-still_above : (l k : List ℕ) (d : Data) (ms : Members) → slice_cmp nat_cmp l k ≡ Less → AreAbove l ms → AreAbove l (put k d ms)
-still_above l k d no_members less a = (less, tt)
-still_above l k d (member m e ms) less a = put_above (slice_cmp nat_cmp k m) l k m d e ms (put k d ms) less a (still_above l k d ms less a.1)
 
 put_at : (o : Ordering) (k m : List ℕ) (d e : Data) (ms rest : Members) → slice_cmp nat_cmp k m ≡ o → Rises (member m e ms) → (slice_cmp nat_cmp m k ≡ Less → AreAbove m rest) → Rises rest
     → Rises (match_ordering o (member k d (member m e ms)) (member m d ms) (member m e rest))
@@ -45,11 +33,6 @@ put_rises k d (member m e ms) h = put_at (slice_cmp nat_cmp k m) k m d e ms (put
 pub absent : (k : List ℕ) (ms : Members) → AreAbove k ms → get_member k ms ≡ None
 absent k no_members a = refl
 absent k (member l e ms) a = ap (λ o. match_ordering o (get_member k ms) (Some e) (get_member k ms)) a.0 ∙ absent k ms a.1
-
-at_itself : (o : Ordering) (a b : Option Data) → is_eq o ≡ true → match_ordering o a b a ≡ b
-at_itself Less a b e = absurd (true≢false (sym e))
-at_itself Equal a b e = refl
-at_itself Greater a b e = absurd (true≢false (sym e))
 
 past : (o : Ordering) (a b : Option Data) → is_eq o ≡ false → match_ordering o a b a ≡ a
 past Less a b e = refl

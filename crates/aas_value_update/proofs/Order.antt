@@ -92,7 +92,7 @@ in_order_zero (k ∷ ks) each =
     ap (λ n. list_all (nat_le n) (ranks ks) && in_order (ranks ks)) (no_member_rank (role_of k) each.0.0)
     ∙ and_from (list_all (nat_le 0) (ranks ks)) (in_order (ranks ks)) (all_zero ks each.1) (in_order_zero ks each.1)
 
-body_kids : (d : Submodel) → kids_of (body d) ≡ d.kids
+pub body_kids : (d : Submodel) → kids_of (body d) ≡ d.kids
 body_kids d = kids_made role.Member no_attributes payload.SubmodelElementCollection d.kids
 
 pub body_order : (d : Submodel) → IsValid (submodel d) → IsInOrder (body d)

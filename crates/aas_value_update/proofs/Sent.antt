@@ -8,6 +8,7 @@ use Rattle.serde_json.specs.Find.{get, get_member}
 use Rattle.aas_json_table.specs.Rows.{first_of}
 use Rattle.aas_json_spelling.specs.Lists.{Each}
 use Rattle.aas_json_spelling.specs.Values.{IsOrdered, AreOrdered}
+use Rattle.aas_json_spelling.proofs.Fits.{first_none, map_none}
 use Rattle.aas_json_mapping.proofs.Elements.{made, made_out, by_children}
 use Rattle.aas_model.specs.declared.common.Common.{Common}
 use Rattle.aas_model.specs.declared.element.Element.{Element, out-Element}
@@ -101,7 +102,7 @@ sent_ordered _ xs v order = nothing_ordered xs
 
 -- ---- what is sent for children fits
 
-sendable_at : (r : Role) (c : Common) (x : Payload) (ks : List Element)
+pub sendable_at : (r : Role) (c : Common) (x : Payload) (ks : List Element)
     → sendable (made r c x ks) ≡ sendable_over (record { common = c; payload = x; role = r; kids = map sendable ks })
 unfolding sendable
 sendable_at r c x ks = fold-roll-Element Sendable sendable_over (record { common = c; payload = x; role = r; kids = ks })
@@ -116,7 +117,7 @@ part_is = by_children (λ e. (sendable e).part ≡ part_of e) (λ r c x ks each.
     ap (λ (k : Sendable). k.part) (sendable_at r c x ks) ∙ ap (λ xs. child_part c.id_short (form_of x xs)) (parts_are ks each)
     ∙ sym (part_at r c x ks))
 
-all_parts_are : (ks : List Element) → map (λ (k : Sendable). k.part) (map sendable ks) ≡ map part_of ks
+pub all_parts_are : (ks : List Element) → map (λ (k : Sendable). k.part) (map sendable ks) ≡ map part_of ks
 all_parts_are [] = refl
 all_parts_are (k ∷ ks) = ap₂ (λ x xs. x ∷ xs) (part_is k) (all_parts_are ks)
 
@@ -129,19 +130,11 @@ AreShaped [] ss = Unit {0}
 AreShaped (k ∷ ks) [] = Unit {0}
 AreShaped (k ∷ ks) (s ∷ ss) = IfShaped k s × AreShaped ks ss
 
-neither : {X : Type 0} (a b : Option X) → first_of a b ≡ None → (a ≡ None) × (b ≡ None)
-neither None b e = (refl, e)
-neither (Some a) b e = absurd (cc)
-
-not_mapped : {X Y : Type 0} (f : X → Y) (a : Option X) → option_map f a ≡ None → a ≡ None
-not_mapped f None e = refl
-not_mapped f (Some a) e = absurd (cc)
-
 each_shaped : (o : Own) (n : ℕ) (ks : List Element) (ss : List (Option Data)) → among o n (map sendable ks) ss ≡ None → AreShaped ks ss
 each_shaped o n [] ss e = tt
 each_shaped o n (k ∷ ks) [] e = tt
 each_shaped o n (k ∷ ks) (None ∷ ss) e = (tt, each_shaped o (n + 1) ks ss e)
-each_shaped o n (k ∷ ks) (Some d ∷ ss) e = let none = neither _ _ e in (not_mapped _ _ none.0, each_shaped o (n + 1) ks ss none.1)
+each_shaped o n (k ∷ ks) (Some d ∷ ss) e = let none = first_none _ _ e in (map_none _ _ none.0, each_shaped o (n + 1) ks ss none.1)
 
 -- an element's own part of v fits, and so does what is sent for its children
 pub record IsShapedLevel (e : Element) (v : Data) : Type 0 where
@@ -156,10 +149,10 @@ none_among o n (k ∷ ks) (Some d ∷ ss) shaped =
     ap (λ f. first_of (option_map (λ q. step_to (Some o) n (sendable k).own ∷ q) f) (among o (n + 1) (map sendable ks) ss)) shaped.0
     ∙ none_among o (n + 1) ks ss shaped.1
 
-misshapen_at : (r : Role) (c : Common) (x : Payload) (ks : List Element) (v : Data) → first_misshapen (made r c x ks) v
+pub misshapen_made : (r : Role) (c : Common) (x : Payload) (ks : List Element) (v : Data) → first_misshapen (made r c x ks) v
     ≡ (if fits_form (form_of x (map part_of ks)) v
     then among (record { common = c; payload = x; role = r }) 0 (map sendable ks) (sent x (children (map part_of ks)) v) else Some [])
-misshapen_at r c x ks v =
+misshapen_made r c x ks v =
     ap (λ (k : Sendable). k.misshapen v) (sendable_at r c x ks)
     ∙ ap (λ (xs : List Part). if fits_form (form_of x xs) v
     then among (record { common = c; payload = x; role = r }) 0 (map sendable ks) (sent x (children xs) v) else Some []) (all_parts_are ks)
@@ -168,7 +161,7 @@ shape_at : (r : Role) (c : Common) (x : Payload) (ks : List Element) (v : Data) 
     → (fits_form (form_of x (map part_of ks)) v ≡ true) × AreShaped ks (sent x (children (map part_of ks)) v)
 shape_at r c x ks v none =
     let o : Own = record { common = c; payload = x; role = r } in
-    by_fit o (fits_form (form_of x (map part_of ks)) v) (sym (misshapen_at r c x ks v) ∙ none)
+    by_fit o (fits_form (form_of x (map part_of ks)) v) (sym (misshapen_made r c x ks v) ∙ none)
   where
     by_fit : (o : Own) (b : Bool) → (if b then among o 0 (map sendable ks) (sent x (children (map part_of ks)) v) else Some []) ≡ None
         → (b ≡ true) × AreShaped ks (sent x (children (map part_of ks)) v)
@@ -186,6 +179,6 @@ pub shape_from : (e : Element) (v : Data) → IsShapedLevel e v → first_missha
 shape_from e v level =
     let x = out-Element e in
     let o : Own = record { common = x.common; payload = x.payload; role = x.role } in
-    sym (ap (λ z. first_misshapen z v) (made_out e)) ∙ misshapen_at x.role x.common x.payload x.kids v
+    sym (ap (λ z. first_misshapen z v) (made_out e)) ∙ misshapen_made x.role x.common x.payload x.kids v
     ∙ ap (λ b. if b then among o 0 (map sendable x.kids) (sent x.payload (children (map part_of x.kids)) v) else Some []) level.own
     ∙ none_among o 0 x.kids (sent x.payload (children (map part_of x.kids)) v) level.kids

@@ -4,6 +4,7 @@ use Rattle.std.proofs.Common.{refl, sym, ap, ◌∙◌, subst, true≢false}
 use Rattle.std.specs.Prelude.{if◌then◌else◌}
 use Rattle.std.specs.List.{list_all}
 use Rattle.std.proofs.lemmas.Bool.{and_parts, and_from}
+use Rattle.aas_constraint_laws.proofs.StaysWhole.{all_parts}
 use Rattle.serde_json.specs.Data.{Data}
 use Rattle.aas_json_table.specs.TooDeep.{limits}
 use Rattle.aas_json_spelling.specs.Lists.{Each}
@@ -39,20 +40,16 @@ use Rattle.aas_value_update.proofs.WholeOwn.{own_whole}
 
 -- ---- parts, one level at a time
 
-all_whole : (ks : List Element) → list_all (λ b. b) (map (has_whole_parts limits) ks) ≡ list_all (has_whole_parts limits) ks
-all_whole [] = refl
-all_whole (k ∷ ks) = ap (λ b. has_whole_parts limits k && b) (all_whole ks)
-
 whole_out : (e : Element) → has_whole_parts limits e ≡ (whole_common limits (out-Element e).common && whole_payload limits (out-Element e).payload && list_all (has_whole_parts limits) (kids_of e))
 whole_out e =
     fold_out-Element Bool (λ x. whole_common limits x.common && whole_payload limits x.payload && list_all (λ b. b) x.kids) e
-    ∙ ap (λ b. whole_common limits (out-Element e).common && whole_payload limits (out-Element e).payload && b) (all_whole (kids_of e))
+    ∙ ap (λ b. whole_common limits (out-Element e).common && whole_payload limits (out-Element e).payload && b) (all_parts (kids_of e))
 
 pub whole_made : (r : Role) (c : Common) (x : Payload) (ks : List Element)
     → has_whole_parts limits (made r c x ks) ≡ (whole_common limits c && whole_payload limits x && list_all (has_whole_parts limits) ks)
 whole_made r c x ks =
     fold-roll-Element Bool (λ x. whole_common limits x.common && whole_payload limits x.payload && list_all (λ b. b) x.kids) (record { common = c; payload = x; role = r; kids = ks })
-    ∙ ap (λ b. whole_common limits c && whole_payload limits x && b) (all_whole ks)
+    ∙ ap (λ b. whole_common limits c && whole_payload limits x && b) (all_parts ks)
 
 StaysWhole : Element → Type 0
 StaysWhole e = (u : Element) (v : Data) → NamesDiffer e → left_alone u ≡ left_alone e → IsOrdered v → first_misshapen e v ≡ None

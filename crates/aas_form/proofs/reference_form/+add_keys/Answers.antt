@@ -4,8 +4,9 @@ use Rattle.aas_model.specs.declared.element.Element.{Element}
 use Rattle.aas_model.specs.declared.reference.Key.{Key}
 use Rattle.aas_path_trees.specs.Children.{kids_of}
 use Rattle.aas_path_trees.specs.ElementAt.{place_of}
+use Rattle.aas_path_trees.proofs.OnePath.{child_at}
 use Rattle.aas_form.specs.ReferenceTo.{element_key, keys_in}
-use Rattle.aas_form.proofs.Keys.{no_keys_left, no_place, no_child, no_step, one_child, one_step}
+use Rattle.aas_form.proofs.Keys.{no_keys_left, no_place, no_child, no_step, one_step}
 use Rattle.aas_form.proofs.reference_form.+add_keys.Goals as goal
 
 pub returns-in_default : goal.returns-in_default
@@ -45,4 +46,4 @@ returns t c =
     let below =
     subst (λ (b : Bool). IfSome (keys_in b p (kids_of k)) (λ more. c.add_keys.new.keys ≡ c.push.new.self ++ more)) c.is_list.ensures c.in_ok-add_keys.ensures in
     one_step l c.args.path.now s p ks (i, k) c.args.keys.now c.push.new.self c.add_keys.new.keys c.in-Some.ensures.cases.0
-    (one_child l s ks i k at (sym c.in-Some-get.ensures)) key below
+    (child_at l s ks i k at (sym c.in-Some-get.ensures)) key below
