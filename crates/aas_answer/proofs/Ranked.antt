@@ -9,7 +9,7 @@ use Rattle.aas_lemmas.proofs.Lists.{at_seam}
 use Rattle.serde_json.specs.Written.{compact_text}
 use Rattle.aas_json_mapping.specs.Elements.{spell_element}
 use Rattle.aas_model.specs.declared.documents.Submodel.{Submodel}
-use Rattle.aas_model.specs.declared.element.Element.{Element, fold-Element, fold_out-Element}
+use Rattle.aas_model.specs.declared.element.Element.{Element}
 use Rattle.aas_model.specs.declared.path.PathStep.{PathStep}
 use Rattle.aas_model_names.specs.declared.modifiers.Extent.{Extent}
 use Rattle.aas_model_names.specs.declared.modifiers.Level.{Level}
@@ -18,11 +18,11 @@ use Rattle.aas_rows.specs.Rows.{Line, line_at, rows, rows_of_all, BeginsRows}
 use Rattle.aas_rows.proofs.Ranked.{StandsAt}
 use Rattle.aas_rows.proofs.Trees.{begins_more, rows_out}
 use Rattle.aas_members_text.specs.Script.{Spoken, element_text}
-use Rattle.aas_members_text.specs.Texts.{Leveled, shown, spoken, spoken_over}
+use Rattle.aas_members_text.specs.Texts.{shown, spoken}
 use Rattle.aas_members_text.specs.declared.members.Show.{Show}
 use Rattle.aas_members_text.proofs.Trees.{canonical}
 use Rattle.aas_pour.specs.Poured.{AreLow, HasRow, if_row, kids_at, text_at, voices}
-use Rattle.aas_pour.proofs.FromTrees.{rows_give_texts}
+use Rattle.aas_pour.proofs.FromTrees.{rows_give_texts, spoken_out, no_more}
 use Rattle.aas_store.specs.Documents.{Documents}
 use Rattle.aas_store.specs.Edited.{Holds}
 use Rattle.aas_store.specs.Spots.{rank_at}
@@ -34,16 +34,6 @@ use Rattle.aas_answer.proofs.Shown.{element_text_shown, low_left, low_right}
 use Rattle.aas_answer.proofs.Stored.{HasLines}
 
 -- ---- an element that stands at a level
-
-spoken_out : (w : Show) (e : Element) (k : ℕ) → spoken w e k ≡ record { role = (line_at k e).role; text = element_text w (line_at k e) (map (λ e. spoken w e (k + 1)) (kids_of e)) }
-unfolding spoken
-spoken_out w e k =
-    ap (λ f. f k) (fold_out-Element (Leveled Spoken) (spoken_over w) e)
-    ∙ ap (λ vs. record { role = (line_at k e).role; text = element_text w (line_at k e) vs }) (twice (kids_of e))
-  where
-    twice : (es : List Element) → map (λ (f : Leveled Spoken). f (k + 1)) (map (fold-Element (Leveled Spoken) (spoken_over w)) es) ≡ map (λ e. fold-Element (Leveled Spoken) (spoken_over w) e (k + 1)) es
-    twice [] = refl
-    twice (e ∷ es) = ap (λ vs. fold-Element (Leveled Spoken) (spoken_over w) e (k + 1) ∷ vs) (twice es)
 
 -- ---- rows behind those of children say nothing of the children
 
@@ -61,10 +51,6 @@ unfolding begun
 begun_none w k r own beside le =
     ap (λ b. if b then (if nat_lt (k + 1) r.level then beside else record { role = r.role; text = element_text w r own } ∷ beside) else []) (le-ltb k r.level le)
 
-no_voices : (w : Show) (k : ℕ) (rest : List Line) → BeginsRows k rest → voices w k rest ≡ []
-no_voices w k [] h = refl
-no_voices w k (r ∷ rs) h = voices_out w k r rs ∙ begun_none w k r (voices w r.level rs) (voices w k rs) h
-
 front_more : (w : Show) (k : ℕ) (r : Line) (rs rest : List Line) → BeginsRows k rest → ((l : ℕ) → BeginsRows l rest → voices w l (rs ++ rest) ≡ voices w l rs)
     → (b : Bool) → nat_lt k r.level ≡ b → begun w k r (voices w r.level (rs ++ rest)) (voices w k (rs ++ rest)) ≡ begun w k r (voices w r.level rs) (voices w k rs)
 front_more w k r rs rest h more true is =
@@ -75,7 +61,7 @@ front_more w k r rs rest h more false is =
     begun_none w k r (voices w r.level (rs ++ rest)) (voices w k (rs ++ rest)) le ∙ sym (begun_none w k r (voices w r.level rs) (voices w k rs) le)
 
 voices_front : (w : Show) (xs : List Line) (k : ℕ) (rest : List Line) → BeginsRows k rest → voices w k (xs ++ rest) ≡ voices w k xs
-voices_front w [] k rest h = no_voices w k rest h
+voices_front w [] k rest h = no_more w k rest h
 voices_front w (r ∷ rs) k rest h =
     voices_out w k r (rs ++ rest) ∙ front_more w k r rs rest h (λ l g. voices_front w rs l rest g) (nat_lt k r.level) refl ∙ sym (voices_out w k r rs)
 

@@ -1,5 +1,5 @@
 -- What is asked for is well formed, since a tree that is read is whole.
-use Rattle.std.proofs.Common.{◌≡◌, inl, inr, ℕ, ◌+◌, List, [], ◌∷◌, length, Bool, true, false, Option, Some, None, Result, Ok, Err, refl, sym, subst, ap}
+use Rattle.std.proofs.Common.{◌≡◌, inl, inr, ℕ, ◌+◌, List, length, Bool, true, false, Option, Some, None, Result, Ok, Err, refl, sym, subst, ap}
 use Rattle.std.specs.Prelude.{bytes_eq, if◌then◌else◌}
 use Rattle.std.specs.List.{last_or}
 use Rattle.serde_json.specs.Data.{Data}
@@ -14,7 +14,6 @@ use Rattle.aas_model.specs.declared.read_fault.ReadFault.TheVariants as read
 use Rattle.aas_model.specs.declared.asset.AssetInformation.{AssetInformation as Asset_information}
 use Rattle.aas_model.specs.declared.element.Element.{Element as ElementTree}
 use Rattle.aas_model.specs.declared.path.Path.{Path}
-use Rattle.aas_model.specs.declared.path.PathStep.{PathStep}
 use Rattle.aas_model.specs.declared.reference.Reference.{Reference}
 use Rattle.aas_path_trees.specs.PathRule.{KeepsRule}
 use Rattle.aas_edit_laws.specs.Laws.{at_level}
@@ -24,6 +23,7 @@ use Rattle.aas_command.specs.declared.command.Command.{Command}
 use Rattle.aas_command.specs.declared.command.Command.TheVariants.{SetAsset, AddReference, DropReference, InsertElement, ReplaceElement, DeleteElement, UpdateValue}
 use Rattle.aas_command.specs.declared.refusal.Refusal.{Refusal}
 use Rattle.aas_command.specs.declared.refusal.Refusal.TheVariants.{IdMismatch}
+use Rattle.aas_command.proofs.PathTexts.{is_place}
 use Rattle.aas_question.specs.declared.question.Question.{Question}
 use Rattle.aas_question.specs.declared.question.Question.TheVariants as question
 use Rattle.aas_http.specs.FirstRequest.{Message}
@@ -110,10 +110,6 @@ takes_removal id path rule = rule
 takes_value : (id : List ℕ) (path : Path) (v : Data) → IsPlace path.steps → IsSendable v → IsWellFormed (UpdateValue id path v)
 unfolding IsWellFormed
 takes_value id path v place is = (place, is)
-
-place_by_rule : (p : List PathStep) → KeepsRule p → IsPlace p
-place_by_rule [] rule = tt
-place_by_rule (s ∷ p) rule = rule
 
 module _ (c : Command) where
   -- where it is asked so, it is well formed
@@ -255,7 +251,7 @@ module _ (c : Command) where
   on_element : (t : Texts) (query body : List ℕ) (method : Method) → Keeps (AsksElement t query body method)
   on_element t query body Get asks = shown_at t Element query (λ id p g. question.Element id p (level_of g) (extent_of g)) asks
   on_element t query body Post asks =
-      at_element t (λ id p. Inserts id p body) (λ id p rule. inserts id p body (place_by_rule p.steps rule)) asks
+      at_element t (λ id p. Inserts id p body) (λ id p rule. inserts id p body (is_place p.steps rule)) asks
   on_element t query body Put asks = at_element t (λ id p. Replaces id p body) (λ id p rule. replaces id p body rule) asks
   on_element t query body Delete asks =
       at_element t (λ id p. IsCommand (DeleteElement id p)) (λ id p rule. keeps_command (DeleteElement id p) (takes_removal id p rule)) asks
@@ -273,7 +269,7 @@ module _ (c : Command) where
   on_element_value t query body Get asks =
       shown_at t ElementValue query (λ id p g. question.ElementValue id p (level_of g) (extent_of g)) asks
   on_element_value t query body Patch asks =
-      at_element t (λ id p. Updates id p body) (λ id p rule. updates id p body (place_by_rule p.steps rule)) asks
+      at_element t (λ id p. Updates id p body) (λ id p rule. updates id p body (is_place p.steps rule)) asks
   on_element_value t query body Post asks = absurd asks
   on_element_value t query body Put asks = absurd asks
   on_element_value t query body Delete asks = absurd asks

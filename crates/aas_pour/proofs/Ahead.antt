@@ -1,5 +1,5 @@
 -- The elements of a document, one after another.
-use Rattle.std.proofs.Common.{◌≡◌, ℕ, ◌+◌, ◌<◌, ◌≤◌, Bool, true, false, ◌||◌, List, [], ◌∷◌, ◌++◌, length, map, Some, None, slice_get, refl, sym, ap, ◌∙◌, append_assoc, arith}
+use Rattle.std.proofs.Common.{◌≡◌, ℕ, ◌+◌, ◌<◌, ◌≤◌, Bool, true, false, ◌||◌, List, [], ◌∷◌, ◌++◌, length, map, Some, None, slice_get, refl, sym, ap, ◌∙◌, append_assoc, arith, le-ltb, lt-ltb}
 use Rattle.std.proofs.lemmas.Option.{slice_get_within}
 use Rattle.std.specs.Prelude.{codes}
 use Rattle.aas_out.specs.Adds.{Adds}
@@ -12,7 +12,7 @@ use Rattle.aas_members_text.specs.Script.{Spoken, element_text, is_any, listed_t
 use Rattle.aas_members_text.specs.declared.members.Show.{Show}
 use Rattle.aas_pour.specs.Elements.{IsNextElement, elements_from, elements_of}
 use Rattle.aas_pour.specs.Poured.{HasRow, if_row, kids_at, text_at}
-use Rattle.aas_pour.proofs.Looking.{lt_false, lt_true, past_end, voices_deep, voices_end, voices_here}
+use Rattle.aas_pour.proofs.Looking.{past_end, voices_deep, voices_end, voices_here}
 
 -- nothing stands between two ranks
 pub record Ahead (rows : List Line) (from at : ℕ) : Type 0 where
@@ -28,7 +28,7 @@ texts vs = map (λ (v : Spoken). v.text) vs
 
 pub ahead_end : (rows : List Line) (from at : ℕ) (c : Line) → Ahead rows from at → slice_get rows at ≡ Some c → c.level ≡ 0 → (w : Show) → IsNextElement w rows from None
 unfolding IsNextElement texts
-ahead_end rows from at c h is high w = h.same w ∙ ap texts (voices_end w 0 rows at c is (lt_false 0 c.level (omega (arith, high))))
+ahead_end rows from at c h is high w = h.same w ∙ ap texts (voices_end w 0 rows at c is (le-ltb 0 c.level (omega (arith, high))))
 
 pub ahead_found : (rows : List Line) (from at : ℕ) (c : Line) → Ahead rows from at → slice_get rows at ≡ Some c → c.level ≡ 1 → (w : Show) → IsNextElement w rows from (Some at)
 unfolding IsNextElement texts
@@ -36,14 +36,14 @@ ahead_found rows from at c h is top w = (
   (c, is, omega (arith, top)),
   h.order,
   h.same w
-      ∙ ap texts (voices_here w 0 rows at c is (lt_true 0 c.level (omega (arith, top))) (lt_false (0 + 1) c.level (omega (arith, top))))
+      ∙ ap texts (voices_here w 0 rows at c is (lt-ltb 0 c.level (omega (arith, top))) (le-ltb (0 + 1) c.level (omega (arith, top))))
       ∙ ap (λ t. t ∷ elements_from w rows (at + 1)) (sym (ap (λ o. if_row o (λ r. element_text w r (kids_at w rows r at))) is)),
 )
 
 pub ahead_deep : (rows : List Line) (from at : ℕ) (c : Line) → Ahead rows from at → slice_get rows at ≡ Some c → 1 < c.level → Ahead rows from (at + 1)
 unfolding texts
 ahead_deep rows from at c h is deep = record {
-  same = λ w. h.same w ∙ ap texts (voices_deep w 0 rows at c is (lt_true 0 c.level (omega (arith, deep))) (lt_true (0 + 1) c.level deep));
+  same = λ w. h.same w ∙ ap texts (voices_deep w 0 rows at c is (lt-ltb 0 c.level (omega (arith, deep))) (lt-ltb (0 + 1) c.level deep));
   order = omega (arith, h.order);
 }
 

@@ -1,5 +1,5 @@
 -- Elements below which nothing is shown.
-use Rattle.std.proofs.Common.{◌≡◌, ℕ, zero, suc, ◌+◌, ◌≤◌, ◌==◌, ◌||◌, not, Bool, true, false, nat_lt, List, [], ◌∷◌, ◌++◌, length, length-append, refl, sym, ap, ◌∙◌, subst, append_assoc, arith, if◌then◌else◌}
+use Rattle.std.proofs.Common.{◌≡◌, ℕ, zero, suc, ◌+◌, ◌≤◌, ◌==◌, ◌||◌, Bool, true, false, nat_lt, List, [], ◌∷◌, ◌++◌, length, length-append, refl, sym, ap, ◌∙◌, subst, append_assoc, arith, if◌then◌else◌}
 use Rattle.aas_model.specs.Payload.{is_operation}
 use Rattle.aas_model.specs.declared.payload.Payload.{Payload}
 use Rattle.aas_out.specs.Adds.{Adds}
@@ -13,10 +13,6 @@ use Rattle.aas_members_text.specs.declared.members.Show.{Show}
 use Rattle.aas_pour.proofs.Going.{passed}
 
 -- ---- where nothing is shown
-
-pub unset : (b : Bool) → not b ≡ true → b ≡ false
-unset true h = absurd (cc)
-unset false h = refl
 
 neither : (b x y : Bool) → x ≡ false → y ≡ false → (if b then x else y) ≡ false
 neither true x y h g = h

@@ -1,11 +1,12 @@
 -- The rows of trees give the texts of the trees.
-use Rattle.std.proofs.Common.{◌≡◌, ℕ, ◌+◌, ◌<◌, nat_lt, Bool, true, false, List, [], ◌∷◌, ◌++◌, map, refl, sym, ap, ap₂, ◌∙◌, append_assoc, arith, if◌then◌else◌, le-ltb, lt-ltb}
+use Rattle.std.proofs.Common.{◌≡◌, ℕ, ◌+◌, ◌<◌, nat_lt, List, [], ◌∷◌, ◌++◌, map, refl, sym, ap, ap₂, ◌∙◌, append_assoc, arith, if◌then◌else◌, le-ltb, lt-ltb}
 use Rattle.std.proofs.lemmas.List.{append-nil}
 use Rattle.std.proofs.lemmas.Bool.Decides.{Decides-ltb}
+use Rattle.std.proofs.lemmas.Bool.{cond-true, cond-false}
 use Rattle.aas_model.specs.declared.element.Element.{Element, fold-Element, fold_out-Element}
 use Rattle.aas_path_trees.specs.Children.{kids_of}
 use Rattle.aas_rows.specs.Rows.{Line, line_at, rows, rows_of_all, BeginsRows}
-use Rattle.aas_rows.proofs.Trees.{rows_out, Every, by_kids, every, rows_begin}
+use Rattle.aas_rows.proofs.Trees.{rows_out, Every, by_kids, every, rows_begin, begins_deeper}
 use Rattle.aas_members_text.specs.Script.{Spoken, element_text}
 use Rattle.aas_members_text.specs.Texts.{Leveled, spoken, spoken_over}
 use Rattle.aas_members_text.specs.declared.members.Show.{Show}
@@ -20,18 +21,10 @@ unfolding Said
 said_all w [] h k l rest deep = refl
 said_all w (e ∷ es) h k l rest deep = ap (voices w k) (append_assoc (rows e l) (rows_of_all es l) rest) ∙ h.0 k l (rows_of_all es l ++ rest) deep ∙ said_all w es h.1 k l rest deep
 
-pick : {A : Type 0} (b : Bool) (x y : A) → b ≡ true → (if b then x else y) ≡ x
-pick true x y h = refl
-pick false x y h = absurd (cc)
-
-pick_not : {A : Type 0} (b : Bool) (x y : A) → b ≡ false → (if b then x else y) ≡ y
-pick_not true x y h = absurd (cc)
-pick_not false x y h = refl
-
 passed_line : (w : Show) (r : Line) (rs : List Line) (k : ℕ) → k + 1 < r.level → voices w k (r ∷ rs) ≡ voices w k rs
 passed_line w r rs k deep =
-    pick (nat_lt k r.level) (if nat_lt (k + 1) r.level then voices w k rs else record { role = r.role; text = element_text w r (voices w r.level rs) } ∷ voices w k rs) [] ((Decides-ltb k r.level).1 (omega arith))
-    ∙ pick (nat_lt (k + 1) r.level) (voices w k rs) (record { role = r.role; text = element_text w r (voices w r.level rs) } ∷ voices w k rs) ((Decides-ltb (k + 1) r.level).1 deep)
+    cond-true (nat_lt k r.level) (if nat_lt (k + 1) r.level then voices w k rs else record { role = r.role; text = element_text w r (voices w r.level rs) } ∷ voices w k rs) [] ((Decides-ltb k r.level).1 (omega arith))
+    ∙ cond-true (nat_lt (k + 1) r.level) (voices w k rs) (record { role = r.role; text = element_text w r (voices w r.level rs) } ∷ voices w k rs) ((Decides-ltb (k + 1) r.level).1 deep)
 
 said : (w : Show) (e : Element) → Every (Said w) (kids_of e) → Said w e
 unfolding Said
@@ -45,7 +38,7 @@ says_nothing w es k l rest deep = said_all w es (every (Said w) (by_kids (Said w
 
 -- ---- an element at the front
 
-spoken_out : (w : Show) (e : Element) (k : ℕ) → spoken w e k ≡ record { role = (line_at k e).role; text = element_text w (line_at k e) (map (λ e. spoken w e (k + 1)) (kids_of e)) }
+pub spoken_out : (w : Show) (e : Element) (k : ℕ) → spoken w e k ≡ record { role = (line_at k e).role; text = element_text w (line_at k e) (map (λ e. spoken w e (k + 1)) (kids_of e)) }
 unfolding spoken
 spoken_out w e k =
     ap (λ f. f k) (fold_out-Element (Leveled Spoken) (spoken_over w) e)
@@ -57,30 +50,23 @@ spoken_out w e k =
 
 here_line : (w : Show) (r : Line) (rs : List Line) (k : ℕ) → r.level ≡ k + 1 → voices w k (r ∷ rs) ≡ record { role = r.role; text = element_text w r (voices w r.level rs) } ∷ voices w k rs
 here_line w r rs k at =
-    pick (nat_lt k r.level) (if nat_lt (k + 1) r.level then voices w k rs else record { role = r.role; text = element_text w r (voices w r.level rs) } ∷ voices w k rs) [] (lt-ltb k r.level (omega (arith, at)))
-    ∙ pick_not (nat_lt (k + 1) r.level) (voices w k rs) (record { role = r.role; text = element_text w r (voices w r.level rs) } ∷ voices w k rs) (le-ltb (k + 1) r.level (omega (arith, at)))
+    cond-true (nat_lt k r.level) (if nat_lt (k + 1) r.level then voices w k rs else record { role = r.role; text = element_text w r (voices w r.level rs) } ∷ voices w k rs) [] (lt-ltb k r.level (omega (arith, at)))
+    ∙ cond-false (nat_lt (k + 1) r.level) (voices w k rs) (record { role = r.role; text = element_text w r (voices w r.level rs) } ∷ voices w k rs) (le-ltb (k + 1) r.level (omega (arith, at)))
 
-no_more : (w : Show) (k : ℕ) (rest : List Line) → BeginsRows k rest → voices w k rest ≡ []
+pub no_more : (w : Show) (k : ℕ) (rest : List Line) → BeginsRows k rest → voices w k rest ≡ []
 no_more w k [] h = refl
-no_more w k (r ∷ rs) h = pick_not (nat_lt k r.level) (if nat_lt (k + 1) r.level then voices w k rs else record { role = r.role; text = element_text w r (voices w r.level rs) } ∷ voices w k rs) [] (le-ltb k r.level h)
+no_more w k (r ∷ rs) h = cond-false (nat_lt k r.level) (if nat_lt (k + 1) r.level then voices w k rs else record { role = r.role; text = element_text w r (voices w r.level rs) } ∷ voices w k rs) [] (le-ltb k r.level h)
 
 pub Speaks : Show → Element → Type 0
 Speaks w e = (k : ℕ) (rest : List Line) → BeginsRows (k + 1) rest → voices w k (rows e (k + 1) ++ rest) ≡ spoken w e (k + 1) ∷ voices w k rest
-
-begins_next : (k : ℕ) (es : List Element) (rest : List Line) → BeginsRows k rest → BeginsRows k (rows_of_all es k ++ rest)
-begins_next k es rest h = rows_begin es k rest h
 
 speak_all : (w : Show) (es : List Element) → Every (Speaks w) es → (k : ℕ) (rest : List Line) → BeginsRows (k + 1) rest → voices w k (rows_of_all es (k + 1) ++ rest) ≡ map (λ e. spoken w e (k + 1)) es ++ voices w k rest
 unfolding Speaks
 speak_all w [] h k rest b = refl
 speak_all w (e ∷ es) h k rest b =
     ap (voices w k) (append_assoc (rows e (k + 1)) (rows_of_all es (k + 1)) rest)
-    ∙ h.0 k (rows_of_all es (k + 1) ++ rest) (begins_next (k + 1) es rest b)
+    ∙ h.0 k (rows_of_all es (k + 1) ++ rest) (rows_begin es (k + 1) rest b)
     ∙ ap (λ vs. spoken w e (k + 1) ∷ vs) (speak_all w es h.1 k rest b)
-
-more : (k : ℕ) (rs : List Line) → BeginsRows k rs → BeginsRows (k + 1) rs
-more k [] b = tt
-more k (r ∷ rs) b = omega (arith, b)
 
 speak : (w : Show) (e : Element) → Every (Speaks w) (kids_of e) → Speaks w e
 unfolding Speaks
@@ -89,7 +75,7 @@ speak w e h k rest b =
     ap (λ xs. voices w k (xs ++ rest)) (rows_out e (k + 1))
     ∙ here_line w (line_at (k + 1) e) (kids ++ rest) k refl
     ∙ ap₂ (λ vs us. record { role = (line_at (k + 1) e).role; text = element_text w (line_at (k + 1) e) vs } ∷ us)
-    (speak_all w (kids_of e) h (k + 1) rest (more (k + 1) rest b) ∙ ap (λ vs. map (λ e. spoken w e (k + 1 + 1)) (kids_of e) ++ vs) (no_more w (k + 1) rest b) ∙ append-nil (map (λ e. spoken w e (k + 1 + 1)) (kids_of e)))
+    (speak_all w (kids_of e) h (k + 1) rest (begins_deeper (k + 1) rest b) ∙ ap (λ vs. map (λ e. spoken w e (k + 1 + 1)) (kids_of e) ++ vs) (no_more w (k + 1) rest b) ∙ append-nil (map (λ e. spoken w e (k + 1 + 1)) (kids_of e)))
     (says_nothing w (kids_of e) k (k + 1 + 1) rest (omega arith))
     ∙ ap (λ v. v ∷ voices w k rest) (sym (spoken_out w e (k + 1)))
 

@@ -1,7 +1,8 @@
 -- The steps of a walk over the rows of an element.
 use Rattle.std.proofs.Common.{◌≡◌, inl, inr, ℕ, suc, ◌+◌, ◌<◌, ◌≤◌, ◌==◌, ◌||◌, Bool, true, false, List, [], ◌∷◌, ◌++◌, length, length-append, ◌*◌, drop, Some, None, slice_get, refl, sym, ap, ◌∙◌, subst, append_assoc, arith, if◌then◌else◌}
 use Rattle.std.proofs.Math.Numerals.{add-one}
-use Rattle.std.proofs.lemmas.Bool.{cases_eq, ne_eqb}
+use Rattle.std.proofs.lemmas.Bool.{cases_eq, ne_eqb, cond-false}
+use Rattle.std.proofs.Math.Bool.{or-false, or-true}
 use Rattle.aas_out.specs.Adds.{Adds}
 use Rattle.aas_out.specs.Told.{Told}
 use Rattle.aas_out.specs.declared.pouring.Pouring.{Pouring}
@@ -25,14 +26,6 @@ up_last w rows k (g ∷ fs) f n = up_last w rows (λ m. behind w rows g m (k g.r
 
 -- ---- one step of the walk
 
-or_false : (b : Bool) → (b || false) ≡ b
-or_false true = refl
-or_false false = refl
-
-or_true : (b : Bool) → (b || true) ≡ true
-or_true true = refl
-or_true false = refl
-
 -- what a stop and all behind it say, by what is shown there
 stop_by : Show → Line → List Spoken → ℕ → Bool → List (List ℕ) → List ℕ
 stop_by w r vs j later ts = listed_text later (stop_name (suc j)) ts ++ script w r vs j (later || is_any ts)
@@ -43,7 +36,7 @@ pub passed : (w : Show) (r : Line) (vs : List Spoken) (j : ℕ) (later : Bool) �
 unfolding stop_by
 passed w r vs j later none =
     let now : Bool = later_after later (part w r (suc j)) in
-    ap (λ ts. fields_text later (part w r (suc j)) ++ stop_by w r vs j now ts) none ∙ ap (λ b. fields_text later (part w r (suc j)) ++ script w r vs j b) (or_false now)
+    ap (λ ts. fields_text later (part w r (suc j)) ++ stop_by w r vs j now ts) none ∙ ap (λ b. fields_text later (part w r (suc j)) ++ script w r vs j b) (or-false now)
 
 -- a child is shown
 pub entered : (w : Show) (r : Line) (vs : List Spoken) (j : ℕ) (later : Bool) (t : List ℕ) (ts : List (List ℕ)) → at_stop w r (suc j) vs ≡ t ∷ ts
@@ -52,7 +45,7 @@ unfolding stop_by
 entered w r vs j later t ts is =
     let now : Bool = later_after later (part w r (suc j)) in
     ap (λ ts. fields_text later (part w r (suc j)) ++ stop_by w r vs j now ts) is
-    ∙ ap (λ b. fields_text later (part w r (suc j)) ++ ((field_text now (stop_name (suc j)) (91 ∷ []) ++ (t ++ more_text ts)) ++ script w r vs j b)) (or_true now)
+    ∙ ap (λ b. fields_text later (part w r (suc j)) ++ ((field_text now (stop_name (suc j)) (91 ∷ []) ++ (t ++ more_text ts)) ++ script w r vs j b)) (or-true now)
 
 -- ---- steps
 
@@ -239,8 +232,4 @@ falls_by false m n h = omega (arith, h refl)
 
 pub falls : (w : Show) (rows : List Line) (old new : Walk) → old.done ≡ false → (new.done ≡ false → work w rows new < work w rows old) → turns w rows new < turns w rows old
 falls w rows old new going less =
-    subst (λ n. turns w rows new < n) (sym (on old.done (suc (work w rows old)) going)) (falls_by new.done (work w rows new) (work w rows old) less)
-  where
-    on : (b : Bool) (n : ℕ) → b ≡ false → (if b then 0 else n) ≡ n
-    on true n h = absurd (cc)
-    on false n h = refl
+    subst (λ n. turns w rows new < n) (sym (cond-false old.done 0 (suc (work w rows old)) going)) (falls_by new.done (work w rows new) (work w rows old) less)

@@ -1,12 +1,11 @@
 -- A search for a child among the rows.
-use Rattle.std.proofs.Common.{◌≡◌, inl, inr, ℕ, suc, ◌+◌, ◌-◌, ◌<◌, ◌≤◌, ◌&&◌, Bool, true, false, nat_lt, List, [], ◌∷◌, ◌++◌, drop, map, Some, None, slice_get, refl, sym, ap, ap₂, ◌∙◌, subst, arith, if◌then◌else◌}
+use Rattle.std.proofs.Common.{◌≡◌, inl, inr, ℕ, suc, ◌+◌, ◌-◌, ◌<◌, ◌≤◌, ◌&&◌, Bool, true, false, nat_lt, List, [], ◌∷◌, ◌++◌, drop, map, Some, None, slice_get, refl, sym, ap, ap₂, ◌∙◌, subst, arith, if◌then◌else◌, le-ltb, lt-ltb}
 use Rattle.std.specs.Prelude.{filter}
 use Rattle.std.proofs.Math.Numerals.{add-one}
 use Rattle.std.proofs.Math.Seq.{drop-cons}
-use Rattle.std.proofs.lemmas.Bool.{cases_lt}
-use Rattle.std.proofs.lemmas.Bool.Decides.{Decides-ltb}
+use Rattle.std.proofs.lemmas.Bool.{cases_lt, and_right, cond-true, cond-false}
 use Rattle.std.proofs.lemmas.List.{drop_all}
-use Rattle.std.proofs.lemmas.Option.{get_or_from_slice_get, slice_get_within, slice_get_cases}
+use Rattle.std.proofs.lemmas.Option.{get_or_from_slice_get, slice_get_within, slice_get_cases, same_Some}
 use Rattle.aas_rows.specs.Rows.{Line}
 use Rattle.aas_members_text.specs.Members.{opening, closing, has_stop, role_fits}
 use Rattle.aas_members_text.specs.Script.{Spoken, element_text, at_stop}
@@ -15,61 +14,43 @@ use Rattle.aas_pour.specs.Poured.{voices, kids_at}
 use Rattle.aas_pour.specs.Walk.{AreBelow, IsFirst}
 use Rattle.aas_pour.specs.declared.children.Sought.TheVariants as sought
 
-pick : {A : Type 0} (b : Bool) (x y : A) → b ≡ true → (if b then x else y) ≡ x
-pick true x y h = refl
-pick false x y h = absurd (cc)
-
-pick_not : {A : Type 0} (b : Bool) (x y : A) → b ≡ false → (if b then x else y) ≡ y
-pick_not true x y h = absurd (cc)
-pick_not false x y h = refl
-
 pub row_there : (rows : List Line) (n : ℕ) (c : Line) → slice_get rows n ≡ Some c → drop n rows ≡ c ∷ drop (n + 1) rows
 row_there rows n c is = drop-cons rows n c (slice_get_within rows n c is) ∙ ap₂ (λ x m. x ∷ drop m rows) (get_or_from_slice_get rows n c c is) (sym (add-one n))
-
-pub lt_false : (a b : ℕ) → b ≤ a → nat_lt a b ≡ false
-lt_false a b h = grind (arith, h)
-
-pub lt_true : (a b : ℕ) → a < b → nat_lt a b ≡ true
-lt_true a b h = (Decides-ltb a b).1 h
 
 pub voices_end : (w : Show) (k : ℕ) (rows : List Line) (n : ℕ) (c : Line) → slice_get rows n ≡ Some c → nat_lt k c.level ≡ false → voices w k (drop n rows) ≡ []
 voices_end w k rows n c is high =
     ap (voices w k) (row_there rows n c is)
-    ∙ pick_not (nat_lt k c.level) (if nat_lt (k + 1) c.level then voices w k (drop (n + 1) rows) else record { role = c.role; text = element_text w c (kids_at w rows c n) } ∷ voices w k (drop (n + 1) rows)) [] high
+    ∙ cond-false (nat_lt k c.level) (if nat_lt (k + 1) c.level then voices w k (drop (n + 1) rows) else record { role = c.role; text = element_text w c (kids_at w rows c n) } ∷ voices w k (drop (n + 1) rows)) [] high
 
 pub voices_deep : (w : Show) (k : ℕ) (rows : List Line) (n : ℕ) (c : Line) → slice_get rows n ≡ Some c → nat_lt k c.level ≡ true → nat_lt (k + 1) c.level ≡ true → voices w k (drop n rows) ≡ voices w k (drop (n + 1) rows)
 voices_deep w k rows n c is deep deeper =
     ap (voices w k) (row_there rows n c is)
-    ∙ pick (nat_lt k c.level) (if nat_lt (k + 1) c.level then voices w k (drop (n + 1) rows) else record { role = c.role; text = element_text w c (kids_at w rows c n) } ∷ voices w k (drop (n + 1) rows)) [] deep
-    ∙ pick (nat_lt (k + 1) c.level) (voices w k (drop (n + 1) rows)) (record { role = c.role; text = element_text w c (kids_at w rows c n) } ∷ voices w k (drop (n + 1) rows)) deeper
+    ∙ cond-true (nat_lt k c.level) (if nat_lt (k + 1) c.level then voices w k (drop (n + 1) rows) else record { role = c.role; text = element_text w c (kids_at w rows c n) } ∷ voices w k (drop (n + 1) rows)) [] deep
+    ∙ cond-true (nat_lt (k + 1) c.level) (voices w k (drop (n + 1) rows)) (record { role = c.role; text = element_text w c (kids_at w rows c n) } ∷ voices w k (drop (n + 1) rows)) deeper
 
 pub voices_here : (w : Show) (k : ℕ) (rows : List Line) (n : ℕ) (c : Line) → slice_get rows n ≡ Some c → nat_lt k c.level ≡ true → nat_lt (k + 1) c.level ≡ false → voices w k (drop n rows) ≡ record { role = c.role; text = element_text w c (kids_at w rows c n) } ∷ voices w k (drop (n + 1) rows)
 voices_here w k rows n c is deep here =
     ap (voices w k) (row_there rows n c is)
-    ∙ pick (nat_lt k c.level) (if nat_lt (k + 1) c.level then voices w k (drop (n + 1) rows) else record { role = c.role; text = element_text w c (kids_at w rows c n) } ∷ voices w k (drop (n + 1) rows)) [] deep
-    ∙ pick_not (nat_lt (k + 1) c.level) (voices w k (drop (n + 1) rows)) (record { role = c.role; text = element_text w c (kids_at w rows c n) } ∷ voices w k (drop (n + 1) rows)) here
+    ∙ cond-true (nat_lt k c.level) (if nat_lt (k + 1) c.level then voices w k (drop (n + 1) rows) else record { role = c.role; text = element_text w c (kids_at w rows c n) } ∷ voices w k (drop (n + 1) rows)) [] deep
+    ∙ cond-false (nat_lt (k + 1) c.level) (voices w k (drop (n + 1) rows)) (record { role = c.role; text = element_text w c (kids_at w rows c n) } ∷ voices w k (drop (n + 1) rows)) here
 
 -- what is shown at a stop of nothing
 none_shown : {A : Type 0} (p : A → Bool) (vs : List A) → ((v : A) → p v ≡ false) → filter p vs ≡ []
 none_shown p [] h = refl
-none_shown p (v ∷ vs) h = pick_not (p v) (v ∷ filter p vs) (filter p vs) (h v) ∙ none_shown p vs h
-
-and_false : (a b : Bool) → b ≡ false → (a && b) ≡ false
-and_false true b h = h
-and_false false b h = refl
+none_shown p (v ∷ vs) h = cond-false (p v) (v ∷ filter p vs) (filter p vs) (h v) ∙ none_shown p vs h
 
 -- nothing is shown below the last level that has some
 pub cut_shown : (w : Show) (r : Line) (j : ℕ) (vs : List Spoken) → w.cut ≤ r.level → at_stop w r j vs ≡ []
 cut_shown w r j vs high =
     ap (map (λ (v : Spoken). opening j ++ (v.text ++ closing j)))
-    (none_shown (λ (v : Spoken). nat_lt r.level w.cut && (has_stop j r.payload && role_fits j v.role)) vs (λ v. ap (λ b. b && (has_stop j r.payload && role_fits j v.role)) (lt_false r.level w.cut high)))
+    (none_shown (λ (v : Spoken). nat_lt r.level w.cut && (has_stop j r.payload && role_fits j v.role)) vs (λ v. ap (λ b. b && (has_stop j r.payload && role_fits j v.role)) (le-ltb r.level w.cut high)))
 
 -- nor at a stop that the kind doesn't have
 pub unstopped_shown : (w : Show) (r : Line) (j : ℕ) (vs : List Spoken) → has_stop j r.payload ≡ false → at_stop w r j vs ≡ []
 unstopped_shown w r j vs none =
     ap (map (λ (v : Spoken). opening j ++ (v.text ++ closing j)))
     (none_shown (λ (v : Spoken). nat_lt r.level w.cut && (has_stop j r.payload && role_fits j v.role)) vs
-    (λ v. and_false (nat_lt r.level w.cut) (has_stop j r.payload && role_fits j v.role) (ap (λ b. b && role_fits j v.role) none)))
+    (λ v. and_right (nat_lt r.level w.cut) (has_stop j r.payload && role_fits j v.role) (ap (λ b. b && role_fits j v.role) none)))
 
 pub cut_off : (w : Show) (r : Line) (j : ℕ) (rows : List Line) (from after : ℕ) → AreBelow rows r.level from after → w.cut ≤ r.level → IsFirst w rows r j from (sought.End after)
 unfolding IsFirst
@@ -96,11 +77,8 @@ below_higher rows k j a b h high = record { order = h.order; deep = λ n r low n
 below_one : (rows : List Line) (k a : ℕ) (c : Line) → slice_get rows a ≡ Some c → k < c.level → AreBelow rows k a (a + 1)
 below_one rows k a c is deep = record {
   order = omega arith;
-  deep = λ n r low high at. let here : n ≡ a = omega (arith, low, high) in subst (λ (l : Line). k < l.level) (same_row c r (sym is ∙ sym (ap (slice_get rows) here) ∙ at)) deep;
+  deep = λ n r low high at. let here : n ≡ a = omega (arith, low, high) in subst (λ (l : Line). k < l.level) (same_Some c r (sym is ∙ sym (ap (slice_get rows) here) ∙ at)) deep;
 }
-  where
-    same_row : (a b : Line) → Some a ≡ Some b → a ≡ b
-    same_row a b e = cc
 
 pub below_more : (rows : List Line) (k a n : ℕ) (c : Line) → AreBelow rows k a n → slice_get rows n ≡ Some c → k < c.level → AreBelow rows k a (n + 1)
 below_more rows k a n c h is deep = below_both rows k a n (n + 1) h (below_one rows k n c is deep)
@@ -110,7 +88,7 @@ skip_by w rows i k Prim.Native.Nat.zero a high h = ap (λ m. voices w i (drop m 
 skip_by w rows i k (suc n) a high h = elim ((slice_get_cases rows a).1) [
   | inl here ↦
       let deep : k < here.0.level = h.deep a here.0 (omega arith) (omega arith) here.2 in
-      voices_deep w i rows a here.0 here.2 (lt_true i here.0.level (omega (arith, deep))) (lt_true (i + 1) here.0.level (omega (arith, deep)))
+      voices_deep w i rows a here.0 here.2 (lt-ltb i here.0.level (omega (arith, deep))) (lt-ltb (i + 1) here.0.level (omega (arith, deep)))
       ∙ skip_by w rows i k n (a + 1) high (record { order = omega arith; deep = λ m r low near at. h.deep m r (omega (arith, low)) (omega (arith, near)) at })
       ∙ ap (λ m. voices w i (drop m rows)) (omega arith)
   | inr past ↦ ap (voices w i) (drop_all a rows past.0 ∙ sym (drop_all (a + suc n) rows (omega (arith, past.0))))
@@ -143,7 +121,7 @@ look_past w rows r j from n h none = (h.0 ∙ ap (λ ls. at_stop w r j (voices w
 
 pub look_end : (w : Show) (rows : List Line) (r c : Line) (j from n : ℕ) → Looking w rows r j from n → slice_get rows n ≡ Some c → c.level ≤ r.level → IsFirst w rows r j from (sought.End n)
 unfolding IsFirst Looking
-look_end w rows r c j from n h is high = (h.0 ∙ ap (at_stop w r j) (voices_end w r.level rows n c is (lt_false r.level c.level high)), h.1)
+look_end w rows r c j from n h is high = (h.0 ∙ ap (at_stop w r j) (voices_end w r.level rows n c is (le-ltb r.level c.level high)), h.1)
 
 shown_by : (w : Show) (r c : Line) (j m : ℕ) (rows : List Line) (b : Bool) → (nat_lt r.level w.cut && (has_stop j r.payload && role_fits j c.role)) ≡ b
     → at_stop w r j (record { role = c.role; text = element_text w c (kids_at w rows c m) } ∷ voices w r.level (drop (m + 1) rows))
@@ -170,21 +148,21 @@ look_found w rows r c j from n h is deep low has fits = (
   is,
   deep,
   h.1,
-  h.0 ∙ ap (at_stop w r j) (voices_here w r.level rows n c is (lt_true r.level c.level (omega (arith, deep))) (lt_false (r.level + 1) c.level (omega (arith, deep))))
-      ∙ shown_by w r c j n rows true (all_true (nat_lt r.level w.cut) (has_stop j r.payload) (role_fits j c.role) (lt_true r.level w.cut low) has fits),
+  h.0 ∙ ap (at_stop w r j) (voices_here w r.level rows n c is (lt-ltb r.level c.level (omega (arith, deep))) (le-ltb (r.level + 1) c.level (omega (arith, deep))))
+      ∙ shown_by w r c j n rows true (all_true (nat_lt r.level w.cut) (has_stop j r.payload) (role_fits j c.role) (lt-ltb r.level w.cut low) has fits),
 )
 
 pub look_unfit : (w : Show) (rows : List Line) (r c : Line) (j from n : ℕ) → Looking w rows r j from n → slice_get rows n ≡ Some c → c.level ≡ r.level + 1 → role_fits j c.role ≡ false → Looking w rows r j from (n + 1)
 unfolding Looking
 look_unfit w rows r c j from n h is deep unfit = (
-  h.0 ∙ ap (at_stop w r j) (voices_here w r.level rows n c is (lt_true r.level c.level (omega (arith, deep))) (lt_false (r.level + 1) c.level (omega (arith, deep))))
-      ∙ shown_by w r c j n rows false (and_false (nat_lt r.level w.cut) (has_stop j r.payload && role_fits j c.role) (and_false (has_stop j r.payload) (role_fits j c.role) unfit)),
+  h.0 ∙ ap (at_stop w r j) (voices_here w r.level rows n c is (lt-ltb r.level c.level (omega (arith, deep))) (le-ltb (r.level + 1) c.level (omega (arith, deep))))
+      ∙ shown_by w r c j n rows false (and_right (nat_lt r.level w.cut) (has_stop j r.payload && role_fits j c.role) (and_right (has_stop j r.payload) (role_fits j c.role) unfit)),
   below_more rows r.level from n c h.1 is (omega (arith, deep)),
 )
 
 pub look_deep : (w : Show) (rows : List Line) (r c : Line) (j from n : ℕ) → Looking w rows r j from n → slice_get rows n ≡ Some c → r.level + 1 < c.level → Looking w rows r j from (n + 1)
 unfolding Looking
 look_deep w rows r c j from n h is deep = (
-  h.0 ∙ ap (at_stop w r j) (voices_deep w r.level rows n c is (lt_true r.level c.level (omega (arith, deep))) (lt_true (r.level + 1) c.level deep)),
+  h.0 ∙ ap (at_stop w r j) (voices_deep w r.level rows n c is (lt-ltb r.level c.level (omega (arith, deep))) (lt-ltb (r.level + 1) c.level deep)),
   below_more rows r.level from n c h.1 is (omega (arith, deep)),
 )

@@ -1,5 +1,6 @@
 -- The open elements of a walk.
 use Rattle.std.proofs.Common.{◌≡◌, ℕ, ◌+◌, ◌<◌, ◌≤◌, List, [], ◌∷◌, ◌++◌, length, Some, slice_get, refl, sym, ◌∙◌, subst, arith}
+use Rattle.std.proofs.lemmas.Option.{same_Some}
 use Rattle.aas_rows.specs.Rows.{Line}
 use Rattle.aas_pour.specs.Walk.{AreBelow, IsNested, first_rank}
 use Rattle.aas_pour.specs.declared.walk.Frame.{Frame}
@@ -12,15 +13,12 @@ first_push : (fs : List Frame) (f : Frame) (m : ℕ) → first_rank (fs ++ f ∷
 first_push [] f m = refl
 first_push (g ∷ fs) f m = refl
 
-pub same_row : (a b : Line) → Some a ≡ Some b → a ≡ b
-same_row a b e = cc
-
 pub nested_push : (rows : List Line) (d : ℕ) (fs : List Frame) (f : Frame) (m : ℕ) (r c : Line) → IsNested rows d fs f.rank → slice_get rows f.rank ≡ Some r → slice_get rows m ≡ Some c → c.level ≡ r.level + 1 → f.next ≤ 5
     → f.rank < m → AreBelow rows r.level (f.rank + 1) (m + 1) → IsNested rows d (fs ++ f ∷ []) m
 nested_push rows d [] f m r c h is there deep low further below = (
-  λ x at. (h x at, further, subst (λ (l : Line). AreBelow rows l.level (f.rank + 1) (m + 1)) (same_row r x (sym is ∙ at)) below),
+  λ x at. (h x at, further, subst (λ (l : Line). AreBelow rows l.level (f.rank + 1) (m + 1)) (same_Some r x (sym is ∙ at)) below),
   low,
-  λ x at. subst (λ (l : Line). d + 1 < l.level) (same_row c x (sym there ∙ at)) (omega (arith, h r is, deep)),
+  λ x at. subst (λ (l : Line). d + 1 < l.level) (same_Some c x (sym there ∙ at)) (omega (arith, h r is, deep)),
 )
 nested_push rows d (g ∷ fs) f m r c h is there deep low further below = (
   λ x at. subst (λ n. (d < x.level) × (g.rank < n) × AreBelow rows x.level (g.rank + 1) (n + 1)) (sym (first_push fs f m)) (h.0 x at),

@@ -78,9 +78,9 @@ grow_all [] h k rs b = refl
 grow_all (e ∷ es) h k rs b =
     ap forest (append_assoc (rows e k) (rows_of_all es k) rs) ∙ h.0 k (rows_of_all es k ++ rs) (rows_begin es k rs b) ∙ ap (λ ps. (k, e) ∷ ps) (grow_all es h.1 k rs b)
 
-more : (k : ℕ) (rs : List Line) → BeginsRows k rs → BeginsRows (k + 1) rs
-more k [] b = tt
-more k (r ∷ rs) b = omega (arith, b)
+pub begins_deeper : (k : ℕ) (rs : List Line) → BeginsRows k rs → BeginsRows (k + 1) rs
+begins_deeper k [] b = tt
+begins_deeper k (r ∷ rs) b = omega (arith, b)
 
 grow_line : (r : Line) (rs : List Line) → forest (r ∷ rs) ≡ (r.level, element_of r (deeper r.level (forest rs))) ∷ beside r.level (forest rs)
 unfolding forest
@@ -89,7 +89,7 @@ grow_line r rs = refl
 grow : (e : Element) → Every Grows (kids_of e) → Grows e
 unfolding Grows
 grow e h k rs b =
-    let below : forest (rows_of_all (kids_of e) (k + 1) ++ rs) ≡ all_at (k + 1) (kids_of e) ++ forest rs = grow_all (kids_of e) h (k + 1) rs (more k rs b) in
+    let below : forest (rows_of_all (kids_of e) (k + 1) ++ rs) ≡ all_at (k + 1) (kids_of e) ++ forest rs = grow_all (kids_of e) h (k + 1) rs (begins_deeper k rs b) in
     let lt : k < k + 1 = omega arith in
     ap (λ xs. forest (xs ++ rs)) (rows_out e k)
     ∙ grow_line (line_at k e) (rows_of_all (kids_of e) (k + 1) ++ rs)

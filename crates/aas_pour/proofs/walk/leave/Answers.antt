@@ -8,10 +8,11 @@ use Rattle.aas_members_text.specs.Script.{at_stop}
 use Rattle.aas_pour.specs.declared.children.Sought.TheVariants as sought
 use Rattle.aas_pour.specs.declared.walk.Frame.{Frame}
 use Rattle.std.proofs.Math.Numerals.{add-one}
+use Rattle.std.proofs.lemmas.Option.{same_Some}
 use Rattle.aas_out.proofs.Adding.{adds_both}
 use Rattle.aas_pour.proofs.Going.{go_lost, not_done, go_next, go_up, first_at, none_there, some_there, NoneThere, There, Leaving, left_at}
 use Rattle.aas_pour.proofs.Looking.{below_none, below_both, below_more}
-use Rattle.aas_pour.proofs.Open.{nested_room, nested_next, nested_pop, nested_push, same_row}
+use Rattle.aas_pour.proofs.Open.{nested_room, nested_next, nested_pop, nested_push}
 use Rattle.aas_pour.proofs.walk.leave.Goals as goal
 
 pub returns-in_default-row : goal.returns-in_default-row
@@ -96,5 +97,5 @@ returns-in-End g c =
           (ap (at_stop c.args.show r (suc f.next)) l.same ∙ t.none)
           ∙ not_done c.args.walk.now.done (closing (suc f.next) ++ 93 ∷ []) (remaining c.args.show rows fs f.rank f.next true) c.requires.going;
       adds = adds_both c.args.so_far c.add-closed.result c.add-in-End.result (g.O.Out.told c.args.out.now) (g.O.Out.told c.add-closed.new.out) (g.O.Out.told c.add-in-End.new.out) (closing (suc f.next)) (93 ∷ []) (subst (λ (t : List ℕ). Adds c.args.so_far c.add-closed.result (g.O.Out.told c.args.out.now) (g.O.Out.told c.add-closed.new.out) t) (c.closing_of.ensures ∙ ap closing (add-one f.next)) c.add-closed.ensures) c.add-in-End.ensures;
-      kept = λ e. record { nested = nested_pop rows 0 fs f n nested; part = omega (arith, low); passed = λ small x at. subst (λ (y : Line). AreBelow rows y.level (f.rank + 1) c.in-End.end) (same_row r x (c.in-Some-row.ensures.row ∙ at)) below };
+      kept = λ e. record { nested = nested_pop rows 0 fs f n nested; part = omega (arith, low); passed = λ small x at. subst (λ (y : Line). AreBelow rows y.level (f.rank + 1) c.in-End.end) (same_Some r x (c.in-Some-row.ensures.row ∙ at)) below };
     }

@@ -1,5 +1,5 @@
 use Rattle.std.proofs.Common.{◌≡◌, ◌+◌, ◌-◌, ◌<◌, ◌≤◌, length, ℕ, suc, [], ◌∷◌, ◌++◌, List, false, ap, sym, ◌∙◌, subst, arith, append_assoc}
-use Rattle.std.proofs.lemmas.Option.{slice_get_within}
+use Rattle.std.proofs.lemmas.Option.{slice_get_within, same_Some}
 use Rattle.aas_rows.specs.Rows.{Line}
 use Rattle.aas_out.specs.Adds.{Adds}
 use Rattle.aas_members_text.specs.Members.{opening, part, fields_text, field_text, later_after, stop_name}
@@ -13,7 +13,7 @@ use Rattle.aas_pour.specs.declared.walk.Frame.{Frame}
 use Rattle.aas_out.proofs.Adding.{adds_both}
 use Rattle.aas_pour.proofs.Going.{go_in, go_on, go_out, lost, first_stop, none_there, some_there, NoneThere, There, not_done, is_going, less_by, less_part, some_last, some_open, passed_so}
 use Rattle.aas_pour.proofs.Looking.{below_more}
-use Rattle.aas_pour.proofs.Open.{nested_room, nested_push, same_row}
+use Rattle.aas_pour.proofs.Open.{nested_room, nested_push}
 use Rattle.aas_pour.proofs.walk.step.Goals as goal
 
 pub returns-in_default-clause-poured : goal.returns-in_default-clause-poured
@@ -182,7 +182,7 @@ returns-in-End-clause-poured g c =
           ∙ ap (λ b. fields ++ remaining c.args.show rows fs n j b) (sym c.put_part-pen.ensures.later)
           ∙ not_done c.args.walk.now.done fields (remaining c.args.show rows fs n j c.put_part-pen.result.later) c.requires.going;
       adds = c.put_part-pen.ensures.text;
-      kept = λ e. record { nested = c.requires.walk.nested; part = omega (arith, c.requires.walk.part); passed = λ small x at. subst (λ (y : Line). AreBelow rows y.level (n + 1) c.in-End.end) (same_row r x (c.in-Some.ensures.row ∙ at)) t.below };
+      kept = λ e. record { nested = c.requires.walk.nested; part = omega (arith, c.requires.walk.part); passed = λ small x at. subst (λ (y : Line). AreBelow rows y.level (n + 1) c.in-End.end) (same_Some r x (c.in-Some.ensures.row ∙ at)) t.below };
     }
 
 pub returns-in-End-clause-less : goal.returns-in-End-clause-less
