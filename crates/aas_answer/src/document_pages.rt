@@ -15,11 +15,11 @@ ghost use Rattle.aas_answer.specs.Answers.{submodel_valued};
 ghost use Rattle.aas_answer.specs.Listed.{collection_of, document_text, documents_in, submodel_text};
 
 use crate::forms::{DocumentForm, SubmodelForm};
-use crate::page_text::{comma_of, document_cursor, end_page, pour_begin};
+use crate::page_text::{document_cursor, end_page, pour_begin};
 use crate::submodel_answers::append_value;
 use aas_command::Refusal;
 use aas_form::{metadata_of, reference_of_shell, reference_of_submodel};
-use aas_members_text::Poured;
+use aas_members_text::{Poured, comma_of};
 use aas_model::{Extent, Level, Many, NoMemory, Submodel, Text};
 use aas_out::{Out, Pouring, TextOut, add};
 use aas_page::{Page, Selection, page};

@@ -4,7 +4,6 @@ ghost use Rattle.std.specs.List.{last_or};
 ghost use Rattle.std.specs.Str.{encode_utf8_all};
 ghost use Rattle.base64.specs.Engines.{url_safe_no_pad};
 ghost use Rattle.base64.specs.GeneralPurpose.{encode_of};
-ghost use Rattle.serde_json.specs.Written.{comma_if};
 ghost use Rattle.aas_out.specs.Adds.{Adds};
 ghost use Rattle.aas_out.specs.declared.pouring.Pouring.TheVariants.{Going};
 ghost use Rattle.aas_answer.specs.Answers.{cursor_text, page_begin};
@@ -73,13 +72,6 @@ fn pour_cursor<O: Out>(so_far: Pouring, cursor: &Option<Many<u8>>, out: &mut O) 
             add(told, b"\"}", out)
         }
     }
-}
-
-/// A comma, before an entry that isn't the first.
-pub(crate) fn comma_of(is_later: bool) -> &'static [u8]
-    ensures { result.now ≡ comma_if is_later }
-{
-    if is_later { b"," } else { b"" }
 }
 
 /// The text of a page in memory, whose entries were put.

@@ -13,12 +13,12 @@ ghost use Rattle.aas_answer.specs.Children.{IsChildAt};
 ghost use Rattle.aas_answer.specs.Listed.{child_text};
 
 use crate::forms::ChildForm;
-use crate::page_text::{comma_of, end_of, end_page, place_cursor, pour_begin};
+use crate::page_text::{end_of, end_page, place_cursor, pour_begin};
 use crate::pouring::show_at;
 use crate::stored_rows::StoredRows;
 use aas_command::{Absent, Refusal};
 use aas_form::{metadata, reference_of_child};
-use aas_members_text::{CanonicalMembers, Poured};
+use aas_members_text::{CanonicalMembers, Poured, comma_of};
 use aas_model::{Element, Many, NoMemory, Reference, Submodel, Text};
 use aas_out::{Out, Pouring, TextOut, add};
 use aas_page::Span;

@@ -8,8 +8,9 @@ ghost use Rattle.aas_step.specs.Valid.{AreValid};
 ghost use Rattle.aas_answer.specs.Answers.{page_text};
 ghost use Rattle.aas_answer.specs.Plans.{entry_text, plan_text};
 
-use crate::page_text::{comma_of, pour_begin, text_of};
+use crate::page_text::{pour_begin, text_of};
 use crate::pouring::pour_document;
+use aas_members_text::comma_of;
 use aas_model::{Collection, Extent, Level, Many, NoMemory, Text};
 use aas_out::{Failed, Out, Pour, Pouring, TextOut, add, measure};
 use aas_store::Store;

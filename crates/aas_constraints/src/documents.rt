@@ -59,8 +59,8 @@ fn head_is_versioned(head: &Head) -> bool
 
 // ---- submodels
 
-/// Whether the submodel has kind Template.
-pub(crate) fn is_template(kind: Option<ModellingKind>) -> bool
+/// Whether a submodel of this kind is a template.
+pub fn is_template(kind: Option<ModellingKind>) -> bool
     ensures { result ≡ is_template kind }
 {
     match kind {

@@ -13,4 +13,5 @@ mod place;
 pub use check::{
     check_child, check_concept, check_element, check_shell, check_submodel, local_fault,
 };
+pub use documents::is_template;
 pub use place::step_to;

@@ -2,7 +2,7 @@
 ghost use Rattle.std.specs.Prelude.{◌≡◌, ◌||◌, IfOk};
 ghost use Rattle.std.specs.Str.{IsUtf8};
 ghost use Rattle.serde_json.specs.Data.{array};
-ghost use Rattle.serde_json.specs.Written.{comma_if, compact_text};
+ghost use Rattle.serde_json.specs.Written.{compact_text};
 ghost use Rattle.aas_json_mapping.specs.Trees.{environments};
 ghost use Rattle.aas_json_spelling.specs.Spells.{canonical_text};
 ghost use Rattle.aas_out.specs.Adds.{Adds};
@@ -12,7 +12,7 @@ ghost use Rattle.aas_environment.specs.Members.{has_member, member_text, name_te
 
 use crate::members::name_of;
 use aas_answer::pour_document;
-use aas_members_text::Pen;
+use aas_members_text::{Pen, comma_of};
 use aas_model::{Collection, Extent, Level, NoMemory};
 use aas_out::{Out, Pouring, TextOut, add};
 use aas_store::Store;
@@ -87,13 +87,6 @@ fn pour_documents<S: Store, O: Out>(
         after = Some(id);
     }
     add(state, b"]", out)
-}
-
-/// A comma, where something stands before.
-fn comma_of(later: bool) -> &'static [u8]
-    ensures { result.now ≡ comma_if later }
-{
-    if later { b"," } else { b"" }
 }
 
 /// The text that `pour_environment` puts. It is all that memory is taken for.

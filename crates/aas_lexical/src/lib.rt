@@ -24,4 +24,4 @@ pub use name::{
 };
 pub use natives::Native;
 pub use time::is_utc_date_time;
-pub use value::{fits, native};
+pub use value::{fits, is_boolean, is_numeric, native};

@@ -91,14 +91,14 @@ fn whole(text: &str) -> Option<i128>
 }
 
 /// Whether the type is xs:boolean.
-fn is_boolean(value_type: ValueType) -> bool
+pub fn is_boolean(value_type: ValueType) -> bool
     ensures { result ≡ is_boolean value_type }
 {
     matches!(value_type, ValueType::Boolean)
 }
 
 /// Whether whole numbers of the type are written natively.
-fn is_numeric(value_type: ValueType) -> bool
+pub fn is_numeric(value_type: ValueType) -> bool
     ensures { result ≡ is_numeric value_type }
 {
     match value_type {

@@ -32,7 +32,7 @@ impl Poured for Texts {
 }
 
 /// A comma, where something stands before.
-pub(crate) fn comma_of(later: bool) -> &'static [u8]
+pub fn comma_of(later: bool) -> &'static [u8]
     ensures { result.now ≡ comma_if later }
 {
     if later { b"," } else { b"" }

@@ -38,8 +38,8 @@ pub fn role_within(payload: &Payload) -> Option<Role>
     }
 }
 
-// An annotation is a data element.
-fn fits_role(element: &Element, role: Role) -> bool
+/// Whether the element may take the role: an annotation is a data element.
+pub fn fits_role(element: &Element, role: Role) -> bool
     ensures { result ≡ fits_role element.now role }
 {
     match role {

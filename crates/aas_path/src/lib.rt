@@ -19,7 +19,7 @@ mod removal;
 mod runs;
 mod steps;
 
-pub use edits::{InsertFault, ReplaceFault, insert, replace, role_within};
+pub use edits::{InsertFault, ReplaceFault, fits_role, insert, replace, role_within};
 pub use lending::at_mut;
 pub use lookup::at;
 pub use parsing::parse_path;
@@ -27,4 +27,4 @@ pub use patches::{apply, apply_all, patch_fits, patch_fits_all};
 pub use path_fault::PathFault;
 pub use printing::{print_fault_path, print_path};
 pub use removal::remove;
-pub use steps::{is_list, place_named, place_of};
+pub use steps::{is_list, place_named, place_of, place_within};

@@ -27,7 +27,8 @@ pub fn place_named(kids: &[Element], name: &Text) -> Option<usize>
     kids.iter().position(|kid| has_name(kid, name))
 }
 
-fn place_within(kids: &[Element], place: u64) -> Option<usize>
+/// The place, if there is an element at it.
+pub fn place_within(kids: &[Element], place: u64) -> Option<usize>
     ensures { result ≡ place_within place kids.now }
 {
     if place < kids.len() as u64 {

@@ -8,9 +8,8 @@ ghost use Rattle.aas_pour.specs.Elements.{IsNextElement, elements_from, elements
 ghost use Rattle.aas_pour.specs.Poured.{AreLow};
 
 use crate::rows::Rows;
-use crate::stops::comma_of;
 use crate::walk::pour_element;
-use aas_members_text::{Members, Pen, Show};
+use aas_members_text::{Members, Pen, Show, comma_of};
 use aas_out::{Out, Pouring, add};
 
 /// Puts the member `submodelElements` behind others, where there are elements.

@@ -1,10 +1,10 @@
 // What stands at a stop besides the children.
 ghost use Rattle.std.specs.Prelude.{◌≡◌, ◌<◌, ◌≤◌, ◌++◌, [], ◌∷◌};
 ghost use Rattle.json.specs.Print.{quoted};
-ghost use Rattle.serde_json.specs.Written.{comma_if};
 ghost use Rattle.aas_out.specs.Adds.{Adds};
 ghost use Rattle.aas_members_text.specs.Members.{closing, field_text, has_stop, opening, role_fits, stop_name};
 
+use aas_members_text::comma_of;
 use aas_model::{Payload, Role};
 use aas_out::{Out, Pouring, add};
 
@@ -55,13 +55,6 @@ pub(crate) fn closing_of(stop: u8) -> &'static [u8]
     ensures { result.now ≡ closing stop }
 {
     if 2 < stop && stop < 6 { b"}" } else { b"" }
-}
-
-/// A comma, where a member stands before.
-pub(crate) fn comma_of(later: bool) -> &'static [u8]
-    ensures { result.now ≡ comma_if later }
-{
-    if later { b"," } else { b"" }
 }
 
 /// The name of the member whose items stand at a stop, and the bracket.

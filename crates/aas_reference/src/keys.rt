@@ -114,7 +114,8 @@ fn is_place(text: &Text) -> bool
     }
 }
 
-fn are_digits(text: &str) -> bool
+/// Whether the text has ASCII digits alone.
+pub fn are_digits(text: &str) -> bool
     ensures { result ≡ list_all is_digit (chars text.now) }
 {
     text.chars().all(|character| character.is_ascii_digit())

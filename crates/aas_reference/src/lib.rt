@@ -17,6 +17,7 @@ mod sorts;
 mod write;
 
 pub use compare::{equal, same};
+pub use keys::are_digits;
 pub use laws::references_are_mapped;
 pub use read::read_reference;
 pub use rules::{first_fault, least};

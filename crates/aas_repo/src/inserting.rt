@@ -20,11 +20,11 @@ ghost use Rattle.aas_repo.specs.Placing.{IsInsertable, IsLead, IsParent, IsTakin
 use crate::count::ELEMENT_LIMIT;
 use crate::decision::Decision;
 use crate::editing::{Insertion, make_edit};
-use crate::placing::{Parent, fits_role, has_space, in_role, is_faultless, lost, parent_at};
+use crate::placing::{Parent, has_space, in_role, is_faultless, lost, parent_at};
 use aas_command::{Absent, Refusal};
 use aas_edit_faults::{edits_count, edits_keep_valid, inserted_elements_have_the_faults};
 use aas_model::{Collection, Element, NoMemory, Path, Payload, Reference, Role, Text};
-use aas_path::role_within;
+use aas_path::{fits_role, role_within};
 use aas_step::valid_submodels_are_storable;
 use aas_store::{Lack, Store};
 use std::alloc::Global;

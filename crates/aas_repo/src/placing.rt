@@ -5,9 +5,7 @@ ghost use Rattle.std.specs.Option.{option_copied};
 ghost use Rattle.std.specs.Str.{encode_utf8_all};
 ghost use Rattle.aas_command.specs.declared.refusal.Absent.TheVariants as absent;
 ghost use Rattle.aas_command.specs.declared.refusal.Refusal.TheVariants.{NotFound};
-ghost use Rattle.aas_constraint_rules.specs.Faults.{is_template};
 ghost use Rattle.aas_path_trees.specs.Children.{with_role};
-ghost use Rattle.aas_path_trees.specs.Edits.{fits_role};
 ghost use Rattle.aas_path_trees.specs.Patched.{kinds, element_count};
 ghost use Rattle.aas_step.specs.Valid.{AreValid};
 ghost use Rattle.aas_store.specs.Edited.{Holds};
@@ -16,10 +14,8 @@ ghost use Rattle.aas_repo.specs.Placing.{IsFaultless, IsParent};
 use crate::count::has_more_below;
 use aas_answer::not_found;
 use aas_command::Refusal;
-use aas_constraints::check_child;
-use aas_model::{
-    Duplicate, Element, Missing, ModellingKind, NoMemory, Path, Reference, Role, Text,
-};
+use aas_constraints::{check_child, is_template};
+use aas_model::{Duplicate, Element, Missing, NoMemory, Path, Reference, Role, Text};
 use aas_store::Store;
 use std::alloc::Global;
 
@@ -114,23 +110,4 @@ pub(crate) fn in_role(element: &Element, role: Role) -> Result<Element, NoMemory
     let mut copy = element.copy()?;
     copy.role = role;
     Ok(copy)
-}
-
-/// An annotation is a data element.
-pub(crate) fn fits_role(element: &Element, role: Role) -> bool
-    ensures { result ≡ fits_role element.now role }
-{
-    match role {
-        Role::Annotation => element.payload.kind().is_data_element(),
-        _ => true,
-    }
-}
-
-fn is_template(kind: Option<ModellingKind>) -> bool
-    ensures { result ≡ is_template kind }
-{
-    match kind {
-        Some(kind) => matches!(kind, ModellingKind::Template),
-        None => false,
-    }
 }

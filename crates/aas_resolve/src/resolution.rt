@@ -1,11 +1,9 @@
 ghost use Rattle.std.specs.Prelude.{◌≡◌, ◌≤◌, ◌^◌, None, Ok, Some, IfSome, MatchOption};
-ghost use Rattle.std.specs.List.{list_all};
-ghost use Rattle.std.specs.Str.{chars};
-ghost use Rattle.aas_reference.specs.Rules.{is_digit};
 ghost use Rattle.aas_resolve.specs.Resolved.{HaveFewElements, admits, along, child_of, collection_named, is_list_at, number, rank_of, reached, resolved, stays};
 
 use crate::target::{Target, Unresolved};
 use aas_model::{Collection, Key, KeyType, Kind, Named, Reference, ReferenceType, Text};
+use aas_reference::are_digits;
 use aas_store::{Spot, StepRef, Store};
 
 /// The collection in which the first key of a reference names a document.
@@ -48,12 +46,6 @@ fn admits(key_type: KeyType, kind: Kind) -> bool
         }
         _ => key_type.name() == kind.name(),
     }
-}
-
-fn are_digits(text: &str) -> bool
-    ensures { result ≡ list_all is_digit (chars text.now) }
-{
-    text.chars().all(|character| character.is_ascii_digit())
 }
 
 /// The number that ASCII digits spell. `None` where the text is something else, and where the number has more than 64 bits.

@@ -1,6 +1,6 @@
 ghost use Rattle.std.specs.Prelude.{◌≡◌, ◌+◌, ◌<◌, ◌≤◌, length, option_map, MatchOption, MatchResult};
-ghost use Rattle.aas_path_trees.specs.Children.{id_short_of, is_list};
-ghost use Rattle.aas_path_trees.specs.ElementAt.{is_text, place_named, place_of, place_within};
+ghost use Rattle.aas_path_trees.specs.Children.{id_short_of};
+ghost use Rattle.aas_path_trees.specs.ElementAt.{is_text, place_named, place_of};
 ghost use Rattle.std.specs.Str.{chars};
 ghost use Rattle.aas_rows.specs.Edits.{rank_among};
 ghost use Rattle.aas_store.specs.Ranked.{IsRanked};
@@ -8,7 +8,8 @@ ghost use Rattle.aas_store.specs.Spots.{elements, elements_of_all, spot_among, s
 ghost use Rattle.aas_path_trees.specs.Patched.{element_count};
 
 use crate::spot::{Spot, StepRef};
-use aas_model::{Element, PathStep, Payload, Submodel, same_text};
+use aas_model::{Element, PathStep, Submodel, same_text};
+use aas_path::{is_list, place_within};
 
 /// The most elements that a store takes in a submodel.
 pub(crate) const MOST: u64 = 65_536;
@@ -73,12 +74,6 @@ fn of_rank_among(kids: &[Element], rank: u64) -> Result<&Element, u64>
     Err(left)
 }
 
-fn is_list(element: &Element) -> bool
-    ensures { result ≡ is_list element.now }
-{
-    matches!(element.payload, Payload::SubmodelElementList { .. })
-}
-
 fn has_name(element: &Element, name: &str) -> bool
     ensures { result ≡ is_text (chars name.now) (id_short_of element.now) }
 {
@@ -92,16 +87,6 @@ fn place_named(kids: &[Element], name: &str) -> Option<usize>
     ensures { result ≡ place_named (chars name.now) kids.now }
 {
     kids.iter().position(|kid| has_name(kid, name))
-}
-
-fn place_within(kids: &[Element], place: u64) -> Option<usize>
-    ensures { result ≡ place_within place kids.now }
-{
-    if place < kids.len() as u64 {
-        Some(place as usize)
-    } else {
-        None
-    }
 }
 
 /// The place to which the step leads among the children of a list or of something else.

@@ -14,7 +14,7 @@ ghost use Rattle.aas_value_patch.specs.Faults.{Judges};
 use crate::fault::Misfit;
 use crate::members::only_member;
 use aas_json_table::table::member;
-use aas_lexical::native;
+use aas_lexical::{is_boolean, is_numeric, native};
 use aas_model::{EntityType, LangText, Many, Named, Text, ValueType, copy_option};
 use itoa::Buffer;
 use serde_json::{Map, Number, Value};
@@ -38,34 +38,6 @@ pub(crate) fn single_from(
         Value::String(text) => string_from(alloc, value_type, text.as_str()),
         Value::Array(_) => Err(Misfit::Shape),
         Value::Object(_) => Err(Misfit::Shape),
-    }
-}
-
-fn is_boolean(value_type: ValueType) -> bool
-    ensures { result ≡ is_boolean value_type }
-{
-    matches!(value_type, ValueType::Boolean)
-}
-
-fn is_numeric(value_type: ValueType) -> bool
-    ensures { result ≡ is_numeric value_type }
-{
-    match value_type {
-        ValueType::AnyUri
-        | ValueType::Base64Binary
-        | ValueType::Boolean
-        | ValueType::Date
-        | ValueType::DateTime
-        | ValueType::Duration
-        | ValueType::GDay
-        | ValueType::GMonth
-        | ValueType::GMonthDay
-        | ValueType::GYear
-        | ValueType::GYearMonth
-        | ValueType::HexBinary
-        | ValueType::String
-        | ValueType::Time => false,
-        _ => true,
     }
 }
 
