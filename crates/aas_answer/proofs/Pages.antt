@@ -9,10 +9,11 @@ use Rattle.std.specs.Str.{encode_utf8_all}
 use Rattle.std.proofs.lemmas.Bool.{cases_lt, lt-ltb, ltb_from_iff, ltb-true}
 use Rattle.std.proofs.lemmas.List.{append-nil, append_assoc, drop_all, get_or-drop, length-drop, length-take-le, take_all, take_more}
 use Rattle.std.proofs.lemmas.List.Concat.{flat_map-append}
-use Rattle.std.proofs.lemmas.List.Elements.{All-head, All-tail, All-filter, All-take}
+use Rattle.std.proofs.lemmas.List.Elements.{All-filter, All-take}
 use Rattle.std.proofs.lemmas.List.Folds.{flat_map-map}
 use Rattle.std.proofs.lemmas.Option.{get_or_from_slice_get, slice_get_within, slice_get-get_or, same_Some}
 use Rattle.std.proofs.lemmas.Simd.{map-map}
+use Rattle.aas_lemmas.proofs.Lists.{map_same}
 use Rattle.base64.specs.Engines.{url_safe_no_pad}
 use Rattle.base64.specs.GeneralPurpose.{encode_of}
 use Rattle.serde_json.specs.Written.{comma_if}
@@ -125,10 +126,6 @@ places_told text xs span end cursor written page is next whole ended =
 
 -- ---- documents
 
-same_texts : {X Y : Type 0} (f g : X → Y) (xs : List X) → All (λ x. f x ≡ g x) xs → map f xs ≡ map g xs
-same_texts f g [] same = refl
-same_texts f g (x ∷ xs) same = ap₂ (λ y ys. y ∷ ys) (All-head (λ x. f x ≡ g x) x xs same) (same_texts f g xs (All-tail (λ x. f x ≡ g x) x xs same))
-
 module _ {X : Type 0} (m : Map X) (passes : X → Bool) (text : X → List ℕ) (told : Identifier → List ℕ)
     (tells : (id : Identifier) → told id ≡ option_map_or text (fin.get m id) []) where
   abbrev Entry : Type 0
@@ -148,7 +145,7 @@ module _ {X : Type 0} (m : Map X) (passes : X → Bool) (text : X → List ℕ) 
       let entries = (page_after passes after limit m).entries in
       let Tells : Entry → Type 0 = λ e. told e.0 ≡ text e.1 in
       sym (map-map told encode_utf8_all ids) ∙ ap (map told) same ∙ map-map told (λ (e : Entry). e.0) entries
-      ∙ same_texts (λ (e : Entry). told e.0) (λ (e : Entry). text e.1) entries
+      ∙ map_same (λ (e : Entry). told e.0) (λ (e : Entry). text e.1) entries
       (All-take Tells limit (filter test (fin.entries m)) (All-filter test Tells (fin.entries m) tells_each))
 
   pub told_on : (after : Option Identifier) (limit : ℕ) (ids : List (List ℕ)) (more : Bool) (cursor : Option (List ℕ)) (written page : List ℕ)

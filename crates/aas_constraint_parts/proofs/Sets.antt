@@ -1,9 +1,6 @@
 -- A set of texts, and the list of texts for which it stands.
 use Rattle.std.proofs.Common.{◌≡◌, ℕ, Bool, true, false, not, ◌||◌, List, [], ◌∷◌, ◌++◌, bytes_eq, filter_map, Some, None, subst, refl, sym, ap, ap₂, ◌∙◌}
 use Rattle.std.specs.Str.{IsUtf8, chars}
-use lib.Utf8.{encodes}
-use Rattle.std.proofs.lemmas.Str.{encodes-chars}
-use Rattle.std.proofs.lemmas.Bool.Decides.{same_from_decides}
 use Rattle.std.specs.List.{list_any}
 use Rattle.std.specs.Ordering.{nat_cmp, match_ordering, is_eq}
 use Rattle.std.specs.Cmp.Lexicographic.{slice_cmp}
@@ -14,19 +11,13 @@ use Rattle.std.proofs.lemmas.Slice.Eq.{bytes_eq-Decides}
 use Rattle.std.specs.BTreeMap.{is_at}
 use Rattle.std.proofs.lemmas.Map.Text.{is_eq-slice_cmp}
 use Rattle.std.proofs.Math.Bool.{or_assoc}
+use Rattle.aas_model_text.proofs.Texts.{bytes_eq-chars}
 use denote.Ref.{Bor}
 use Rattle.aas_constraint_rules.specs.Texts.{is_among}
 use Rattle.aas_constraint_parts.specs.Repeats.{HasTexts}
 use Rattle.aas_constraint_rules.specs.Sites.{Own}
 use Rattle.aas_constraint_rules.specs.Rules.{name_of}
 use Rattle.aas_constraint_parts.proofs.Lists.{filtered_some, filtered_none}
-
--- two texts are the same bytes exactly where they are the same characters
-bytes_eq-chars : (xs ys : List ℕ) → IsUtf8 xs → IsUtf8 ys → bytes_eq xs ys ≡ bytes_eq (chars xs) (chars ys)
-bytes_eq-chars xs ys p q =
-    let same = bytes_eq-Decides (chars xs) (chars ys) in
-    let back : chars xs ≡ chars ys → xs ≡ ys = λ e. sym (encodes-chars xs p) ∙ (ap encodes e ∙ encodes-chars ys q) in
-    same_from_decides _ _ (bytes_eq-Decides xs ys) (λ e. back (same.0 e), λ e. same.1 (ap chars e))
 
 or_swap : (a b c : Bool) → a || (b || c) ≡ b || (a || c)
 or_swap true true c = refl

@@ -1,12 +1,12 @@
 -- A name to which no child leads repeats none of theirs.
-use Rattle.std.proofs.Common.{◌≡◌, ℕ, ◌||◌, Bool, true, false, cond, if◌then◌else◌, nat_lt, List, [], ◌∷◌, length, map, filter_map, bytes_eq, Option, Some, None, refl, sym, ap, ◌∙◌, get_or, true≢false}
+use Rattle.std.proofs.Common.{◌≡◌, ℕ, ◌||◌, Bool, true, false, cond, if◌then◌else◌, nat_lt, List, [], ◌∷◌, length, map, filter_map, bytes_eq, Option, Some, None, refl, ap, ◌∙◌, get_or}
 use Rattle.std.specs.Prelude.{find, is_none}
 use Rattle.std.specs.List.{cons_option, position_or_len}
 use Rattle.std.proofs.lemmas.Bool.{ltb-false}
 use Rattle.std.proofs.lemmas.List.Folds.{find_at}
 use Rattle.std.proofs.lemmas.List.Quantifiers.{position-Some}
 use Rattle.std.proofs.lemmas.Option.{slice_get_past, slice_get-get_or}
-use Rattle.aas_lemmas.proofs.Truth.{bytes_eq-turned}
+use Rattle.aas_lemmas.proofs.Truth.{bytes_eq-unlike}
 use Rattle.aas_model.specs.declared.element.Element.{Element}
 use Rattle.aas_constraint_rules.specs.Rules.{holds, is_repeat, name_of, rules}
 use Rattle.aas_constraint_rules.specs.Sites.{Own, own_of, stands_in_list}
@@ -25,13 +25,6 @@ is_named n k = is_text n (id_short_of k)
 names_of : List Element → List (List ℕ)
 names_of ks = filter_map name_of (map own_of ks)
 
-other_text : (n m : List ℕ) → bytes_eq m n ≡ false → bytes_eq n m ≡ false
-other_text n m other = by_test (bytes_eq n m) refl
-  where
-    by_test : (x : Bool) → bytes_eq n m ≡ x → bytes_eq n m ≡ false
-    by_test true same = absurd (true≢false (sym (bytes_eq-turned n m same) ∙ other))
-    by_test false differs = differs
-
 found_none : (n : List ℕ) (ks : List Element) → find (is_named n) ks ≡ None → is_among n (names_of ks) ≡ false
 unfolding names_of
 found_none n [] e = refl
@@ -40,7 +33,7 @@ found_none n (k ∷ ks) e = by_name (id_short_of k) (found_none n ks) e
     by_text : (m : List ℕ) (x : Bool) → bytes_eq m n ≡ x → (find (is_named n) ks ≡ None → is_among n (names_of ks) ≡ false)
         → cond x (Some k) (find (is_named n) ks) ≡ None → is_among n (m ∷ names_of ks) ≡ false
     by_text m true same more e = absurd (cc)
-    by_text m false other more e = ap (λ x. x || is_among n (names_of ks)) (other_text n m other) ∙ more e
+    by_text m false other more e = ap (λ x. x || is_among n (names_of ks)) (bytes_eq-unlike m n other) ∙ more e
 
     by_name : (o : Option (List ℕ)) → (find (is_named n) ks ≡ None → is_among n (names_of ks) ≡ false)
         → cond (is_text n o) (Some k) (find (is_named n) ks) ≡ None → is_among n (cons_option o (names_of ks)) ≡ false

@@ -1,14 +1,14 @@
 -- The text of an environment, as far as it is put.
-use Rattle.std.proofs.Common.{◌≡◌, ◌≢◌, ℕ, Bool, true, false, ◌||◌, List, [], ◌∷◌, ◌++◌, map, length, Option, Some, None, refl, sym, ap, ap₂, ◌∙◌, append_assoc}
+use Rattle.std.proofs.Common.{◌≡◌, ◌≢◌, ℕ, Bool, true, false, ◌||◌, List, [], ◌∷◌, ◌++◌, map, length, Option, Some, None, refl, sym, ap, ◌∙◌, append_assoc}
 use Rattle.std.specs.Prelude.{codes, get_or, is_some}
 use Rattle.std.specs.FinMap as fin
 use Rattle.std.specs.FinMap.{entries_sorted, get-entries, len-entries}
 use Rattle.std.specs.List.{All}
 use Rattle.std.specs.Option.{option_map_or}
 use Rattle.std.proofs.lemmas.List.{nil_from_length}
-use Rattle.std.proofs.lemmas.List.Elements.{All-head, All-tail}
 use Rattle.std.proofs.lemmas.Option.{slice_get-get_or}
 use Rattle.std.proofs.lemmas.Simd.{map-map}
+use Rattle.aas_lemmas.proofs.Lists.{map_same}
 use Rattle.json.specs.Print.{escape_byte}
 use Rattle.serde_json.specs.Data.{Data, Members, array, no_items, no_members}
 use Rattle.serde_json.specs.Written.{comma_if, compact_text, items_text, members_text}
@@ -41,10 +41,6 @@ unfolding rest_of
 of_items spell later [] = refl
 of_items spell later (x ∷ xs) = ap (λ t. comma_if later ++ (compact_text (spell x) ++ t)) (of_items spell true xs)
 
-same_texts : {X Y : Type 0} (f g : X → Y) (xs : List X) → All (λ x. f x ≡ g x) xs → map f xs ≡ map g xs
-same_texts f g [] same = refl
-same_texts f g (x ∷ xs) same = ap₂ (λ y ys. y ∷ ys) (All-head (λ x. f x ≡ g x) x xs same) (same_texts f g xs (All-tail (λ x. f x ≡ g x) x xs same))
-
 module _ {X : Type 0} (m : Map X) (text : X → List ℕ) where
   found : Identifier → List ℕ
   found id = option_map_or text (fin.get m id) []
@@ -57,7 +53,7 @@ module _ {X : Type 0} (m : Map X) (text : X → List ℕ) where
 
   all_found : map (λ id. option_map_or text (fin.get m id) []) (fin.keys m) ≡ map text (fin.values m)
   unfolding found
-  all_found = map-map _ _ (fin.entries m) ∙ same_texts (λ (e : Identifier × X). found e.0) (λ (e : Identifier × X). text e.1) (fin.entries m) each_found ∙ sym (map-map _ _ (fin.entries m))
+  all_found = map-map _ _ (fin.entries m) ∙ map_same (λ (e : Identifier × X). found e.0) (λ (e : Identifier × X). text e.1) (fin.entries m) each_found ∙ sym (map-map _ _ (fin.entries m))
 
 -- all of a document
 abbrev pub document_text : Collection → Documents → Identifier → List ℕ

@@ -1,8 +1,8 @@
 -- Shells, submodels and concept descriptions: what is whole spells what is good, what spells what is good is whole, and what spells the same is the same.
-use Rattle.std.proofs.Common.{◌≡◌, ℕ, ◌&&◌, List, [], ◌∷◌, ◌++◌, true, Option, Some, codes, refl, sym, ◌∙◌, subst}
+use Rattle.std.proofs.Common.{◌≡◌, ℕ, ◌&&◌, List, [], ◌∷◌, ◌++◌, true, Some, codes, refl, sym, ◌∙◌, subst}
 use Rattle.std.proofs.lemmas.Bool.{and_from}
 use Rattle.std.specs.List.{list_all}
-use Rattle.serde_json.specs.Data.{Data}
+use Rattle.std.proofs.lemmas.Option.{same_Some}
 use Rattle.aas_model_names.specs.ModellingKindNames as modelling_kind
 use Rattle.aas_json_table.specs.Names.{modelling_kinds}
 use Rattle.aas_json_table.specs.Table.{Sort, one, many, word, asset_information, Row, required, optional, valued, shell, submodel, concept, element, reference, referable, identifiable, has_semantics, qualifiable, model_types}
@@ -23,7 +23,6 @@ use Rattle.aas_json_spelling.proofs.MemberTypes.{EachGood, text_good, named_if_g
 use Rattle.aas_reference.specs.Whole.{is_whole, whole_if_there}
 use Rattle.aas_json_mapping.specs.Documents.{typed, head_attributes, shell_attributes, submodel_attributes, concept_attributes, spell_shell, spell_submodel, spell_concept}
 use Rattle.aas_json_mapping.specs.Elements.{spell_element}
-use Rattle.aas_json_mapping.specs.Parts.{spell_asset_information}
 use Rattle.aas_json_mapping.specs.Shape.{IsShaped, IsShapedSubmodel}
 use Rattle.aas_json_mapping.specs.Whole.{whole_kept, whole_extension, whole_administration_if_there, whole_head, whole_semantics, whole_qualifier, whole_asset_information, is_whole_element, is_whole_shell, is_whole_submodel, is_whole_concept}
 use Rattle.aas_json_mapping.proofs.Rows.{good_before, good_with, agree_before, object_made, object_within, same_rows, model_rows, model_rise, found_again}
@@ -160,13 +159,10 @@ same_shell s t e =
     let agree = same_document shell shell_name (identifiable ++ shell_rows) shell_model (head_attributes s.head ++ shell_attributes s) (head_attributes t.head ++ shell_attributes t) e in
     let head = same_head shell_name s.head t.head shell_rows (shell_attributes s) (shell_attributes t) agree in
     let h = head.0 in
-    let a = asset_information_facts.same s.asset t.asset (same_some head.1.0) in
+    let a = asset_information_facts.same s.asset t.asset (same_Some _ _ head.1.0) in
     let d = if_same reference_facts s.derived_from t.derived_from head.1.1.0 in
     let m = all_same reference_facts s.submodels t.submodels head.1.1.1.0 in
     λ i. record { head = h i; derived_from = d i; asset = a i; submodels = m i }
-  where
-    same_some : ◌≡◌ {A = Option Data} (Some (spell_asset_information s.asset)) (Some (spell_asset_information t.asset)) → spell_asset_information s.asset ≡ spell_asset_information t.asset
-    same_some e = cc
 
 pub shell_facts : Facts shell spell_shell is_whole_shell
 shell_facts = record { good = shell_good; back = shell_back; same = same_shell }

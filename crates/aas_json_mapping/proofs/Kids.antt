@@ -1,6 +1,7 @@
 -- The children of an element as its attributes: lists of elements, and the variables of an Operation, which stand in three lists by their roles.
-use Rattle.std.proofs.Common.{◌≡◌, ℕ, nat_le, List, [], ◌∷◌, ◌++◌, map, filter, cond, Bool, true, false, Option, Some, codes, refl, sym, ap, ap₂, ◌∙◌, subst, true≢false}
+use Rattle.std.proofs.Common.{◌≡◌, ℕ, nat_le, List, [], ◌∷◌, ◌++◌, map, filter, cond, Bool, true, false, Some, codes, refl, sym, ap, ap₂, ◌∙◌, subst, true≢false}
 use Rattle.std.specs.List.{list_all}
+use Rattle.std.proofs.lemmas.Option.{same_Some}
 use Rattle.serde_json.specs.Data.{Data, no_items, item}
 use Rattle.aas_json_table.specs.Table.{Sort, one, many, operation_variable, element, parts}
 use Rattle.aas_json_table.specs.TooDeep.{Levels}
@@ -105,10 +106,7 @@ pub variable_back : (l : Levels) (k : Element) → Good l (one operation_variabl
 variable_back l k good = (part_back operation_variable l ((codes "value", Some (spell_element k)) ∷ []) refl refl good).0
 
 same_variable : (x y : Element) → spell_as_variable x ≡ spell_as_variable y → spell_element x ≡ spell_element y
-same_variable x y e = same_some (same_rows (parts operation_variable) ((codes "value", Some (spell_element x)) ∷ []) ((codes "value", Some (spell_element y)) ∷ []) refl e).0
-  where
-    same_some : ◌≡◌ {A = Option Data} (Some (spell_element x)) (Some (spell_element y)) → spell_element x ≡ spell_element y
-    same_some e = cc
+same_variable x y e = same_Some _ _ (same_rows (parts operation_variable) ((codes "value", Some (spell_element x)) ∷ []) ((codes "value", Some (spell_element y)) ∷ []) refl e).0
 
 filter_spelled : (t : Role → Bool) (ks : List Element) → filter (λ (c : Child). t c.role) (map spelled_child ks) ≡ map spelled_child (of_role t ks)
 filter_spelled t [] = refl

@@ -1,5 +1,5 @@
 -- What an update of values comes to, by the place that its path leads to.
-use Rattle.std.proofs.Common.{◌≡◌, ◌⊎◌, ℕ, ◌<◌, Bool, true, false, List, [], ◌∷◌, ◌++◌, length, map as each, Option, Some, None, Result, Ok, Err, refl, sym, ap, ap₂, ◌∙◌, subst, arith}
+use Rattle.std.proofs.Common.{◌≡◌, ◌⊎◌, ℕ, Bool, true, false, List, [], ◌∷◌, ◌++◌, map as each, Option, Some, None, Result, Ok, Err, refl, sym, ap, ap₂, ◌∙◌, subst}
 use Rattle.std.specs.Prelude.{◌≢◌, ◌==◌, if◌then◌else◌, is_some, IfErr, IsErr, IsErrAnd, MatchOption, nat_lt, take, option_and_then, option_map}
 use Rattle.std.specs.FinMap as map
 use Rattle.std.specs.Option.{option_map_or}
@@ -56,6 +56,7 @@ use Rattle.aas_repo.proofs.Decided.{makes, refused_by, refuses}
 use Rattle.aas_repo.proofs.Reached.{found_there, is_missing_at}
 use Rattle.aas_repo.specs.Decisions.{IsDecision, Makes}
 use Rattle.aas_repo.specs.Patches.{IsPatchFor, IsRefused, refusal_behind}
+use Rattle.aas_repo.proofs.Accepted.{some_steps}
 use Rattle.aas_repo.specs.declared.decision.Decision.TheVariants as decision
 
 -- ---- what has the shape of a value has a value form
@@ -280,10 +281,6 @@ submodel_missing d id p v none = (
   λ has_room. refused_by has_room d (UpdateValue id p v) _ (causes d (UpdateValue id p v)) refl
       (ap (λ (o : Option Submodel). first_of (unless (is_some o) (NotFound (absent_of Submodels)) ∷ option_map_or (update_causes p.steps v) o [])) none),
 )
-
-some_steps : (p : List PathStep) → p ≢ [] → 0 < length p
-some_steps [] some = absurd (some refl)
-some_steps (s ∷ p) some = omega arith
 
 pub element_missing : (d : Documents) (id bytes : List ℕ) (p : Path) (v : Data) (m : Missing) (r : Refusal) → bytes ≡ encode_utf8_all id → p.steps ≢ []
     → Holds d bytes (λ s. LeadsNowhere s p.steps m) → (r ≡ NoMemory) ⊎ (r ≡ NotFound (absent.Element (record { steps = take m.steps p.steps }))) → r ≢ NoMemory

@@ -1,9 +1,9 @@
 -- Sizes from levels, from the last row to the first.
 use Rattle.std.proofs.Common.{◌≡◌, ℕ, zero, suc, ◌+◌, ◌-◌, ◌<◌, ◌≤◌, Bool, true, false, nat_lt, List, [], ◌∷◌, ◌++◌, length, take, drop, get_or, Some, slice_get, slice_index_or, slice_set, refl, subst, sym, ap, ap₂, ◌∙◌, arith, if◌then◌else◌, length-drop, le-ltb, lt-ltb}
-use Rattle.std.proofs.Math.Seq.{drop-cons}
 use Rattle.std.proofs.lemmas.Bool.Decides.{Decides-ltb}
 use Rattle.std.proofs.lemmas.List.{drop_all, take-append-drop, take-set, length-set}
 use Rattle.std.proofs.lemmas.List.Elements.{All-cons, All-head, All-tail}
+use Rattle.aas_lemmas.proofs.Lists.{drop_at}
 use Rattle.aas_rows.specs.Rows.{count_deeper, sizes}
 use Rattle.aas_sheet_index.specs.Sides.{levels, measured, sizes_of, AreMeasured, BeginsMeasured, HaveLevels}
 use Rattle.aas_sheet_index.specs.declared.side.Side.{Side}
@@ -47,10 +47,6 @@ drop_more m (suc n) (x ∷ xs) = drop_more m n xs ∙ ap (λ k. drop k (x ∷ xs
     next : (n m : ℕ) → suc (n + m) ≡ suc n + m
     next n m = omega arith
 
--- the rows from a place on, of which the first is known
-pub front : (ss : List Side) (n : ℕ) (s : Side) → n < length ss → s ≡ get_or ss n s → drop n ss ≡ s ∷ drop (n + 1) ss
-front ss n s lt is = let next : suc n ≡ n + 1 = omega arith in drop-cons ss n s lt ∙ ap₂ (λ x m. x ∷ drop m ss) (sym is) next
-
 -- counted up to end: the rows from the first on stand deeper than k
 pub record Counted (ss : List Side) (k first end : ℕ) : Type 0 where
   pub above : first ≤ end
@@ -58,7 +54,7 @@ pub record Counted (ss : List Side) (k first end : ℕ) : Type 0 where
   pub counts : count_deeper k (levels (drop first ss)) ≡ end - first + count_deeper k (levels (drop end ss))
 
 size_head : (ss : List Side) (first n : ℕ) (s : Side) → sizes_of (drop first ss) ≡ sizes (levels (drop first ss)) → first ≤ n → n < length ss → s ≡ get_or ss n s → s.size ≡ 1 + count_deeper s.level (levels (drop (n + 1) ss))
-size_head ss first n s known le lt is = by (n - first) (drop first ss) known (drop_more (n - first) first ss ∙ ap (λ m. drop m ss) back ∙ front ss n s lt is)
+size_head ss first n s known le lt is = by (n - first) (drop first ss) known (drop_more (n - first) first ss ∙ ap (λ m. drop m ss) back ∙ drop_at ss n s lt is)
   where
     back : first + (n - first) ≡ n
     back = omega arith
@@ -74,7 +70,7 @@ count_on ss k first end s known c lt is deep =
     let size : s.size ≡ 1 + count_deeper s.level (levels (drop (end + 1) ss)) = size_head ss first end s known c.above lt is in
     let n : ℕ = count_deeper s.level (levels (drop (end + 1) ss)) in
     let here : count_deeper k (levels (drop end ss)) ≡ 1 + count_deeper k (levels (drop (end + 1) ss)) =
-    ap (λ ss. count_deeper k (levels ss)) (front ss end s lt is) ∙ ap (λ b. if b then 1 + count_deeper k (levels (drop (end + 1) ss)) else 0) (lt-ltb k s.level deep) in
+    ap (λ ss. count_deeper k (levels ss)) (drop_at ss end s lt is) ∙ ap (λ b. if b then 1 + count_deeper k (levels (drop (end + 1) ss)) else 0) (lt-ltb k s.level deep) in
     let more : count_deeper k (levels (drop (end + 1) ss)) ≡ n + count_deeper k (drop n (levels (drop (end + 1) ss))) = skip k s.level (levels (drop (end + 1) ss)) (omega arith) in
     let next : end + 1 + n ≡ end + s.size = omega arith in
     let left : drop n (levels (drop (end + 1) ss)) ≡ levels (drop (end + s.size) ss) = sym (levels_drop n (drop (end + 1) ss)) ∙ ap levels (drop_more n (end + 1) ss ∙ ap (λ m. drop m ss) next) in
@@ -101,12 +97,12 @@ counted_at_end ss k first end c le = let none = ap (λ ss. count_deeper k (level
 pub counted_before : (ss : List Side) (k first end : ℕ) (s : Side) → Counted ss k first end → end < length ss → s ≡ get_or ss end s → s.level ≤ k → end - first ≡ count_deeper k (levels (drop first ss))
 counted_before ss k first end s c lt is le =
     let none : count_deeper k (levels (drop end ss)) ≡ 0 =
-    ap (λ ss. count_deeper k (levels ss)) (front ss end s lt is) ∙ ap (λ b. if b then 1 + count_deeper k (levels (drop (end + 1) ss)) else 0) (le-ltb k s.level le) in
+    ap (λ ss. count_deeper k (levels ss)) (drop_at ss end s lt is) ∙ ap (λ b. if b then 1 + count_deeper k (levels (drop (end + 1) ss)) else 0) (le-ltb k s.level le) in
     let counts = c.counts in
     omega (arith, none, counts)
 
 pub size_is : (ss : List Side) (n size : ℕ) (s : Side) → n < length ss → s ≡ get_or ss n s → size ≡ 1 + count_deeper s.level (levels (drop (n + 1) ss)) → slice_get (sizes (levels ss)) n ≡ Some size
-size_is ss n size s lt is same = by ss n lt (front ss n s lt is) ∙ ap (λ n. Some n) (sym same)
+size_is ss n size s lt is same = by ss n lt (drop_at ss n s lt is) ∙ ap (λ n. Some n) (sym same)
   where
     by : (xs : List Side) (m : ℕ) → m < length xs → drop m xs ≡ s ∷ drop (n + 1) ss → slice_get (sizes (levels xs)) m ≡ Some (1 + count_deeper s.level (levels (drop (n + 1) ss)))
     by [] m lt is = absurd (omega arith)

@@ -1,5 +1,5 @@
 -- Trees that are grown from the last row to the first.
-use Rattle.std.proofs.Common.{◌≡◌, ℕ, zero, suc, ◌+◌, ◌-◌, ◌<◌, ◌≤◌, true, nat_lt, List, [], ◌∷◌, ◌++◌, length, take, drop, get_or, remove, Some, None, slice_get, refl, sym, ap, ap₂, ◌∙◌, append_assoc, arith, if◌then◌else◌}
+use Rattle.std.proofs.Common.{◌≡◌, ℕ, zero, suc, ◌+◌, ◌-◌, ◌<◌, ◌≤◌, true, nat_lt, List, [], ◌∷◌, ◌++◌, length, take, drop, get_or, remove, Some, slice_get, refl, sym, ap, ap₂, ◌∙◌, append_assoc, arith, if◌then◌else◌}
 use Rattle.aas_model.specs.declared.element.Element.{Element}
 use Rattle.aas_rows.specs.Rows.{Line, Placed, deeper, beside, forest, element_of}
 use Rattle.aas_sheet_rows.specs.Growing.{placed_of, first_is_deeper, top_is_deeper, rows_between}
@@ -68,11 +68,6 @@ grow_more rs ss at end row side old mid new g kids long lt inside row_is side_is
     ∙ ap₂ (λ ks ps. (side.level, element_of x ks) ∷ ps) kids_are rest
     ∙ ap (λ ps. (side.level, element_of x (deeper side.level ps)) ∷ beside side.level ps) before
     ∙ ap forest (sym cut)
-
-pub gone : (gs : List Tree) (m : ℕ) → slice_get gs m ≡ None → length gs ≤ m
-gone [] m e = omega arith
-gone (g ∷ gs) zero e = absurd (cc)
-gone (g ∷ gs) (suc m) e = let more = gone gs m e in omega (arith, more)
 
 cut_none : (xs : List Line) (n : ℕ) → drop n (take n xs) ≡ []
 cut_none xs zero = refl

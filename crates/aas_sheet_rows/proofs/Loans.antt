@@ -1,6 +1,7 @@
 -- What a loan of a row leaves.
 use Rattle.std.proofs.Common.{◌≡◌, ℕ, zero, suc, ◌≤◌, List, [], ◌∷◌, length, Option, Some, None, MutBor, slice_get, slice_set, refl, sym, ap, ◌∙◌, subst, arith}
 use Rattle.std.specs.Option.{MatchOption, option_copied_mut}
+use Rattle.aas_lemmas.proofs.Lists.{past_end}
 use Rattle.aas_model.specs.declared.documents.Submodel.{Submodel}
 use Rattle.aas_rows.specs.Rows.{Line, rows_of_all, trees_of, levels_of, InPreorder}
 use Rattle.aas_rows.proofs.Back.{trees_give_rows}
@@ -48,15 +49,10 @@ lines_long [] ss e = refl
 lines_long (r ∷ rs) [] e = absurd (omega arith)
 lines_long (r ∷ rs) (s ∷ ss) e = ap suc (lines_long rs ss (omega arith))
 
-past : (rs : List Row) (n : ℕ) → slice_get rs n ≡ None → length rs ≤ n
-past [] n e = omega arith
-past (r ∷ rs) zero e = absurd (cc)
-past (r ∷ rs) (suc n) e = let more = past rs n e in omega (arith, more)
-
 pub long_rows : (head : Submodel) (rs : List Row) (ss : List Side) (d : Submodel) → IsTable rs ss → submodel_of head rs ss ≡ d → length (rows_of_all d.kids 1) ≡ length rs
 long_rows head rs ss d t is = ap (λ (d : Submodel). length (rows_of_all d.kids 1)) (sym is) ∙ ap length (rows_same head rs ss t) ∙ lines_long rs ss t.long
 
 pub row_found : (r : Option (MutBor Row)) (head : Submodel) (rs : List Row) (ss : List Side) (n : ℕ) (d : Submodel) → IsTable rs ss → submodel_of head rs ss ≡ d → option_copied_mut r ≡ slice_get rs n
     → MatchOption r (length (rows_of_all d.kids 1) ≤ n) (λ r. IsRow d n r.now)
-row_found None head rs ss n d t is e = let out = past rs n (sym e) in omega (arith, out, long_rows head rs ss d t is)
+row_found None head rs ss n d t is e = let out = past_end rs n (sym e) in omega (arith, out, long_rows head rs ss d t is)
 row_found (Some x) head rs ss n d t is e = lent_row head rs ss n x.now d t is (sym e)

@@ -5,6 +5,7 @@ use Rattle.std.proofs.lemmas.Bool.Decides.{nat_tests}
 use Rattle.std.proofs.lemmas.Str.{encodes_same}
 use Rattle.std.specs.Prelude.{bytes_eq, if◌then◌else◌}
 use Rattle.std.specs.Str.{encode_utf8_all}
+use Rattle.aas_lemmas.proofs.Truth.{bytes_eq-unlike}
 use Rattle.serde_json.specs.Data.{Data, object, Members, no_members, member}
 use Rattle.serde_json.specs.Events.{members_len}
 use Rattle.serde_json.specs.Find.{get_member}
@@ -15,14 +16,6 @@ use Rattle.aas_value_update.proofs.Named.{IsNew, Apart}
 use Rattle.aas_value_patch.specs.Counted.{one_if_some, found, each_fits}
 
 -- ---- one child
-
--- the name of another member
-other_name : (k m : List ℕ) → bytes_eq k m ≡ false → bytes_eq m k ≡ false
-other_name k m e = by_test (bytes_eq m k) refl
-  where
-    by_test : (b : Bool) → bytes_eq m k ≡ b → b ≡ false
-    by_test true is = absurd (true≢false (sym (name_itself m) ∙ ap (λ n. bytes_eq n m) (same_name m k is) ∙ e))
-    by_test false is = refl
 
 under_here : (k : List ℕ) (d : Data) (ms : Members) (a : Option (List ℕ)) (f : Option Data) → is_called k (record { name = a; form = f }) ≡ true
     → under_name (object (member k d ms)) (record { name = a; form = f }) ≡ Some d
@@ -48,7 +41,7 @@ under_past k d ms (Some m) (Some f) e = by_test (bytes_eq k (encode_utf8_all m))
     by_test : (b : Bool) → bytes_eq k (encode_utf8_all m) ≡ b → (b && true) ≡ false
         → get_member (encode_utf8_all m) (member k d ms) ≡ get_member (encode_utf8_all m) ms
     by_test true is e = absurd (true≢false e)
-    by_test false is e = get_past (encode_utf8_all m) k d ms (other_name k (encode_utf8_all m) is)
+    by_test false is e = get_past (encode_utf8_all m) k d ms (bytes_eq-unlike k (encode_utf8_all m) is)
 
 under_absent : (k : List ℕ) (ms : Members) (a : Option (List ℕ)) (f : Option Data) → get_member k ms ≡ None → is_called k (record { name = a; form = f }) ≡ true
     → under_name (object ms) (record { name = a; form = f }) ≡ None
