@@ -16,9 +16,10 @@ use Rattle.aas_model.specs.declared.documents.Shell.{Shell}
 use Rattle.aas_model.specs.declared.documents.Submodel.{Submodel}
 use Rattle.aas_step.proofs.Imported.{with_all_documents}
 use Rattle.aas_step.specs.Made.{documents_in, with_documents}
-use Rattle.aas_store.specs.Documents.{Documents, Identifier, Map, empty, with_concept, with_shell, with_submodel}
+use Rattle.aas_store.specs.Documents.{Documents, Identifier, Map, empty, with_concept, with_submodel}
 use Rattle.aas_store.specs.Merged.{with_each}
 use Rattle.aas_store.proofs.Ordered.{found_none, head_below, order, same_id, tail}
+use Rattle.aas_store.proofs.PutOver.{shells_put, submodels_put, concepts_put}
 use Rattle.aas_environment.specs.Environments.{environment_of}
 
 -- ---- into one map
@@ -80,18 +81,6 @@ submodel_id s = encode_utf8_all s.head.id
 
 abbrev pub concept_id : Concept → Identifier
 concept_id c = encode_utf8_all c.head.id
-
-shells_put : (d : Documents) (ss : List Shell) → fold with_shell d ss ≡ record d { shells = with_each shell_id d.shells ss }
-shells_put d [] = refl
-shells_put d (s ∷ ss) = shells_put (with_shell d s) ss
-
-submodels_put : (d : Documents) (ss : List Submodel) → fold with_submodel d ss ≡ record d { submodels = with_each submodel_id d.submodels ss }
-submodels_put d [] = refl
-submodels_put d (s ∷ ss) = submodels_put (with_submodel d s) ss
-
-concepts_put : (d : Documents) (cs : List Concept) → fold with_concept d cs ≡ record d { concepts = with_each concept_id d.concepts cs }
-concepts_put d [] = refl
-concepts_put d (c ∷ cs) = concepts_put (with_concept d c) cs
 
 -- map by map
 each_put : Documents → Environment → Documents

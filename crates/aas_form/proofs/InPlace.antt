@@ -1,8 +1,9 @@
 -- Children that are changed in their places, one after another.
 use Rattle.std.proofs.Common.{◌≡◌, ℕ, ◌+◌, ◌<◌, ◌≤◌, List, [], ◌∷◌, ◌++◌, length, take, drop, set, get_or, map, refl, sym, ap, ap₂, ◌∙◌, length-drop, arith}
-use Rattle.std.proofs.Math.Seq.{take-suc-set, take-append_seam}
+use Rattle.std.proofs.Math.Seq.{take-suc-set}
 use Rattle.std.proofs.Math.Numerals.{add-one}
 use Rattle.std.proofs.lemmas.List.{drop-set-lt, nil_from_length, append-nil, take_all}
+use Rattle.aas_path.proofs.PatchWalk.{filled_all}
 use Rattle.aas_lemmas.proofs.Lists.{append_one, drop_at}
 use Rattle.aas_model.specs.declared.element.Element.{Element}
 use Rattle.aas_model_text.specs.Many.{filled}
@@ -26,9 +27,6 @@ pub ended : (f : Element → Element) (start ks : List Element) (i : ℕ) → le
 ended f start ks i le so_far =
     let none_left : drop i ks ≡ [] = nil_from_length (drop i ks) (omega (arith, length-drop i ks)) in
     sym (so_far ∙ ap (λ l. take i ks ++ map f l) none_left ∙ append-nil (take i ks) ∙ take_all i ks le)
-
-pub filled_all : (xs ws : List Element) → length ws ≡ length xs → filled xs ws ≡ ws
-filled_all xs ws e = ap (λ n. take n (ws ++ drop (length ws) xs)) (sym e) ∙ take-append_seam ws _
 
 -- what a list of children ends as, whose slice was changed so
 pub filled_map : (f : Element → Element) (xs ws lent : List Element) → lent ≡ xs → length ws ≡ length lent → ws ≡ map f lent → filled xs ws ≡ map f xs

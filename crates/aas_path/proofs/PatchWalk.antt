@@ -61,7 +61,7 @@ took : (all : List PatchRow) (k n : ℕ) (own : Payload) (rows : List PatchRow) 
 took all k n own [] s = record { payload = s.same k own (omega arith); stands = record { same = λ j own le. s.same j own (omega arith); next = tt } }
 took all k n own (r ∷ rows) s = took_by all k n own r rows s (n == 0) refl
 
-filled_all : (xs ws : List Element) → length ws ≡ length xs → filled xs ws ≡ ws
+pub filled_all : (xs ws : List Element) → length ws ≡ length xs → filled xs ws ≡ ws
 filled_all xs ws e = ap (λ n. take n (ws ++ drop (length ws) xs)) (sym e) ∙ take-append_seam ws _
 
 -- an element whose own attributes were taken first, and whose children were then patched as the slice kids

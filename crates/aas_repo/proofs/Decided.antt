@@ -125,7 +125,7 @@ nothing [] false true e = (refl, refl, refl)
 nothing [] false false e = absurd (cc)
 nothing (f ∷ fs) many has_room e = absurd (cc)
 
-of_fault : (b : Bool) (f : Fault) (refusal : Refusal) → Some refusal ≡ Some (if b then Lexical f.path else Constraint f)
+pub of_fault : (b : Bool) (f : Fault) (refusal : Refusal) → Some refusal ≡ Some (if b then Lexical f.path else Constraint f)
     → refusal ≢ StorageFault
 of_fault true f refusal e is = absurd (cc)
 of_fault false f refusal e is = absurd (cc)

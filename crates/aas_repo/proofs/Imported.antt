@@ -15,7 +15,7 @@ use denote.Ref.{Bor}
 use Rattle.aas_command.specs.Refusals.{refusal_of_fault}
 use Rattle.aas_command.specs.declared.command.Command.TheVariants.{Import}
 use Rattle.aas_command.specs.declared.refusal.Refusal.{Refusal}
-use Rattle.aas_command.specs.declared.refusal.Refusal.TheVariants.{Conflict, Constraint, Lexical, StorageFault, StorageFull, TooMany}
+use Rattle.aas_command.specs.declared.refusal.Refusal.TheVariants.{Conflict, StorageFault, StorageFull, TooMany}
 use Rattle.aas_constraint_parts.proofs.Sets.{again, one_more}
 use Rattle.aas_constraint_parts.specs.Repeats.{HasTexts}
 use Rattle.aas_constraint_rules.specs.Texts.{is_among}
@@ -37,6 +37,7 @@ use Rattle.aas_store.specs.Documents.{Documents, with_all}
 use Rattle.aas_store.specs.Storable.{IsStorable}
 use Rattle.aas_repo.specs.Decisions.{IsDecision}
 use Rattle.aas_repo.specs.Faulty.{first_faulty_from, first_faulty_in, in_list}
+use Rattle.aas_repo.proofs.Decided.{of_fault}
 use Rattle.aas_repo.specs.declared.decision.Decision.TheVariants as decision
 
 -- ---- identifiers that were seen
@@ -90,10 +91,6 @@ none_in None more e = (refl, sym e)
 none_in (Some why) more e = absurd (cc)
 
 -- ---- refusals
-
-of_fault : (b : Bool) (f : Fault) (refusal : Refusal) → Some refusal ≡ Some (if b then Lexical f.path else Constraint f) → refusal ≢ StorageFault
-of_fault true f refusal e is = absurd (cc)
-of_fault false f refusal e is = absurd (cc)
 
 by_document : (faults : List Fault) (many : Bool) (more : List Cause) (refusal : Refusal) → (Some refusal ≡ first_of more → refusal ≢ StorageFault)
     → Some refusal ≡ first_of (option_map refusal_of_fault (first faults) ∷ when many TooMany ∷ more) → refusal ≢ StorageFault

@@ -3,6 +3,7 @@ use Rattle.std.proofs.Common.{◌≡◌, ℕ, List, [], ◌∷◌, ◌++◌, map
 use Rattle.std.specs.Prelude.{◌≢◌, Bool, false, IfSome, MatchOption, is_some, option_map}
 use Rattle.std.specs.FinMap as map
 use Rattle.std.specs.Option.{option_copied}
+use Rattle.aas_value_patch.proofs.Faultless.{no_first}
 use denote.Ref.{Bor}
 use Rattle.aas_constraint_laws.specs.Law.{behind}
 use Rattle.aas_constraint_rules.specs.Faults.{faults_at, is_template}
@@ -88,10 +89,6 @@ is_parent d id bytes p x head same head_is template above =
 
 -- ---- the faults below it
 
-none_first : (fs : List Fault) → None ≡ first fs → fs ≡ []
-none_first [] is = refl
-none_first (f ∷ fs) is = absurd (cc)
-
 above_is : (above : Option (Bor Element)) → above_of above ≡ option_map own_of (option_copied above)
 above_is None = refl
 above_is (Some e) = refl
@@ -102,7 +99,7 @@ pub is_faultless : (x : Parent) (above : Option (Bor Element)) (lead : Option Re
     → IsFaultless x lead e
 is_faultless x above lead e same checked b new lead_is =
     ap (λ (o : Option Own). flat_map faults_at (sites x.in_template o b (tree_of e))) (sym (above_is above ∙ ap (option_map own_of) same))
-    ∙ none_first _ (checked b new lead_is)
+    ∙ no_first _ (checked b new lead_is)
 
 -- with no siblings
 no_repeat : (n : Option (List ℕ)) → is_repeat [] n ≡ false

@@ -49,15 +49,15 @@ module _ {D : Type 0} (id_of : D → Identifier) where
 
 -- ---- the three collections
 
-shells_put : (d : Documents) (ss : List Shell) → fold with_shell d ss ≡ record d { shells = with_each (λ s. encode_utf8_all s.head.id) d.shells ss }
+pub shells_put : (d : Documents) (ss : List Shell) → fold with_shell d ss ≡ record d { shells = with_each (λ s. encode_utf8_all s.head.id) d.shells ss }
 shells_put d [] = refl
 shells_put d (s ∷ ss) = shells_put (with_shell d s) ss
 
-submodels_put : (d : Documents) (ss : List Submodel) → fold with_submodel d ss ≡ record d { submodels = with_each (λ s. encode_utf8_all s.head.id) d.submodels ss }
+pub submodels_put : (d : Documents) (ss : List Submodel) → fold with_submodel d ss ≡ record d { submodels = with_each (λ s. encode_utf8_all s.head.id) d.submodels ss }
 submodels_put d [] = refl
 submodels_put d (s ∷ ss) = submodels_put (with_submodel d s) ss
 
-concepts_put : (d : Documents) (cs : List Concept) → fold with_concept d cs ≡ record d { concepts = with_each (λ c. encode_utf8_all c.head.id) d.concepts cs }
+pub concepts_put : (d : Documents) (cs : List Concept) → fold with_concept d cs ≡ record d { concepts = with_each (λ c. encode_utf8_all c.head.id) d.concepts cs }
 concepts_put d [] = refl
 concepts_put d (c ∷ cs) = concepts_put (with_concept d c) cs
 

@@ -1,7 +1,8 @@
 -- What the first fault of an updated element says.
-use Rattle.std.proofs.Common.{◌≡◌, ◌==◌, Bool, true, false, List, [], ◌∷◌, Option, Some, None, refl, sym, ap, ◌∙◌, subst}
+use Rattle.std.proofs.Common.{◌≡◌, ◌==◌, Bool, true, false, List, [], ◌∷◌, Some, None, refl, sym, ap, ◌∙◌, subst}
 use Rattle.std.proofs.lemmas.Bool.Decides.{Decides-eqb}
 use Rattle.std.specs.Prelude.{if◌then◌else◌}
+use Rattle.std.proofs.lemmas.Option.{none-some}
 use Rattle.serde_json.specs.Data.{Data}
 use Rattle.aas_model.specs.declared.element.Element.{Element}
 use Rattle.aas_model.specs.declared.path.Fault.{Fault}
@@ -13,10 +14,7 @@ use Rattle.aas_value_patch.specs.declared.preparing.ValueFault.TheVariants as fa
 
 pub no_first : (fs : List Fault) → None ≡ first fs → fs ≡ []
 no_first [] e = refl
-no_first (f ∷ fs) e = absurd (none_some f e)
-  where
-    none_some : (f : Fault) → ◌≡◌ {A = Option Fault} None (Some f) → ⊥
-    none_some f e = cc
+no_first (f ∷ fs) e = absurd (none-some f e)
 
 pub broken : (e u : Element) (v : Data) (f : Fault) → IsElementUpdate e v u → Some f ≡ first (local_faults u) → IsValueFault e v (fault_by f)
 broken e u v f update is = by_number (f.number == 0) refl

@@ -1,32 +1,25 @@
 -- What is sent: values in order have parts in order.
 use Rattle.std.proofs.Common.{◌≡◌, ℕ, Bool, true, false, List, [], ◌∷◌, codes, Option, Some, None, is_some, unwrap_or, Result, Ok, Err, IfOk, refl, sym, ap}
-use Rattle.std.proofs.Common.{◌∙◌, subst}
-use Rattle.std.specs.Prelude.{bytes_eq, if◌then◌else◌}
+use Rattle.std.proofs.Common.{◌∙◌}
+use Rattle.std.specs.Prelude.{if◌then◌else◌}
 use Rattle.std.specs.Str.{encode_utf8_all}
-use Rattle.serde_json.specs.Data.{Data, null, boolean, number, string, array, object, Items, no_items, item, Members, no_members, member}
+use Rattle.serde_json.specs.Data.{Data, null, boolean, number, string, array, object, Items, no_items, item, Members}
 use Rattle.serde_json.specs.Find.{get, get_member}
 use Rattle.aas_json_spelling.specs.Values.{IsOrdered, AreOrdered, HasOrder}
 use Rattle.aas_model.specs.declared.payload.Payload.{Payload}
 use Rattle.aas_model.specs.declared.payload.Payload.TheVariants as p
 use Rattle.aas_value.specs.ValueForm.{Child}
-use Rattle.aas_value_update.specs.Parts.{is_called, entry}
+use Rattle.aas_value_update.specs.Parts.{entry}
 use Rattle.aas_value_update.specs.Shape.{under_name, by_names, next_item, in_turn, by_entries, items_in, nothing_sent, if_sent, sent}
-use Rattle.aas_value_update.proofs.Members.{get_here, get_past}
+use Rattle.aas_value_update.proofs.WholeOwn.{member_ordered}
+use Rattle.aas_value_update.proofs.Sent.{entry_ordered}
 use Rattle.aas_value_patch.specs.declared.fault.Misfit.{Misfit}
 use Rattle.aas_value_patch.specs.Gathered.{IfOrdered, AllOrdered}
 
 -- ---- one member
 
-pub order_found : (n : List ℕ) (ms : Members) (d : Data) → HasOrder ms → get_member n ms ≡ Some d → IsOrdered d
-order_found n no_members d h e = absurd (cc)
-order_found n (member k c ms) d h e = by_test (bytes_eq n k) refl (order_found n ms d h.2)
-  where
-    by_test : (b : Bool) → bytes_eq n k ≡ b → (get_member n ms ≡ Some d → IsOrdered d) → IsOrdered d
-    by_test true is more = let same : Some c ≡ Some d = sym (get_here n k c ms is) ∙ e in let values : c ≡ d = cc in subst IsOrdered values h.1
-    by_test false is more = more (sym (get_past n k c ms is) ∙ e)
-
 pub order_under : (n : List ℕ) (ms : Members) (d : Data) → HasOrder ms → Some d ≡ get_member n ms → IsOrdered d
-order_under n ms d h e = order_found n ms d h (sym e)
+order_under n ms d h e = member_ordered n ms d h (sym e)
 
 pub taken_under : (n : List ℕ) (ms : Members) (d w u : Data) → Some d ≡ get_member n ms → u ≡ d → u ≡ unwrap_or (get_member n ms) w
 taken_under n ms d w u e same = same ∙ ap (λ o. unwrap_or o w) e
@@ -49,7 +42,7 @@ got_ordered n (boolean b) d order e = absurd (cc)
 got_ordered n (number m) d order e = absurd (cc)
 got_ordered n (string s) d order e = absurd (cc)
 got_ordered n (array ds) d order e = absurd (cc)
-got_ordered n (object ms) d order e = order_found n ms d order e
+got_ordered n (object ms) d order e = member_ordered n ms d order e
 
 under_ordered : (v : Data) (c : Child) → IsOrdered v → IfOrdered (under_name v c)
 under_ordered v c order = by_child c.name c.form
@@ -77,18 +70,6 @@ turn_ordered (c ∷ cs) ds order = by_form (is_some c.form) (λ es. turn_ordered
     by_form false more ds order = (tt, more ds order)
     by_form true more no_items order = (tt, more no_items tt)
     by_form true more (item d ds) order = (order.0, more ds order.1)
-
-entry_ordered : (c : Child) (ds : Items) → AreOrdered ds → IfOrdered (entry c ds).0 × AreOrdered (entry c ds).1
-entry_ordered c (item (object (member n d no_members)) ds) order = by_test (is_called n c)
-  where
-    chosen : Bool → Option Data × Items
-    chosen b = if b then (Some d, ds) else (None, item (object (member n d no_members)) ds)
-
-    by_test : (b : Bool) → let e : Option Data × Items = (if b then (Some d, ds) else (None, item (object (member n d no_members)) ds)) in IfOrdered e.0 ×
-        AreOrdered e.1
-    by_test true = (order.0.1, order.1)
-    by_test false = (tt, order)
-entry_ordered c ds order = (tt, order)
 
 entries_ordered : (cs : List Child) (ds : Items) → AreOrdered ds → AllOrdered (by_entries cs ds)
 entries_ordered [] ds order = tt
