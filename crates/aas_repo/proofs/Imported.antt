@@ -211,7 +211,7 @@ all_storable (s ∷ ss) law whole none =
     let nones = none_in (first_of (document_causes (submodel s))) (first_of (flat_map document_causes (map submodel ss)))
     (sym none ∙ first_in (document_causes (submodel s)) (flat_map document_causes (map submodel ss))) in
     let own = no_cause (faults_of (submodel s)) (has_too_many (submodel s)) nones.0 in
-    all_of IsStorable s ss (law s (record { whole = wholes.0; no_cause = own.0 }) own.1) (all_storable ss law wholes.1 nones.1)
+    all_of IsStorable s ss (law s (record { whole = wholes.0; faultless = own.0 }) own.1) (all_storable ss law wholes.1 nones.1)
 
 pub storable : (has_room : Bool) (e : Environment) → ValidIsStorable → is_whole_environment limits e ≡ true → None ≡ first_of (import_causes has_room e) → All IsStorable e.submodels
 storable has_room e law whole none =
