@@ -9,7 +9,6 @@ use Rattle.std.specs.Str.{encode_utf8_all}
 use Rattle.std.specs.declared.cmp.Ordering.{Ordering}
 use Rattle.std.specs.declared.cmp.Ordering.TheVariants.{Less, Equal, Greater}
 use Rattle.std.proofs.lemmas.Cmp.{nat_list_cmp_total}
-use Rattle.std.proofs.lemmas.Map.Made.{option_or-none}
 use Rattle.aas_model.specs.declared.documents.Concept.{Concept}
 use Rattle.aas_model.specs.declared.documents.Environment.{Environment}
 use Rattle.aas_model.specs.declared.documents.Shell.{Shell}
@@ -23,6 +22,10 @@ use Rattle.aas_store.proofs.PutOver.{shells_put, submodels_put, concepts_put}
 use Rattle.aas_environment.specs.Environments.{environment_of}
 
 -- ---- into one map
+
+none_or : {X : Type 0} (o : Option X) → option_or o None ≡ o
+none_or None = refl
+none_or (Some x) = refl
 
 module _ {D : Type 0} (id_of : D → Identifier) where
   -- the last of some documents that has an identifier
@@ -62,14 +65,14 @@ module _ {D : Type 0} (id_of : D → Identifier) where
       ∙ by (order q e.0) refl
     where
       by : (r : Ordering) → order q e.0 ≡ r → option_or (fin.find order q es) (cond (is_eq r) (Some e.1) None) ≡ cond (is_eq r) (Some e.1) (fin.find order q es)
-      by Less is = option_or-none (fin.find order q es)
+      by Less is = none_or (fin.find order q es)
       by Equal is = ap (λ o. option_or o (Some e.1)) (found_none es q (λ i f at. ap is_eq (ap (λ id. order id f.0) (same_id q e.0 is) ∙ head_below e f es i sorted at)))
-      by Greater is = option_or-none (fin.find order q es)
+      by Greater is = none_or (fin.find order q es)
 
   put_back : (m : Map D) → AreOwn (fin.entries m) → with_each id_of fin.empty (fin.values m) ≡ m
   put_back m own = same_map nat_list_cmp_total same_id (with_each id_of fin.empty (fin.values m)) m (λ q.
       get_put (fin.values m) fin.empty q ∙ ap₂ option_or (last_is_found (fin.entries m) (entries_sorted m) own q) (get-empty order q)
-      ∙ option_or-none (fin.find order q (fin.entries m)) ∙ sym (get-entries m q))
+      ∙ none_or (fin.find order q (fin.entries m)) ∙ sym (get-entries m q))
 
 -- ---- into all three
 
