@@ -1,4 +1,4 @@
-use Rattle.std.proofs.Common.{Err, ap}
+use Rattle.std.proofs.Common.{Err, ap, sym, ⊎_elim, arith}
 use Rattle.aas_environment.specs.Environments.{export_text}
 use Rattle.aas_server.specs.Ends.{console_of}
 use Rattle.aas_server.proofs.Exported.{says_cut, says_exported, says_too_long}
@@ -23,3 +23,6 @@ returns-in-Err-TooLong-clause-says g c =
     (c.in-Err-TooLong.ensures.too_long.0 (ap (λ why. Err why) c.in-Err-TooLong.field-0-is))
     (ap (console_of C.left C.sent C.faults) (c.in-Err-TooLong.ensures.untouched (ap (λ why. Err why) c.in-Err-TooLong.field-0-is)))
     c.end_with.ensures.given c.end_with.ensures.front c.end_with.ensures.fault c.end_with.ensures.statuses
+
+pub returns-in-Err-TooLong-clause-statuses : goal.returns-in-Err-TooLong-clause-statuses
+returns-in-Err-TooLong-clause-statuses g c = ⊎_elim (λ three. (1, omega arith, sym three)) (λ eleven. (6, omega arith, sym eleven)) c.end_with.ensures.statuses
