@@ -1,5 +1,5 @@
 -- What is said of an export.
-use Rattle.std.proofs.Common.{◌≡◌, ◌≢◌, ◌⊎◌, ◌≤◌, ◌^◌, ℕ, Bool, true, false, List, [], length, nat_lt, if◌then◌else◌, refl, sym, ap, subst, inl, inr}
+use Rattle.std.proofs.Common.{◌≡◌, ◌≢◌, ◌⊎◌, ◌≤◌, ◌^◌, ℕ, Bool, true, false, List, length, nat_lt, if◌then◌else◌, refl, sym, ap, subst, inl, inr}
 use Rattle.std.specs.Io.KnownBytes.{append_known}
 use Rattle.std.proofs.lemmas.Bool.{le-ltb, ltb-false}
 use Rattle.aas_outside.specs.Faults.{Rose}
