@@ -9,7 +9,7 @@ use Rattle.aas_path.specs.PathText.{path_text}
 use Rattle.aas_path_trees.specs.PathRule.{KeepsRule}
 use Rattle.aas_command.specs.Commands.{IsPlace}
 use Rattle.aas_command.proofs.PathTexts.{is_place}
-use Rattle.aas_record.specs.Forms.{HasForm, IsCanonical, child, element}
+use Rattle.aas_record.specs.FieldTypes.{HasType, IsCanonical, child, element}
 use Rattle.aas_record.specs.Reading.{IsLastFault}
 use Rattle.aas_record.specs.declared.fault.RecordFault.{RecordFault}
 use Rattle.aas_record.specs.declared.fault.RecordFault.TheVariants.{NotARecord, NoMemory}
