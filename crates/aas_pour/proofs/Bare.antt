@@ -1,5 +1,6 @@
 -- Elements below which nothing is shown.
-use Rattle.std.proofs.Common.{◌≡◌, ℕ, zero, suc, ◌+◌, ◌≤◌, ◌==◌, ◌||◌, Bool, true, false, nat_lt, List, [], ◌∷◌, ◌++◌, length, length-append, refl, sym, ap, ◌∙◌, subst, append_assoc, arith, if◌then◌else◌}
+use Rattle.std.proofs.Common.{◌≡◌, ℕ, zero, suc, ◌+◌, ◌≤◌, ◌==◌, ◌||◌, ◌&&◌, Bool, true, false, nat_lt, List, [], ◌∷◌, ◌++◌, length, length-append, refl, sym, ap, ◌∙◌, subst, append_assoc, arith, if◌then◌else◌}
+use Rattle.std.proofs.lemmas.Bool.{ltb-false, not-true, or_parts}
 use Rattle.aas_model.specs.Payload.{is_operation}
 use Rattle.aas_model.specs.declared.payload.Payload.{Payload}
 use Rattle.aas_out.specs.Adds.{Adds}
@@ -10,7 +11,9 @@ use Rattle.aas_rows.specs.Rows.{Line}
 use Rattle.aas_members_text.specs.Members.{fields_text, has_annotations, has_members, has_statements, has_stop, later_after, part, stop_name}
 use Rattle.aas_members_text.specs.Script.{Spoken, at_stop, is_any, listed_text, script}
 use Rattle.aas_members_text.specs.declared.members.Show.{Show}
+use Rattle.aas_pour.specs.Walk.{has_stops, is_childless}
 use Rattle.aas_pour.proofs.Going.{passed}
+use Rattle.aas_pour.proofs.Looking.{cut_shown, unstopped_shown}
 
 -- ---- where nothing is shown
 
@@ -18,11 +21,22 @@ neither : (b x y : Bool) → x ≡ false → y ≡ false → (if b then x else y
 neither true x y h g = h
 neither false x y h g = g
 
-pub no_stops : (p : Payload) → has_stop 6 p ≡ false → has_stop 3 p ≡ false → has_stop 2 p ≡ false → has_stop 1 p ≡ false → (j : ℕ) → has_stop j p ≡ false
+no_stops : (p : Payload) → has_stop 6 p ≡ false → has_stop 3 p ≡ false → has_stop 2 p ≡ false → has_stop 1 p ≡ false → (j : ℕ) → has_stop j p ≡ false
 unfolding has_stop
 no_stops p six three two one j =
     neither (j == 6) (has_annotations p) (if nat_lt 2 j then is_operation p else (if j == 2 then has_statements p else has_members p)) six
     (neither (nat_lt 2 j) (is_operation p) (if j == 2 then has_statements p else has_members p) three (neither (j == 2) (has_statements p) (has_members p) two one))
+
+pub childless_shown : (w : Show) (r : Line) → is_childless w r ≡ true → (j : ℕ) (vs : List Spoken) → at_stop w r j vs ≡ []
+childless_shown w r is j vs = by (nat_lt r.level w.cut) refl (not-true (nat_lt r.level w.cut && has_stops r.payload) is)
+  where
+    by : (b : Bool) → nat_lt r.level w.cut ≡ b → (b && has_stops r.payload) ≡ false → at_stop w r j vs ≡ []
+    by false cut none = cut_shown w r j vs (ltb-false r.level w.cut cut)
+    by true cut none =
+        let all = or_parts ((has_stop 6 r.payload || has_stop 3 r.payload) || has_stop 2 r.payload) (has_stop 1 r.payload) none in
+        let three = or_parts (has_stop 6 r.payload || has_stop 3 r.payload) (has_stop 2 r.payload) all.0 in
+        let two = or_parts (has_stop 6 r.payload) (has_stop 3 r.payload) three.0 in
+        unstopped_shown w r j vs (no_stops r.payload two.0 two.1 three.1 all.1 j)
 
 -- ---- what is put
 

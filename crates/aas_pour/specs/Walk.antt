@@ -1,10 +1,11 @@
 -- Where a walk over the rows of an element stands, and what it has still to put.
-use Rattle.std.specs.Prelude.{◌≡◌, ℕ, suc, ◌+◌, ◌*◌, ◌<◌, ◌≤◌, Bool, true, false, List, [], ◌∷◌, ◌++◌, length, drop, slice_get, if◌then◌else◌, Some}
+use Rattle.std.specs.Prelude.{◌≡◌, ℕ, suc, ◌+◌, ◌*◌, ◌<◌, ◌≤◌, nat_lt, ◌&&◌, ◌||◌, not, Bool, true, false, List, [], ◌∷◌, ◌++◌, length, drop, slice_get, if◌then◌else◌, Some}
 use Rattle.aas_out.specs.Adds.{Adds}
 use Rattle.aas_out.specs.Told.{Told}
 use Rattle.aas_out.specs.declared.pouring.Pouring.{Pouring}
 use Rattle.aas_rows.specs.Rows.{Line}
-use Rattle.aas_members_text.specs.Members.{opening, closing}
+use Rattle.aas_model.specs.declared.payload.Payload.{Payload}
+use Rattle.aas_members_text.specs.Members.{has_stop, opening, closing}
 use Rattle.aas_members_text.specs.Script.{script, element_text, at_stop, more_text}
 use Rattle.aas_members_text.specs.declared.members.Show.{Show}
 use Rattle.aas_pour.specs.Poured.{voices, kids_at, if_row}
@@ -14,6 +15,14 @@ use Rattle.aas_pour.specs.declared.children.Sought.{Sought}
 use Rattle.aas_pour.specs.declared.children.Sought.TheVariants as sought
 
 -- ---- looking for children
+
+-- whether an element of this kind has children at some stop; at the stops 5, 4 and 3 the same kind has some
+abbrev pub has_stops : Payload → Bool
+has_stops p = ((has_stop 6 p || has_stop 3 p) || has_stop 2 p) || has_stop 1 p
+
+-- nothing is shown below an element, whatever stands there
+abbrev pub is_childless : Show → Line → Bool
+is_childless w r = not (nat_lt r.level w.cut && has_stops r.payload)
 
 -- the rows from a rank on up to another all stand deeper than the level k
 pub record AreBelow (rows : List Line) (k from to : ℕ) : Type 0 where

@@ -1,8 +1,8 @@
 // Elements below which nothing is shown.
-ghost use Rattle.std.specs.Prelude.{◌≡◌, ℕ, List, [], false, true};
-ghost use Rattle.aas_members_text.specs.Members.{has_stop};
-ghost use Rattle.aas_members_text.specs.Script.{Spoken, at_stop, script};
+ghost use Rattle.std.specs.Prelude.{◌≡◌, List, true};
+ghost use Rattle.aas_members_text.specs.Script.{Spoken, script};
 ghost use Rattle.aas_out.specs.Adds.{Adds};
+ghost use Rattle.aas_pour.specs.Walk.{has_stops, is_childless};
 ghost use Rattle.aas_rows.specs.Views.{line_of};
 
 use crate::stops::has_stop;
@@ -13,14 +13,14 @@ use aas_rows::RowView;
 
 /// Whether nothing is shown below the element of this row, whatever stands there.
 pub(crate) fn is_childless(show: Show, row: &RowView<'_>) -> bool
-    ensures { result ≡ true → (j : ℕ) (children : List Spoken) → at_stop show (line_of row.now) j children ≡ [] }
+    ensures { result ≡ is_childless show (line_of row.now) }
 {
     show.cut <= u64::from(row.level) || !has_any_stop(row.payload)
 }
 
 /// Whether an element of this kind has children at some stop.
 fn has_any_stop(payload: &Payload) -> bool
-    ensures { result ≡ false → (j : ℕ) → has_stop j payload.now ≡ false }
+    ensures { result ≡ has_stops payload.now }
 {
     has_stop(6, payload) | has_stop(3, payload) | has_stop(2, payload) | has_stop(1, payload)
 }
@@ -34,7 +34,7 @@ pub(crate) fn put_childless<M: Members, O: Out>(
     later: bool,
     out: &mut O,
 ) -> Pouring
-    requires none { (j : ℕ) (children : List Spoken) → at_stop show (line_of row.now) j children ≡ [] }
+    requires childless { is_childless show (line_of row.now) ≡ true }
     ensures { (children : List Spoken) → Adds so_far result (O.told out.old) (O.told out.new) (script show (line_of row.now) children 6 later) }
 {
     let mut pen = Pen {

@@ -1,6 +1,6 @@
 use Rattle.std.proofs.Common.{◌-◌, arith}
 use Rattle.aas_rows.specs.Views.{line_of}
-use Rattle.aas_pour.proofs.Bare.{begun_first, begun_last, begun_more}
+use Rattle.aas_pour.proofs.Bare.{begun_first, begun_last, begun_more, childless_shown}
 use Rattle.aas_pour.proofs.childless.put_childless.Goals as goal
 
 pub loop-next-init : goal.loop-next-init
@@ -9,7 +9,7 @@ loop-next-init g c = begun_first c.args.show (line_of c.args.row.now) c.args.lat
 pub loop-next-preserved : goal.loop-next-preserved
 loop-next-preserved g c =
     begun_more c.args.show (line_of c.args.row.now) c.args.later c.loop-next.next (c.loop-next.next - 1) c.loop-next.pen.later c.put_part-pen.result.later c.args.so_far c.loop-next.pen.state c.put_part-pen.result.state
-    (g.O.Out.told c.args.out.now) (g.O.Out.told c.loop-next.out) (g.O.Out.told c.put_part-pen.new.out) c.requires.none (omega (arith, c.loop-next-test.true)) c.loop-next.invariant c.put_part-pen.ensures.text c.put_part-pen.ensures.later
+    (g.O.Out.told c.args.out.now) (g.O.Out.told c.loop-next.out) (g.O.Out.told c.put_part-pen.new.out) (childless_shown c.args.show (line_of c.args.row.now) c.requires.childless) (omega (arith, c.loop-next-test.true)) c.loop-next.invariant c.put_part-pen.ensures.text c.put_part-pen.ensures.later
 
 pub returns : goal.returns
 returns g c vs =
