@@ -1,5 +1,5 @@
-// Texts with many elements, which a line doesn't spell. The column `capabilities` says how many Capabilities stand where a text has `@`: the
-// canonical texts of `c0`, `c1` and so on, with commas between them.
+// Texts with many elements, which a line doesn't spell. The column `capabilities` says how many Capabilities stand
+// where a text has `@`: the canonical texts of `c0`, `c1` and so on, with commas between them.
 use crate::columns::{column, number_of};
 use crate::not_run::NotRun;
 use std::alloc::Global;

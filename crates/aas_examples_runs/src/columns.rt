@@ -1,5 +1,6 @@
-// The further columns of an example. Each is `NAME=VALUE`, with tabs between them. `disk.rt` says what those of the disk mean, `runs.rt` those of
-// the console, `fronts.rt` what `ends` means, and `capabilities.rt` what `capabilities` means.
+// The further columns of an example. Each is `NAME=VALUE`, with tabs between them. `disk.rt` says what those of the
+// disk mean, `runs.rt` those of the console, `fronts.rt` what `ends` means, and `capabilities.rt` what `capabilities`
+// means.
 use crate::not_run::NotRun;
 use std::alloc::Global;
 

@@ -1,6 +1,7 @@
 // The disk of an example. These columns are on it:
 //
-// - `files`: what the three files hold before the run. Without it, what `init` leaves. `empty`: nothing. `left`: what the example before left.
+// - `files`: what the three files hold before the run. Without it, what `init` leaves. `empty`: nothing. `left`: what
+//   the example before left.
 //   `old`, `new`, `ones`: what such a crash leaves after the example before; then several examples may begin with what the same one left.
 // - `main`, `spare`, `selector`: what this file holds, in hexadecimal.
 // - `fails`: the numbers of the disk's calls that fail, with commas between them. `stop`: that of the call from which on all fail.

@@ -1,5 +1,6 @@
-// The fronts of an example's input, of which each is the input of a run of its own. The column `ends` says where each request ends in the input, and
-// its reply in what the console gets: `ends=86:114,172:264`. To a front those requests are answered that are whole, and a rest is a bad request.
+// The fronts of an example's input, of which each is the input of a run of its own. The column `ends` says where each
+// request ends in the input, and its reply in what the console gets: `ends=86:114,172:264`. To a front those requests
+// are answered that are whole, and a rest is a bad request.
 use crate::columns::{column, number_of};
 use crate::example::Example;
 use crate::not_run::NotRun;

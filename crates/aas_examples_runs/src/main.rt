@@ -1,9 +1,12 @@
-//! Worked examples of whole runs. Each line of the input is an example: the words of the command line, the status, what the console gets and what
-//! it is given, with tabs between them; the last two are JSON strings. Further columns say what its disk begins with, which of its calls fail and
-//! what the run leaves (`disk.rt`), which calls of the console fail (`runs.rt`), and that each front of the input is run too (`fronts.rt`). Each is
-//! run with its bytes in pieces of three sizes. Those of `pipe`, `import` and `export` that don't fail are also run over the other store (`trees.rt`).
-//! Lines that begin with `row_mut` are of rows that a store lends (`rows.rt`). Printed are the examples that give something else, and how many there
-//! are in all.
+//! Worked examples of whole runs. Each line of the input is an example: the words of the command line, the status,
+//! what the console gets and what it is given, with tabs between them; the last two are JSON strings. Further columns
+//! say what its disk begins with, which of its calls fail and what the run leaves (`disk.rt`), which calls of the
+//! console fail (`runs.rt`), and that each front of the input is run too (`fronts.rt`). Each is run with its bytes in
+//! pieces of three sizes. Those of `pipe`, `import` and `export` that don't fail are also run over the other store
+//! (`trees.rt`). Lines that begin with `row_mut` are of rows that a store lends (`rows.rt`). Printed are the examples
+//! that give something else, and how many there are in all.
+//!
+//! No definition and no rule stands here.
 
 #![tactic(auto)]
 

@@ -34,8 +34,8 @@ struct Outcome {
     disk: MemDisk,
 }
 
-/// What the example gives over trees, behind one that left a disk, where that isn't what is expected. An example that fails, or of another command,
-/// isn't run.
+/// What the example gives over trees, behind one that left a disk, where that isn't what is expected. An example that
+/// fails, or of another command, isn't run.
 pub(crate) fn failure(
     alloc: Global,
     example: &Example<'_>,
