@@ -101,7 +101,3 @@ module _ {X : Type 0} (sent : X → Option (List ℕ)) (faults : X → ℕ) (lef
   -- what is told of a link and of what is held for it
   abbrev pub told_of : MutBor X → List ℕ → Told LinkKept
   told_of link held = holding_told (sent link.now) held (faults link.now) (link_kept link.ghost_name (left link.now) (around link.now))
-
-  -- an end that didn't change before
-  pub put_from : {T E : Type 0} (result : Result T E) (a b : MutBor X) (h k bytes : List ℕ) (now : Told LinkKept) → a ≡ b → h ≡ k → Puts (told_of a h) now result bytes → Puts (told_of b k) now result bytes
-  put_from result a b h k bytes now e f p = subst (λ t. Puts t now result bytes) (ap₂ told_of e f) p

@@ -2,7 +2,7 @@
 ghost use Rattle.std.specs.Prelude.{◌≡◌, ◌≤◌, ◌+◌, [], ◌++◌, length, true, OnOk, if◌then◌else◌};
 ghost use Rattle.std.specs.Io.KnownBytes.{append_known};
 ghost use Rattle.aas_outside.specs.Faults.{HasCause};
-ghost use Rattle.aas_out.specs.Told.{Grows};
+ghost use Rattle.aas_out.specs.Told.{Grows, Puts};
 
 use crate::Out;
 use aas_outside::{Failed, Link, give_all};
@@ -43,6 +43,7 @@ pub struct BufferOut<'a, L: Link> {
 
 impl<'a, L: Link> BufferOut<'a, L> {
     ghost use Rattle.aas_out.specs.Held.{held_by, HoldsNothing};
+    ghost use Rattle.aas_out.specs.LinkTold.{told_by};
 
     /// Nothing is held yet: what the buffer had is forgotten.
     pub fn new(link: &'a mut L, buffer: &'a mut PieceBuffer) -> BufferOut<'a, L>
@@ -77,7 +78,7 @@ impl<'a, L: Link> BufferOut<'a, L> {
     }
 
     /// Holds `bytes` too, where there is room for them.
-    #[inline]
+    #[inline(always)]
     fn hold(&mut self, bytes: &[u8]) -> bool
         ensures link { self.new.link ≡ self.old.link }
         ensures held { held_by self.new ≡ (if result then held_by self.old ++ bytes.now else held_by self.old) }
@@ -88,25 +89,33 @@ impl<'a, L: Link> BufferOut<'a, L> {
         }
         self.held.try_extend_from_slice(bytes).is_ok()
     }
-}
 
-impl<'a, L: Link> Out for BufferOut<'a, L> {
-    ghost use Rattle.aas_out.specs.Held.{held_by};
-    ghost use Rattle.aas_out.specs.LinkTold.{LinkKept, link_kept, holding_told};
-
-    ghost Kept = { LinkKept };
-
-    ghost told = { λ out. holding_told (L.sent out.link.now) (held_by out) (L.faults out.link.now)
-        (link_kept out.link.ghost_name (L.left out.link.now) (L.surroundings out.link.now)) };
-
-    fn put(&mut self, bytes: &[u8]) -> Result<(), Failed> {
-        if self.hold(bytes) {
-            return Ok(());
-        }
+    /// Gives the link what is held, and then holds `bytes`, or gives it these too where they are more than may be held.
+    #[cold]
+    #[inline(never)]
+    fn put_past(&mut self, bytes: &[u8]) -> Result<(), Failed>
+        ensures { Puts (told_by L.sent L.faults L.left L.surroundings self.old) (told_by L.sent L.faults L.left L.surroundings self.new) result bytes.now }
+    {
         self.flush()?;
         if self.hold(bytes) {
             return Ok(());
         }
         give_all(self.link, bytes)
+    }
+}
+
+impl<'a, L: Link> Out for BufferOut<'a, L> {
+    ghost use Rattle.aas_out.specs.LinkTold.{LinkKept, told_by};
+
+    ghost Kept = { LinkKept };
+
+    ghost told = { told_by L.sent L.faults L.left L.surroundings };
+
+    #[inline(always)]
+    fn put(&mut self, bytes: &[u8]) -> Result<(), Failed> {
+        if self.hold(bytes) {
+            return Ok(());
+        }
+        self.put_past(bytes)
     }
 }

@@ -49,6 +49,7 @@ impl Out for CountOut {
 
     ghost told = { counted };
 
+    #[inline(always)]
     fn put(&mut self, bytes: &[u8]) -> Result<(), Failed>
         ensures put { Puts (counted self.old) (counted self.new) result bytes.now }
         ensures never { IsOk result }

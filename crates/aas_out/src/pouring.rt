@@ -25,7 +25,7 @@ impl Pouring {
 }
 
 /// Puts `bytes` where the pouring goes on.
-#[inline]
+#[inline(always)]
 #[tactic(auto, unfolding(crate::specs::Adds::Adds))]
 pub fn add<O: Out>(so_far: Pouring, bytes: &[u8], out: &mut O) -> Pouring
     ensures { Adds so_far result (O.told out.old) (O.told out.new) bytes.now }
