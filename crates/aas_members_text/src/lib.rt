@@ -14,6 +14,7 @@ mod members;
 mod own;
 mod parts;
 mod pen;
+mod plain;
 mod poured;
 mod quoted;
 mod references;

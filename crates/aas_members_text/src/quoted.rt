@@ -1,12 +1,14 @@
 // Texts as JSON strings (RFC 8259, section 7), with the shortest escapes.
-ghost use Rattle.std.specs.Prelude.{◌≡◌, ◌<◌, ◌≤◌, ◌∷◌, [], false, take, length};
+ghost use Rattle.std.specs.Prelude.{◌≡◌, ◌<◌, ◌≤◌, take, length};
 ghost use Rattle.std.specs.Char.{digit_char};
 ghost use Rattle.json.specs.Print.{quoted, escape, escape_byte};
 ghost use Rattle.aas_out.specs.Adds.{Adds};
 
+use crate::plain::{count_plain, is_plain};
 use aas_out::{Out, Pouring, add};
 
 /// Puts a text as a JSON string.
+#[inline]
 pub(crate) fn add_quoted<O: Out>(so_far: Pouring, text: &str, out: &mut O) -> Pouring
     ensures { Adds so_far result (O.told out.old) (O.told out.new) (quoted text.now) }
 {
@@ -15,8 +17,20 @@ pub(crate) fn add_quoted<O: Out>(so_far: Pouring, text: &str, out: &mut O) -> Po
     add(escaped, b"\"", out)
 }
 
-/// Puts what stands between the quotes.
+/// Puts what stands between the quotes: nearly all texts need no escape, and are put at once.
+#[inline]
 pub(crate) fn add_escaped<O: Out>(so_far: Pouring, bytes: &[u8], out: &mut O) -> Pouring
+    ensures { Adds so_far result (O.told out.old) (O.told out.new) (escape bytes.now) }
+{
+    if is_plain(bytes) {
+        return add(so_far, bytes, out);
+    }
+    add_in_pieces(so_far, bytes, out)
+}
+
+/// Puts a text that may need escapes.
+#[inline(never)]
+fn add_in_pieces<O: Out>(so_far: Pouring, bytes: &[u8], out: &mut O) -> Pouring
     ensures { Adds so_far result (O.told out.old) (O.told out.new) (escape bytes.now) }
 {
     let mut state = so_far;
@@ -54,27 +68,6 @@ fn add_piece<O: Out>(so_far: Pouring, bytes: &[u8], out: &mut O) -> Piece
         state: add(so_far, &bytes[..plain], out),
         length: plain,
     }
-}
-
-/// How many bytes at the front stand for themselves.
-fn count_plain(bytes: &[u8]) -> usize
-    ensures within { result ≤ length bytes.now }
-    ensures plain { escape (take result bytes.now) ≡ take result bytes.now }
-{
-    for (i, byte) in bytes.iter().enumerate() {
-        if is_escaped(*byte) {
-            return i;
-        }
-    }
-    bytes.len()
-}
-
-/// Whether a byte doesn't stand for itself. Small letters, which are most, are told by one comparison.
-#[tactic(auto, unfolding(json::specs::Print::escape_byte))]
-fn is_escaped(byte: u8) -> bool
-    ensures { result ≡ false → escape_byte byte ≡ byte ∷ [] }
-{
-    byte <= b'\\' && (byte < 32 || byte == b'"' || byte == b'\\')
 }
 
 fn add_escape<O: Out>(so_far: Pouring, byte: u8, out: &mut O) -> Pouring

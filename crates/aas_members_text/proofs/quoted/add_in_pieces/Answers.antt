@@ -2,7 +2,7 @@ use Rattle.std.proofs.Common.{List, ℕ, take, drop, subst}
 use Rattle.json.specs.Print.{escape}
 use Rattle.aas_members_text.proofs.Putting.{Front, front_more, front_none}
 use Rattle.aas_members_text.proofs.Quoting.{behind, escape_parts}
-use Rattle.aas_members_text.proofs.quoted.add_escaped.Goals as goal
+use Rattle.aas_members_text.proofs.quoted.add_in_pieces.Goals as goal
 
 pub loop-rest-init : goal.loop-rest-init
 loop-rest-init g c = front_none c.args.so_far (g.O.Out.told c.args.out.now) (escape c.args.bytes.now)
