@@ -7,7 +7,6 @@ ghost use Rattle.json.specs.Written.{PlainBetween};
 use std::simd::prelude::*;
 
 /// Whether a text needs no escape.
-#[inline]
 pub(crate) fn is_plain(text: &[u8]) -> bool
     ensures { OnTrue result (escape text.now ≡ text.now) }
 {
