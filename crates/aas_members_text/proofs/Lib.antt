@@ -1,6 +1,7 @@
 pub mod Covered
 pub mod Fields
 pub mod Heads
+pub mod Keys
 pub mod Lacking
 pub mod Level
 pub mod OneLevel

@@ -34,10 +34,6 @@ name_put later s m t r a b c d name opening bytes opened same h g k =
     (ap₂ (λ x y. x ++ (escape y ++ 34 ∷ 58 ∷ [])) opened same ∙ append_assoc (comma_if later) (34 ∷ []) (escape name ++ 34 ∷ 58 ∷ [])
     ∙ ap (λ x. comma_if later ++ 34 ∷ x) (sym (append_assoc (escape name) (34 ∷ []) (58 ∷ []))))
 
--- what was put of a name that is plain is its escaped form
-pub name_plain : {K : Type 0} (s r : Pouring) (a b : Told K) (name bytes : List ℕ) → bytes ≡ name → escape name ≡ name → Adds s r a b bytes → Adds s r a b (escape bytes)
-name_plain s r a b name bytes same plain h = adds_same s r a b bytes (escape bytes) h (same ∙ sym plain ∙ ap escape (sym same))
-
 -- ---- members
 
 -- a member's name, and then its value
@@ -51,34 +47,6 @@ put_value later s m r a b c n v h g = record {
     joined : (comma_if later ++ (quoted n ++ 58 ∷ [])) ++ v ≡ (comma_if later ++ (quoted n ++ 58 ∷ v)) ++ []
     joined =
         append_assoc (comma_if later) (quoted n ++ 58 ∷ []) v ∙ ap (λ t. comma_if later ++ t) (append_assoc (quoted n) (58 ∷ []) v) ∙ sym (append-nil (comma_if later ++ (quoted n ++ 58 ∷ v)))
-
--- a member whose value is a string
-pub string_put : {K : Type 0} (later : Bool) (s m t u w r : Pouring) (a b c d e f : Told K) (name value opening bytes text : List ℕ)
-    → opening ≡ comma_if later ++ 34 ∷ [] → bytes ≡ name → text ≡ value
-    → Adds s m a b opening → Adds m t b c (escape bytes) → Adds t u c d (34 ∷ 58 ∷ 34 ∷ []) → Adds u w d e (escape text) → Adds w r e f (34 ∷ [])
-    → PutsFields (record { state = s; later = later }) (record { state = r; later = true }) a f ((name, Some (quoted value)) ∷ [])
-string_put later s m t u w r a b c d e f name value opening bytes text opened named valued h g k i j = record {
-  text = adds_same s r a f _ _ whole joined;
-  later = refl;
-}
-  where
-    closed : Adds u r d f (escape text ++ 34 ∷ [])
-    closed = adds_both u w r d e f (escape text) (34 ∷ []) i j
-
-    between : Adds t r c f (34 ∷ 58 ∷ 34 ∷ (escape text ++ 34 ∷ []))
-    between = adds_both t u r c d f (34 ∷ 58 ∷ 34 ∷ []) (escape text ++ 34 ∷ []) k closed
-
-    whole : Adds s r a f (opening ++ (escape bytes ++ 34 ∷ 58 ∷ 34 ∷ (escape text ++ 34 ∷ [])))
-    whole = adds_both s m r a b f opening _ h (adds_both m t r b c f (escape bytes) _ g between)
-
-    told : opening ++ (escape bytes ++ 34 ∷ 58 ∷ 34 ∷ (escape text ++ 34 ∷ [])) ≡ (comma_if later ++ 34 ∷ []) ++ (escape name ++ 34 ∷ 58 ∷ quoted value)
-    told = ap₂ (λ x y. x ++ y) opened (ap₂ (λ x y. escape x ++ 34 ∷ 58 ∷ 34 ∷ (escape y ++ 34 ∷ [])) named valued)
-
-    joined : opening ++ (escape bytes ++ 34 ∷ 58 ∷ 34 ∷ (escape text ++ 34 ∷ [])) ≡ (comma_if later ++ (quoted name ++ 58 ∷ quoted value)) ++ []
-    joined =
-        told ∙ append_assoc (comma_if later) (34 ∷ []) (escape name ++ 34 ∷ 58 ∷ quoted value)
-        ∙ ap (λ x. comma_if later ++ 34 ∷ x) (sym (append_assoc (escape name) (34 ∷ []) (58 ∷ quoted value)))
-        ∙ sym (append-nil (comma_if later ++ (quoted name ++ 58 ∷ quoted value)))
 
 -- a member that isn't there
 pub put_none : {K : Type 0} (p : Pen) (a : Told K) (n : List ℕ) → PutsFields p p a a ((n, None) ∷ [])

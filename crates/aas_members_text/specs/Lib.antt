@@ -1,4 +1,5 @@
 pub mod Heads
+pub mod Keys
 pub mod Members
 pub mod Puts
 pub mod Script

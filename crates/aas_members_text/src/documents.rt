@@ -9,6 +9,7 @@ ghost use Rattle.aas_members_text.specs.Puts.{BeginsObject, PutsFields};
 ghost use Rattle.aas_out.specs.Adds.{Adds};
 
 use crate::kept::Plains;
+use crate::key;
 use crate::members::Pen;
 use crate::pen::{
     begin_object, end_object, put_list, put_one, put_optional, put_optional_word, put_string,
@@ -20,7 +21,6 @@ use aas_json_parts::{
     Administrations, AssetInformations, Extensions, LangTexts, Qualifiers, Resources,
     SpecificAssetIds,
 };
-use aas_json_table::name;
 use aas_model::{Administration, AssetInformation, Concept, Head, Resource, Shell, Submodel};
 use aas_out::{Out, Pouring};
 use aas_reference::References;
@@ -34,32 +34,27 @@ impl Poured for Administrations {
         let begun = begin_object(so_far, out);
         let creator = put_optional::<References, O>(
             begun,
-            name::CREATOR,
+            key::CREATOR,
             &administration.creator,
             out,
         );
         let specifications = &administration.embedded_data_specifications;
         let kept = put_list::<Plains, O>(
             creator,
-            name::EMBEDDED_DATA_SPECIFICATIONS,
+            key::EMBEDDED_DATA_SPECIFICATIONS,
             specifications,
             out,
         );
-        let revision = put_optional::<Texts, O>(
-            kept,
-            name::REVISION,
-            &administration.revision,
-            out,
-        );
+        let revision = put_optional::<Texts, O>(kept, key::REVISION, &administration.revision, out);
         let template = put_optional::<Texts, O>(
             revision,
-            name::TEMPLATE_ID,
+            key::TEMPLATE_ID,
             &administration.template_id,
             out,
         );
         let version = put_optional::<Texts, O>(
             template,
-            name::VERSION,
+            key::VERSION,
             &administration.version,
             out,
         );
@@ -74,13 +69,8 @@ impl Poured for Resources {
 
     fn pour<O: Out>(so_far: Pouring, resource: &Resource, out: &mut O) -> Pouring {
         let begun = begin_object(so_far, out);
-        let typed = put_optional::<Texts, O>(
-            begun,
-            name::CONTENT_TYPE,
-            &resource.content_type,
-            out,
-        );
-        let placed = put_one::<Texts, O>(typed, name::PATH, &resource.path, out);
+        let typed = put_optional::<Texts, O>(begun, key::CONTENT_TYPE, &resource.content_type, out);
+        let placed = put_one::<Texts, O>(typed, key::PATH, &resource.path, out);
         end_object(placed, out)
     }
 }
@@ -92,20 +82,20 @@ impl Poured for AssetInformations {
 
     fn pour<O: Out>(so_far: Pouring, asset: &AssetInformation, out: &mut O) -> Pouring {
         let begun = begin_object(so_far, out);
-        let kind = put_word(begun, name::ASSET_KIND, asset.asset_kind, out);
-        let typed = put_optional::<Texts, O>(kind, name::ASSET_TYPE, &asset.asset_type, out);
+        let kind = put_word(begun, key::ASSET_KIND, asset.asset_kind, out);
+        let typed = put_optional::<Texts, O>(kind, key::ASSET_TYPE, &asset.asset_type, out);
         let thumbnail = &asset.default_thumbnail;
-        let shown = put_optional::<Resources, O>(typed, name::DEFAULT_THUMBNAIL, thumbnail, out);
+        let shown = put_optional::<Resources, O>(typed, key::DEFAULT_THUMBNAIL, thumbnail, out);
         let global = put_optional::<Texts, O>(
             shown,
-            name::GLOBAL_ASSET_ID,
+            key::GLOBAL_ASSET_ID,
             &asset.global_asset_id,
             out,
         );
         let specific_ids = &asset.specific_asset_ids;
         let specific = put_list::<SpecificAssetIds, O>(
             global,
-            name::SPECIFIC_ASSET_IDS,
+            key::SPECIFIC_ASSET_IDS,
             specific_ids,
             out,
         );
@@ -147,26 +137,26 @@ pub fn pour_shell<O: Out>(so_far: Pouring, shell: &Shell, out: &mut O) -> Pourin
     let administration = &shell.head.administration;
     let administered = put_optional::<Administrations, O>(
         begun,
-        name::ADMINISTRATION,
+        key::ADMINISTRATION,
         administration,
         out,
     );
     let asset = put_one::<AssetInformations, O>(
         administered,
-        name::ASSET_INFORMATION,
+        key::ASSET_INFORMATION,
         &shell.asset,
         out,
     );
-    let category = put_optional::<Texts, O>(asset, name::CATEGORY, &shell.head.category, out);
+    let category = put_optional::<Texts, O>(asset, key::CATEGORY, &shell.head.category, out);
     let derived = put_optional::<References, O>(
         category,
-        name::DERIVED_FROM,
+        key::DERIVED_FROM,
         &shell.derived_from,
         out,
     );
     let described = put_described(derived, &shell.head, out);
-    let typed = put_string(described, name::MODEL_TYPE, "AssetAdministrationShell", out);
-    let submodels = put_list::<References, O>(typed, name::SUBMODELS, &shell.submodels, out);
+    let typed = put_string(described, key::MODEL_TYPE, "AssetAdministrationShell", out);
+    let submodels = put_list::<References, O>(typed, key::SUBMODELS, &shell.submodels, out);
     end_object(submodels, out)
 }
 
@@ -178,19 +168,19 @@ pub fn pour_concept<O: Out>(so_far: Pouring, concept: &Concept, out: &mut O) -> 
     let administration = &concept.head.administration;
     let administered = put_optional::<Administrations, O>(
         begun,
-        name::ADMINISTRATION,
+        key::ADMINISTRATION,
         administration,
         out,
     );
     let category = put_optional::<Texts, O>(
         administered,
-        name::CATEGORY,
+        key::CATEGORY,
         &concept.head.category,
         out,
     );
     let described = put_described(category, &concept.head, out);
-    let cases = put_list::<References, O>(described, name::IS_CASE_OF, &concept.is_case_of, out);
-    let typed = put_string(cases, name::MODEL_TYPE, "ConceptDescription", out);
+    let cases = put_list::<References, O>(described, key::IS_CASE_OF, &concept.is_case_of, out);
+    let typed = put_string(cases, key::MODEL_TYPE, "ConceptDescription", out);
     end_object(typed, out)
 }
 
@@ -202,22 +192,22 @@ pub fn begin_submodel<O: Out>(so_far: Pouring, submodel: &Submodel, out: &mut O)
     let administration = &submodel.head.administration;
     let administered = put_optional::<Administrations, O>(
         begun,
-        name::ADMINISTRATION,
+        key::ADMINISTRATION,
         administration,
         out,
     );
     let category = put_optional::<Texts, O>(
         administered,
-        name::CATEGORY,
+        key::CATEGORY,
         &submodel.head.category,
         out,
     );
     let described = put_described(category, &submodel.head, out);
-    let kind = put_optional_word(described, name::KIND, submodel.kind, out);
-    let typed = put_string(kind, name::MODEL_TYPE, "Submodel", out);
-    let qualified = put_list::<Qualifiers, O>(typed, name::QUALIFIERS, &submodel.qualifiers, out);
+    let kind = put_optional_word(described, key::KIND, submodel.kind, out);
+    let typed = put_string(kind, key::MODEL_TYPE, "Submodel", out);
+    let qualified = put_list::<Qualifiers, O>(typed, key::QUALIFIERS, &submodel.qualifiers, out);
     let semantic_id = &submodel.semantics.semantic_id;
-    put_optional::<References, O>(qualified, name::SEMANTIC_ID, semantic_id, out)
+    put_optional::<References, O>(qualified, key::SEMANTIC_ID, semantic_id, out)
 }
 
 /// Puts what stands behind the elements of a submodel, and ends it.
@@ -225,7 +215,7 @@ pub fn end_submodel<O: Out>(pen: Pen, submodel: &Submodel, out: &mut O) -> Pouri
     ensures { Adds pen.state result (O.told out.old) (O.told out.new) (fields_text pen.later (submodel_fields submodel.now names_behind) ++ 125 ∷ []) }
 {
     let supplemental = &submodel.semantics.supplemental_semantic_ids;
-    let meant = put_list::<References, O>(pen, name::SUPPLEMENTAL_SEMANTIC_IDS, supplemental, out);
+    let meant = put_list::<References, O>(pen, key::SUPPLEMENTAL_SEMANTIC_IDS, supplemental, out);
     end_object(meant, out)
 }
 
@@ -233,21 +223,16 @@ pub fn end_submodel<O: Out>(pen: Pen, submodel: &Submodel, out: &mut O) -> Pouri
 fn put_described<O: Out>(pen: Pen, head: &Head, out: &mut O) -> Pen
     ensures { PutsFields pen result (O.told out.old) (O.told out.new) (head_fields head.now described_names) }
 {
-    let description = put_list::<LangTexts, O>(pen, name::DESCRIPTION, &head.description, out);
-    let display = put_list::<LangTexts, O>(
-        description,
-        name::DISPLAY_NAME,
-        &head.display_name,
-        out,
-    );
+    let description = put_list::<LangTexts, O>(pen, key::DESCRIPTION, &head.description, out);
+    let display = put_list::<LangTexts, O>(description, key::DISPLAY_NAME, &head.display_name, out);
     let specifications = &head.embedded_data_specifications;
     let kept = put_list::<Plains, O>(
         display,
-        name::EMBEDDED_DATA_SPECIFICATIONS,
+        key::EMBEDDED_DATA_SPECIFICATIONS,
         specifications,
         out,
     );
-    let extensions = put_list::<Extensions, O>(kept, name::EXTENSIONS, &head.extensions, out);
-    let identified = put_one::<Texts, O>(extensions, name::ID, &head.id, out);
-    put_optional::<Texts, O>(identified, name::ID_SHORT, &head.id_short, out)
+    let extensions = put_list::<Extensions, O>(kept, key::EXTENSIONS, &head.extensions, out);
+    let identified = put_one::<Texts, O>(extensions, key::ID, &head.id, out);
+    put_optional::<Texts, O>(identified, key::ID_SHORT, &head.id_short, out)
 }

@@ -8,6 +8,7 @@ ghost use Rattle.aas_members_text.specs.Puts.{PutsFields, element_fields};
 ghost use Rattle.aas_rows.specs.Views.{line_of};
 
 use crate::kept::Plains;
+use crate::key;
 use crate::members::{Members, Pen, Show};
 use crate::own::{
     put_before_model_type, put_before_qualifiers, put_behind_semantic_id, put_content_type,
@@ -16,7 +17,6 @@ use crate::own::{
 use crate::pen::{put_list, put_optional, put_optional_str, put_word};
 use aas_json_members::Texts;
 use aas_json_parts::{Extensions, LangTexts, Qualifiers};
-use aas_json_table::name;
 use aas_model::Payload;
 use aas_out::{Out, Pouring};
 use aas_reference::References;
@@ -55,32 +55,22 @@ fn put_described<O: Out>(pen: Pen, row: &RowView<'_>, out: &mut O) -> Pen
     ensures { PutsFields pen result (O.told out.old) (O.told out.new) (element_fields (line_of row.now).common row.now.payload.now (names 5)) }
 {
     let common = row.common;
-    let category = put_optional::<Texts, O>(pen, name::CATEGORY, &common.category, out);
+    let category = put_optional::<Texts, O>(pen, key::CATEGORY, &common.category, out);
     let content = put_content_type(category, row.payload, out);
-    let description = put_list::<LangTexts, O>(
-        content,
-        name::DESCRIPTION,
-        &common.description,
-        out,
-    );
+    let description = put_list::<LangTexts, O>(content, key::DESCRIPTION, &common.description, out);
     let direction = put_direction(description, row.payload, out);
-    let display = put_list::<LangTexts, O>(
-        direction,
-        name::DISPLAY_NAME,
-        &common.display_name,
-        out,
-    );
+    let display = put_list::<LangTexts, O>(direction, key::DISPLAY_NAME, &common.display_name, out);
     let specifications = &common.embedded_data_specifications;
     let kept = put_list::<Plains, O>(
         display,
-        name::EMBEDDED_DATA_SPECIFICATIONS,
+        key::EMBEDDED_DATA_SPECIFICATIONS,
         specifications,
         out,
     );
     let entity = put_entity_type(kept, row.payload, out);
-    let extensions = put_list::<Extensions, O>(entity, name::EXTENSIONS, &common.extensions, out);
+    let extensions = put_list::<Extensions, O>(entity, key::EXTENSIONS, &common.extensions, out);
     let first = put_first(extensions, row.payload, out);
-    put_optional_str(first, name::ID_SHORT, row.id_short, out)
+    put_optional_str(first, key::ID_SHORT, row.id_short, out)
 }
 
 /// Puts the members from `lastUpdate` to `orderRelevant`.
@@ -95,7 +85,7 @@ fn put_typed<O: Out>(pen: Pen, row: &RowView<'_>, out: &mut O) -> Pen
 fn put_model_type<O: Out>(pen: Pen, payload: &Payload, out: &mut O) -> Pen
     ensures { PutsFields pen result (O.told out.old) (O.told out.new) ((codes "modelType", Some (compact_text (string (model_type_of payload.now)))) ∷ []) }
 {
-    put_word(pen, name::MODEL_TYPE, payload.kind(), out)
+    put_word(pen, key::MODEL_TYPE, payload.kind(), out)
 }
 
 /// Puts the members from `qualifiers` to `state`.
@@ -103,10 +93,10 @@ fn put_meant<O: Out>(pen: Pen, row: &RowView<'_>, out: &mut O) -> Pen
     ensures { PutsFields pen result (O.told out.old) (O.told out.new) (element_fields (line_of row.now).common row.now.payload.now (names 2)) }
 {
     let common = row.common;
-    let qualified = put_list::<Qualifiers, O>(pen, name::QUALIFIERS, &common.qualifiers, out);
+    let qualified = put_list::<Qualifiers, O>(pen, key::QUALIFIERS, &common.qualifiers, out);
     let second = put_second(qualified, row.payload, out);
     let semantic_id = &common.semantics.semantic_id;
-    let meant = put_optional::<References, O>(second, name::SEMANTIC_ID, semantic_id, out);
+    let meant = put_optional::<References, O>(second, key::SEMANTIC_ID, semantic_id, out);
     put_behind_semantic_id(meant, row.payload, out)
 }
 
@@ -115,6 +105,6 @@ fn put_supplemental<O: Out>(pen: Pen, row: &RowView<'_>, out: &mut O) -> Pen
     ensures { PutsFields pen result (O.told out.old) (O.told out.new) (element_fields (line_of row.now).common row.now.payload.now (names 1)) }
 {
     let supplemental = &row.common.semantics.supplemental_semantic_ids;
-    let meant = put_list::<References, O>(pen, name::SUPPLEMENTAL_SEMANTIC_IDS, supplemental, out);
+    let meant = put_list::<References, O>(pen, key::SUPPLEMENTAL_SEMANTIC_IDS, supplemental, out);
     put_list_type(meant, row.payload, out)
 }

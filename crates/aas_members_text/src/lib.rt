@@ -9,6 +9,8 @@
 mod documents;
 mod elements;
 mod kept;
+/// The text before a member's value, behind another member: a comma, the name in quotes, a colon.
+pub mod key;
 mod laws;
 mod members;
 mod own;

@@ -5,11 +5,11 @@ ghost use Rattle.aas_json_table.specs.Spelled.{text_of};
 ghost use Rattle.aas_members_text.specs.Members.{shown_payload};
 ghost use Rattle.aas_members_text.specs.Puts.{PutsFields, own_fields};
 
+use crate::key;
 use crate::members::Pen;
 use crate::pen::{put_list, put_optional, put_optional_flag, put_optional_word, put_word};
 use aas_json_members::Texts;
 use aas_json_parts::{LangTexts, SpecificAssetIds};
-use aas_json_table::name;
 use aas_model::{Payload, Text};
 use aas_out::Out;
 use aas_reference::References;
@@ -20,10 +20,10 @@ pub(crate) fn put_content_type<O: Out>(pen: Pen, payload: &Payload, out: &mut O)
 {
     match payload {
         Payload::File { content_type, .. } => {
-            put_optional::<Texts, O>(pen, name::CONTENT_TYPE, content_type, out)
+            put_optional::<Texts, O>(pen, key::CONTENT_TYPE, content_type, out)
         },
         Payload::Blob { content_type, .. } => {
-            put_optional::<Texts, O>(pen, name::CONTENT_TYPE, content_type, out)
+            put_optional::<Texts, O>(pen, key::CONTENT_TYPE, content_type, out)
         },
         _ => pen,
     }
@@ -35,7 +35,7 @@ pub(crate) fn put_direction<O: Out>(pen: Pen, payload: &Payload, out: &mut O) ->
 {
     match payload {
         Payload::BasicEventElement { direction, .. } => {
-            put_word(pen, name::DIRECTION, *direction, out)
+            put_word(pen, key::DIRECTION, *direction, out)
         },
         _ => pen,
     }
@@ -47,7 +47,7 @@ pub(crate) fn put_entity_type<O: Out>(pen: Pen, payload: &Payload, out: &mut O) 
 {
     match payload {
         Payload::Entity { entity_type, .. } => {
-            put_optional_word(pen, name::ENTITY_TYPE, *entity_type, out)
+            put_optional_word(pen, key::ENTITY_TYPE, *entity_type, out)
         },
         _ => pen,
     }
@@ -59,15 +59,15 @@ pub(crate) fn put_first<O: Out>(pen: Pen, payload: &Payload, out: &mut O) -> Pen
 {
     match payload {
         Payload::RelationshipElement { first, .. } => {
-            put_optional::<References, O>(pen, name::FIRST, first, out)
+            put_optional::<References, O>(pen, key::FIRST, first, out)
         },
         Payload::AnnotatedRelationshipElement { first, .. } => {
-            put_optional::<References, O>(pen, name::FIRST, first, out)
+            put_optional::<References, O>(pen, key::FIRST, first, out)
         },
         Payload::Entity {
             global_asset_id,
             ..
-        } => { put_optional::<Texts, O>(pen, name::GLOBAL_ASSET_ID, global_asset_id, out) },
+        } => { put_optional::<Texts, O>(pen, key::GLOBAL_ASSET_ID, global_asset_id, out) },
         _ => pen,
     }
 }
@@ -85,20 +85,20 @@ pub(crate) fn put_before_model_type<O: Out>(pen: Pen, payload: &Payload, out: &m
             min_interval,
             ..
         } => {
-            let updated = put_optional::<Texts, O>(pen, name::LAST_UPDATE, last_update, out);
-            let longest = put_optional::<Texts, O>(updated, name::MAX_INTERVAL, max_interval, out);
+            let updated = put_optional::<Texts, O>(pen, key::LAST_UPDATE, last_update, out);
+            let longest = put_optional::<Texts, O>(updated, key::MAX_INTERVAL, max_interval, out);
             let broker = put_optional::<References, O>(
                 longest,
-                name::MESSAGE_BROKER,
+                key::MESSAGE_BROKER,
                 message_broker,
                 out,
             );
-            let topic = put_optional::<Texts, O>(broker, name::MESSAGE_TOPIC, message_topic, out);
-            put_optional::<Texts, O>(topic, name::MIN_INTERVAL, min_interval, out)
+            let topic = put_optional::<Texts, O>(broker, key::MESSAGE_TOPIC, message_topic, out);
+            put_optional::<Texts, O>(topic, key::MIN_INTERVAL, min_interval, out)
         },
         Payload::Range { min, max, .. } => {
-            let upper = put_optional::<Texts, O>(pen, name::MAX, max, out);
-            put_optional::<Texts, O>(upper, name::MIN, min, out)
+            let upper = put_optional::<Texts, O>(pen, key::MAX, max, out);
+            put_optional::<Texts, O>(upper, key::MIN, min, out)
         },
         _ => pen,
     }
@@ -110,10 +110,10 @@ pub(crate) fn put_before_qualifiers<O: Out>(pen: Pen, payload: &Payload, out: &m
 {
     match payload {
         Payload::BasicEventElement { observed, .. } => {
-            put_optional::<References, O>(pen, name::OBSERVED, observed, out)
+            put_optional::<References, O>(pen, key::OBSERVED, observed, out)
         },
         Payload::SubmodelElementList { order_relevant, .. } => {
-            put_optional_flag(pen, name::ORDER_RELEVANT, *order_relevant, out)
+            put_optional_flag(pen, key::ORDER_RELEVANT, *order_relevant, out)
         },
         _ => pen,
     }
@@ -125,10 +125,10 @@ pub(crate) fn put_second<O: Out>(pen: Pen, payload: &Payload, out: &mut O) -> Pe
 {
     match payload {
         Payload::RelationshipElement { second, .. } => {
-            put_optional::<References, O>(pen, name::SECOND, second, out)
+            put_optional::<References, O>(pen, key::SECOND, second, out)
         },
         Payload::AnnotatedRelationshipElement { second, .. } => {
-            put_optional::<References, O>(pen, name::SECOND, second, out)
+            put_optional::<References, O>(pen, key::SECOND, second, out)
         },
         _ => pen,
     }
@@ -145,7 +145,7 @@ pub(crate) fn put_behind_semantic_id<O: Out>(pen: Pen, payload: &Payload, out: &
         } => {
             put_optional::<References, O>(
                 pen,
-                name::SEMANTIC_ID_LIST_ELEMENT,
+                key::SEMANTIC_ID_LIST_ELEMENT,
                 semantic_id_list_element,
                 out,
             )
@@ -154,9 +154,9 @@ pub(crate) fn put_behind_semantic_id<O: Out>(pen: Pen, payload: &Payload, out: &
             specific_asset_ids,
             ..
         } => {
-            put_list::<SpecificAssetIds, O>(pen, name::SPECIFIC_ASSET_IDS, specific_asset_ids, out)
+            put_list::<SpecificAssetIds, O>(pen, key::SPECIFIC_ASSET_IDS, specific_asset_ids, out)
         },
-        Payload::BasicEventElement { state, .. } => put_word(pen, name::STATE, *state, out),
+        Payload::BasicEventElement { state, .. } => put_word(pen, key::STATE, *state, out),
         _ => pen,
     }
 }
@@ -172,7 +172,7 @@ pub(crate) fn put_list_type<O: Out>(pen: Pen, payload: &Payload, out: &mut O) ->
         } => {
             put_word(
                 pen,
-                name::TYPE_VALUE_LIST_ELEMENT,
+                key::TYPE_VALUE_LIST_ELEMENT,
                 *type_value_list_element,
                 out,
             )
@@ -191,19 +191,19 @@ pub(crate) fn put_value<O: Out>(pen: Pen, blobs: bool, payload: &Payload, out: &
             value_id,
             value_type,
         } => {
-            let valued = put_optional::<Texts, O>(pen, name::VALUE, value, out);
-            let referring = put_optional::<References, O>(valued, name::VALUE_ID, value_id, out);
-            put_word(referring, name::VALUE_TYPE, *value_type, out)
+            let valued = put_optional::<Texts, O>(pen, key::VALUE, value, out);
+            let referring = put_optional::<References, O>(valued, key::VALUE_ID, value_id, out);
+            put_word(referring, key::VALUE_TYPE, *value_type, out)
         },
         Payload::MultiLanguageProperty { value, value_id } => {
-            let valued = put_list::<LangTexts, O>(pen, name::VALUE, value, out);
-            put_optional::<References, O>(valued, name::VALUE_ID, value_id, out)
+            let valued = put_list::<LangTexts, O>(pen, key::VALUE, value, out);
+            put_optional::<References, O>(valued, key::VALUE_ID, value_id, out)
         },
-        Payload::Range { value_type, .. } => put_word(pen, name::VALUE_TYPE, *value_type, out),
-        Payload::File { value, .. } => put_optional::<Texts, O>(pen, name::VALUE, value, out),
+        Payload::Range { value_type, .. } => put_word(pen, key::VALUE_TYPE, *value_type, out),
+        Payload::File { value, .. } => put_optional::<Texts, O>(pen, key::VALUE, value, out),
         Payload::Blob { value, .. } => put_blob(pen, blobs, value, out),
         Payload::ReferenceElement { value } => {
-            put_optional::<References, O>(pen, name::VALUE, value, out)
+            put_optional::<References, O>(pen, key::VALUE, value, out)
         },
         Payload::SubmodelElementList {
             value_type_list_element,
@@ -211,7 +211,7 @@ pub(crate) fn put_value<O: Out>(pen: Pen, blobs: bool, payload: &Payload, out: &
         } => {
             put_optional_word(
                 pen,
-                name::VALUE_TYPE_LIST_ELEMENT,
+                key::VALUE_TYPE_LIST_ELEMENT,
                 *value_type_list_element,
                 out,
             )
@@ -225,7 +225,7 @@ fn put_blob<O: Out>(pen: Pen, blobs: bool, value: &Option<Text>, out: &mut O) ->
     ensures { PutsFields pen result (O.told out.old) (O.told out.new) ((codes "value", option_map compact_text (option_map text_of (if blobs then value.now else None))) ∷ []) }
 {
     if blobs {
-        put_optional::<Texts, O>(pen, name::VALUE, value, out)
+        put_optional::<Texts, O>(pen, key::VALUE, value, out)
     } else {
         pen
     }

@@ -4,6 +4,7 @@ ghost use Rattle.aas_json_table.specs.Spelled.{attribute};
 ghost use Rattle.aas_json_table.specs.Table.{has_semantics};
 ghost use Rattle.aas_members_text.specs.Puts.{PutsFields, fields_by};
 
+use crate::key;
 use crate::members::Pen;
 use crate::pen::{
     begin_object, end_object, put_list, put_one, put_optional, put_optional_word, put_word,
@@ -11,7 +12,6 @@ use crate::pen::{
 use crate::poured::Poured;
 use aas_json_members::Texts;
 use aas_json_parts::{Extensions, LangTexts, Qualifiers, SpecificAssetIds};
-use aas_json_table::name;
 use aas_model::{Extension, LangText, Qualifier, Semantics, SpecificAssetId};
 use aas_out::{Out, Pouring};
 use aas_reference::References;
@@ -23,8 +23,8 @@ impl Poured for LangTexts {
 
     fn pour<O: Out>(so_far: Pouring, lang_text: &LangText, out: &mut O) -> Pouring {
         let begun = begin_object(so_far, out);
-        let language = put_one::<Texts, O>(begun, name::LANGUAGE, &lang_text.language, out);
-        let text = put_one::<Texts, O>(language, name::TEXT, &lang_text.text, out);
+        let language = put_one::<Texts, O>(begun, key::LANGUAGE, &lang_text.language, out);
+        let text = put_one::<Texts, O>(language, key::TEXT, &lang_text.text, out);
         end_object(text, out)
     }
 }
@@ -36,12 +36,12 @@ impl Poured for Extensions {
 
     fn pour<O: Out>(so_far: Pouring, extension: &Extension, out: &mut O) -> Pouring {
         let begun = begin_object(so_far, out);
-        let named = put_one::<Texts, O>(begun, name::NAME, &extension.name, out);
+        let named = put_one::<Texts, O>(begun, key::NAME, &extension.name, out);
         let refers_to = &extension.refers_to;
-        let referring = put_list::<References, O>(named, name::REFERS_TO, refers_to, out);
+        let referring = put_list::<References, O>(named, key::REFERS_TO, refers_to, out);
         let meant = put_semantics(referring, &extension.semantics, out);
-        let valued = put_optional::<Texts, O>(meant, name::VALUE, &extension.value, out);
-        let typed = put_optional_word(valued, name::VALUE_TYPE, extension.value_type, out);
+        let valued = put_optional::<Texts, O>(meant, key::VALUE, &extension.value, out);
+        let typed = put_optional_word(valued, key::VALUE_TYPE, extension.value_type, out);
         end_object(typed, out)
     }
 }
@@ -53,13 +53,13 @@ impl Poured for Qualifiers {
 
     fn pour<O: Out>(so_far: Pouring, qualifier: &Qualifier, out: &mut O) -> Pouring {
         let begun = begin_object(so_far, out);
-        let kind = put_optional_word(begun, name::KIND, qualifier.kind, out);
+        let kind = put_optional_word(begun, key::KIND, qualifier.kind, out);
         let meant = put_semantics(kind, &qualifier.semantics, out);
-        let typed = put_one::<Texts, O>(meant, name::TYPE, &qualifier.qualifier_type, out);
-        let valued = put_optional::<Texts, O>(typed, name::VALUE, &qualifier.value, out);
+        let typed = put_one::<Texts, O>(meant, key::TYPE, &qualifier.qualifier_type, out);
+        let valued = put_optional::<Texts, O>(typed, key::VALUE, &qualifier.value, out);
         let value_id = &qualifier.value_id;
-        let referring = put_optional::<References, O>(valued, name::VALUE_ID, value_id, out);
-        let value_typed = put_word(referring, name::VALUE_TYPE, qualifier.value_type, out);
+        let referring = put_optional::<References, O>(valued, key::VALUE_ID, value_id, out);
+        let value_typed = put_word(referring, key::VALUE_TYPE, qualifier.value_type, out);
         end_object(value_typed, out)
     }
 }
@@ -74,13 +74,13 @@ impl Poured for SpecificAssetIds {
         let subject = &id.external_subject_id;
         let referring = put_optional::<References, O>(
             begun,
-            name::EXTERNAL_SUBJECT_ID,
+            key::EXTERNAL_SUBJECT_ID,
             subject,
             out,
         );
-        let named = put_one::<Texts, O>(referring, name::NAME, &id.name, out);
+        let named = put_one::<Texts, O>(referring, key::NAME, &id.name, out);
         let meant = put_semantics(named, &id.semantics, out);
-        let valued = put_one::<Texts, O>(meant, name::VALUE, &id.value, out);
+        let valued = put_one::<Texts, O>(meant, key::VALUE, &id.value, out);
         end_object(valued, out)
     }
 }
@@ -91,6 +91,6 @@ fn put_semantics<O: Out>(pen: Pen, semantics: &Semantics, out: &mut O) -> Pen
 {
     let semantic_id = &semantics.semantic_id;
     let supplemental = &semantics.supplemental_semantic_ids;
-    let meant = put_optional::<References, O>(pen, name::SEMANTIC_ID, semantic_id, out);
-    put_list::<References, O>(meant, name::SUPPLEMENTAL_SEMANTIC_IDS, supplemental, out)
+    let meant = put_optional::<References, O>(pen, key::SEMANTIC_ID, semantic_id, out);
+    put_list::<References, O>(meant, key::SUPPLEMENTAL_SEMANTIC_IDS, supplemental, out)
 }

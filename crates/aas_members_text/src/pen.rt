@@ -5,7 +5,7 @@ ghost use Rattle.json.specs.Print.{quoted};
 ghost use Rattle.serde_json.specs.Data.{boolean, string};
 ghost use Rattle.serde_json.specs.Written.{comma_if, compact_text};
 ghost use Rattle.aas_json_table.specs.Spelled.{list_of, text_of};
-ghost use Rattle.aas_members_text.specs.Members.{is_plain};
+ghost use Rattle.aas_members_text.specs.Keys.{is_key, name_in};
 ghost use Rattle.aas_members_text.specs.Puts.{BeginsObject, PutsFields};
 ghost use Rattle.aas_out.specs.Adds.{Adds};
 
@@ -33,20 +33,28 @@ pub fn end_object<O: Out>(pen: Pen, out: &mut O) -> Pouring
     add(pen.state, b"}", out)
 }
 
+/// A key as it stands in an object: with its comma where a member stands before it.
+#[inline]
+fn text_of_key(key: &[u8], later: bool) -> &[u8]
+    requires { is_key key.now ≡ true }
+    ensures { result.now ≡ comma_if later ++ (quoted (name_in key.now) ++ 58 ∷ []) }
+{
+    if later { key } else { &key[1..] }
+}
+
+/// Puts the name of a member, with a comma where a member stands before it.
+#[inline]
+pub(crate) fn add_key<O: Out>(pen: Pen, key: &[u8], out: &mut O) -> Pouring
+    requires { is_key key.now ≡ true }
+    ensures { Adds pen.state result (O.told out.old) (O.told out.new) (comma_if pen.later ++ (quoted (name_in key.now) ++ 58 ∷ [])) }
+{
+    add(pen.state, text_of_key(key, pen.later), out)
+}
+
 fn before_name(later: bool) -> &'static [u8]
     ensures { result.now ≡ comma_if later ++ 34 ∷ [] }
 {
     if later { b",\"" } else { b"\"" }
-}
-
-/// Puts the name of a member, with a comma where a member stands before it.
-pub(crate) fn add_name<O: Out>(pen: Pen, name: &str, out: &mut O) -> Pouring
-    requires plain { is_plain name.now ≡ true }
-    ensures { Adds pen.state result (O.told out.old) (O.told out.new) (comma_if pen.later ++ (quoted name.now ++ 58 ∷ [])) }
-{
-    let opened = add(pen.state, before_name(pen.later), out);
-    let named = add(opened, name.as_bytes(), out);
-    add(named, b"\":", out)
 }
 
 /// Puts a name that may have any characters, with a comma where a member stands before it.
@@ -59,14 +67,14 @@ pub(crate) fn add_any_name<O: Out>(pen: Pen, name: &str, out: &mut O) -> Pouring
 }
 
 /// Puts a member whose value is a string.
-pub(crate) fn put_string<O: Out>(pen: Pen, name: &str, value: &str, out: &mut O) -> Pen
-    requires plain { is_plain name.now ≡ true }
-    ensures { PutsFields pen result (O.told out.old) (O.told out.new) ((name.now, Some (compact_text (string value.now))) ∷ []) }
+#[inline]
+pub(crate) fn put_string<O: Out>(pen: Pen, key: &[u8], value: &str, out: &mut O) -> Pen
+    requires { is_key key.now ≡ true }
+    ensures { PutsFields pen result (O.told out.old) (O.told out.new) ((name_in key.now, Some (compact_text (string value.now))) ∷ []) }
 {
-    let opened = add(pen.state, before_name(pen.later), out);
-    let named = add(opened, name.as_bytes(), out);
-    let between = add(named, b"\":\"", out);
-    let valued = add_escaped(between, value.as_bytes(), out);
+    let named = add_key(pen, key, out);
+    let opened = add(named, b"\"", out);
+    let valued = add_escaped(opened, value.as_bytes(), out);
     Pen {
         state: add(valued, b"\"", out),
         later: true,
@@ -77,48 +85,49 @@ pub(crate) fn put_string<O: Out>(pen: Pen, name: &str, value: &str, out: &mut O)
 #[inline]
 pub(crate) fn put_optional_str<O: Out>(
     pen: Pen,
-    name: &str,
+    key: &[u8],
     value: Option<&str>,
     out: &mut O,
 ) -> Pen
-    requires plain { is_plain name.now ≡ true }
-    ensures { PutsFields pen result (O.told out.old) (O.told out.new) ((name.now, option_map compact_text (option_map text_of (option_map (λ s. chars s.now) value.entry))) ∷ []) }
+    requires { is_key key.now ≡ true }
+    ensures { PutsFields pen result (O.told out.old) (O.told out.new) ((name_in key.now, option_map compact_text (option_map text_of (option_map (λ s. chars s.now) value.entry))) ∷ []) }
 {
     match value {
-        Some(text) => put_characters(pen, name, text, out),
+        Some(text) => put_characters(pen, key, text, out),
         None => pen,
     }
 }
 
-fn put_characters<O: Out>(pen: Pen, name: &str, text: &str, out: &mut O) -> Pen
-    requires plain { is_plain name.now ≡ true }
-    ensures { PutsFields pen result (O.told out.old) (O.told out.new) ((name.now, Some (compact_text (text_of (chars text.now)))) ∷ []) }
+#[inline]
+fn put_characters<O: Out>(pen: Pen, key: &[u8], text: &str, out: &mut O) -> Pen
+    requires { is_key key.now ≡ true }
+    ensures { PutsFields pen result (O.told out.old) (O.told out.new) ((name_in key.now, Some (compact_text (text_of (chars text.now)))) ∷ []) }
 {
-    put_string(pen, name, text, out)
+    put_string(pen, key, text, out)
 }
 
 /// Puts a member whose value is the name of a value of an enumeration.
 #[inline]
-pub(crate) fn put_word<V: Named, O: Out>(pen: Pen, name: &str, value: V, out: &mut O) -> Pen
-    requires plain { is_plain name.now ≡ true }
-    ensures { PutsFields pen result (O.told out.old) (O.told out.new) ((name.now, Some (compact_text (string (V.name_of value)))) ∷ []) }
+pub(crate) fn put_word<V: Named, O: Out>(pen: Pen, key: &[u8], value: V, out: &mut O) -> Pen
+    requires { is_key key.now ≡ true }
+    ensures { PutsFields pen result (O.told out.old) (O.told out.new) ((name_in key.now, Some (compact_text (string (V.name_of value)))) ∷ []) }
 {
-    put_string(pen, name, value.name(), out)
+    put_string(pen, key, value.name(), out)
 }
 
 /// The same, where there may be none.
 #[inline]
 pub(crate) fn put_optional_word<V: Named, O: Out>(
     pen: Pen,
-    name: &str,
+    key: &[u8],
     value: Option<V>,
     out: &mut O,
 ) -> Pen
-    requires plain { is_plain name.now ≡ true }
-    ensures { PutsFields pen result (O.told out.old) (O.told out.new) ((name.now, option_map compact_text (option_map (λ v. string (V.name_of v)) value)) ∷ []) }
+    requires { is_key key.now ≡ true }
+    ensures { PutsFields pen result (O.told out.old) (O.told out.new) ((name_in key.now, option_map compact_text (option_map (λ v. string (V.name_of v)) value)) ∷ []) }
 {
     match value {
-        Some(value) => put_word(pen, name, value, out),
+        Some(value) => put_word(pen, key, value, out),
         None => pen,
     }
 }
@@ -127,16 +136,16 @@ pub(crate) fn put_optional_word<V: Named, O: Out>(
 #[inline]
 pub(crate) fn put_optional_flag<O: Out>(
     pen: Pen,
-    name: &str,
+    key: &[u8],
     value: Option<bool>,
     out: &mut O,
 ) -> Pen
-    requires plain { is_plain name.now ≡ true }
-    ensures { PutsFields pen result (O.told out.old) (O.told out.new) ((name.now, option_map compact_text (option_map boolean value)) ∷ []) }
+    requires { is_key key.now ≡ true }
+    ensures { PutsFields pen result (O.told out.old) (O.told out.new) ((name_in key.now, option_map compact_text (option_map boolean value)) ∷ []) }
 {
     match value {
         Some(flag) => {
-            let named = add_name(pen, name, out);
+            let named = add_key(pen, key, out);
             Pen {
                 state: add_flag(named, flag, out),
                 later: true,
@@ -158,11 +167,12 @@ pub(crate) fn add_flag<O: Out>(so_far: Pouring, flag: bool, out: &mut O) -> Pour
 }
 
 /// Puts a member whose value is of a sort.
-pub(crate) fn put_one<P: Poured, O: Out>(pen: Pen, name: &str, value: &P::Tree, out: &mut O) -> Pen
-    requires plain { is_plain name.now ≡ true }
-    ensures { PutsFields pen result (O.told out.old) (O.told out.new) ((name.now, Some (compact_text (P.spell value.now))) ∷ []) }
+#[inline]
+pub(crate) fn put_one<P: Poured, O: Out>(pen: Pen, key: &[u8], value: &P::Tree, out: &mut O) -> Pen
+    requires { is_key key.now ≡ true }
+    ensures { PutsFields pen result (O.told out.old) (O.told out.new) ((name_in key.now, Some (compact_text (P.spell value.now))) ∷ []) }
 {
-    let named = add_name(pen, name, out);
+    let named = add_key(pen, key, out);
     Pen {
         state: P::pour(named, value, out),
         later: true,
@@ -173,29 +183,29 @@ pub(crate) fn put_one<P: Poured, O: Out>(pen: Pen, name: &str, value: &P::Tree, 
 #[inline]
 pub(crate) fn put_optional<P: Poured, O: Out>(
     pen: Pen,
-    name: &str,
+    key: &[u8],
     value: &Option<P::Tree>,
     out: &mut O,
 ) -> Pen
-    requires plain { is_plain name.now ≡ true }
-    ensures { PutsFields pen result (O.told out.old) (O.told out.new) ((name.now, option_map compact_text (option_map P.spell value.now)) ∷ []) }
+    requires { is_key key.now ≡ true }
+    ensures { PutsFields pen result (O.told out.old) (O.told out.new) ((name_in key.now, option_map compact_text (option_map P.spell value.now)) ∷ []) }
 {
     match value {
-        Some(value) => put_one::<P, O>(pen, name, value, out),
+        Some(value) => put_one::<P, O>(pen, key, value, out),
         None => pen,
     }
 }
 
 /// Puts a member whose value is an array, unless it has no items.
 #[inline]
-pub fn put_list<P: Poured, O: Out>(pen: Pen, name: &str, values: &Many<P::Tree>, out: &mut O) -> Pen
-    requires plain { is_plain name.now ≡ true }
-    ensures { PutsFields pen result (O.told out.old) (O.told out.new) ((name.now, option_map compact_text (list_of P.spell values.now)) ∷ []) }
+pub fn put_list<P: Poured, O: Out>(pen: Pen, key: &[u8], values: &Many<P::Tree>, out: &mut O) -> Pen
+    requires { is_key key.now ≡ true }
+    ensures { PutsFields pen result (O.told out.old) (O.told out.new) ((name_in key.now, option_map compact_text (list_of P.spell values.now)) ∷ []) }
 {
     if values.is_empty() {
         return pen;
     }
-    let named = add_name(pen, name, out);
+    let named = add_key(pen, key, out);
     let opened = add(named, b"[", out);
     Pen {
         state: pour_items::<P, O>(opened, values.as_slice(), out),

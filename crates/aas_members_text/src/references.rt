@@ -5,11 +5,11 @@ ghost use Rattle.aas_members_text.specs.Puts.{PutsFields};
 ghost use Rattle.aas_out.specs.Adds.{Adds};
 ghost use Rattle.aas_reference.specs.Spelling.{spell_key, spell_reference};
 
+use crate::key;
 use crate::members::Pen;
-use crate::pen::{add_name, begin_object, end_object, put_list, put_one, put_word};
+use crate::pen::{add_key, begin_object, end_object, put_list, put_one, put_word};
 use crate::poured::Poured;
 use aas_json_members::Texts;
-use aas_json_table::name;
 use aas_model::{Boxed, Key, Reference};
 use aas_out::{Out, Pouring};
 use aas_reference::{Keys, References};
@@ -21,8 +21,8 @@ impl Poured for Keys {
 
     fn pour<O: Out>(so_far: Pouring, key: &Key, out: &mut O) -> Pouring {
         let begun = begin_object(so_far, out);
-        let typed = put_word(begun, name::TYPE, key.key_type, out);
-        let valued = put_one::<Texts, O>(typed, name::VALUE, &key.value, out);
+        let typed = put_word(begun, key::TYPE, key.key_type, out);
+        let valued = put_one::<Texts, O>(typed, key::VALUE, &key.value, out);
         end_object(valued, out)
     }
 }
@@ -42,9 +42,9 @@ fn pour_reference<O: Out>(so_far: Pouring, reference: &Reference, out: &mut O) -
     ensures { Adds so_far result (O.told out.old) (O.told out.new) (compact_text (spell_reference reference.now)) }
 {
     let begun = begin_object(so_far, out);
-    let keyed = put_list::<Keys, O>(begun, name::KEYS, &reference.keys, out);
+    let keyed = put_list::<Keys, O>(begun, key::KEYS, &reference.keys, out);
     let referring = put_referred(keyed, &reference.referred, out);
-    let typed = put_word(referring, name::TYPE, reference.ref_type, out);
+    let typed = put_word(referring, key::TYPE, reference.ref_type, out);
     end_object(typed, out)
 }
 
@@ -54,7 +54,7 @@ fn put_referred<O: Out>(pen: Pen, referred: &Option<Boxed<Reference>>, out: &mut
 {
     match referred {
         Some(boxed) => {
-            let named = add_name(pen, name::REFERRED_SEMANTIC_ID, out);
+            let named = add_key(pen, key::REFERRED_SEMANTIC_ID, out);
             Pen {
                 state: pour_reference(named, boxed.get(), out),
                 later: true,

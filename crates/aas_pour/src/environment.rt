@@ -4,8 +4,7 @@ ghost use Rattle.aas_json_mapping.specs.Documents.{spell_environment};
 ghost use Rattle.aas_out.specs.Adds.{Adds};
 
 use crate::tree::Submodels;
-use aas_json_table::name;
-use aas_members_text::{Concepts, Poured, Shells, begin_object, end_object, put_list};
+use aas_members_text::{Concepts, Poured, Shells, begin_object, end_object, key, put_list};
 use aas_model::Environment;
 use aas_out::{Out, Pouring};
 
@@ -32,9 +31,9 @@ pub fn pour_environment_tree<O: Out>(
 {
     let begun = begin_object(so_far, out);
     let shells = &environment.shells;
-    let listed = put_list::<Shells, O>(begun, name::ASSET_ADMINISTRATION_SHELLS, shells, out);
+    let listed = put_list::<Shells, O>(begun, key::ASSET_ADMINISTRATION_SHELLS, shells, out);
     let concepts = &environment.concepts;
-    let meant = put_list::<Concepts, O>(listed, name::CONCEPT_DESCRIPTIONS, concepts, out);
-    let whole = put_list::<Submodels, O>(meant, name::SUBMODELS, &environment.submodels, out);
+    let meant = put_list::<Concepts, O>(listed, key::CONCEPT_DESCRIPTIONS, concepts, out);
+    let whole = put_list::<Submodels, O>(meant, key::SUBMODELS, &environment.submodels, out);
     end_object(whole, out)
 }

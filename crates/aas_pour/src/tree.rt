@@ -11,9 +11,8 @@ ghost use Rattle.aas_rows.specs.Rows.{line_at};
 ghost use Rattle.aas_rows.specs.Views.{line_of};
 
 use crate::stops::{closing_of, has_stop, opening_of, put_name, role_fits};
-use aas_json_table::name;
 use aas_members_text::{
-    CanonicalMembers, Members, Pen, Poured, Show, begin_submodel, end_submodel, put_list,
+    CanonicalMembers, Members, Pen, Poured, Show, begin_submodel, end_submodel, key, put_list,
 };
 use aas_model::{Element, Many, Submodel};
 use aas_out::{Out, Pouring, add};
@@ -56,7 +55,7 @@ pub fn pour_submodel_tree<O: Out>(so_far: Pouring, submodel: &Submodel, out: &mu
     ensures { Adds so_far result (O.told out.old) (O.told out.new) (compact_text (spell_submodel submodel.now)) }
 {
     let before = begin_submodel(so_far, submodel, out);
-    let elements = put_list::<Elements, O>(before, name::SUBMODEL_ELEMENTS, &submodel.kids, out);
+    let elements = put_list::<Elements, O>(before, key::SUBMODEL_ELEMENTS, &submodel.kids, out);
     end_submodel(elements, submodel, out)
 }
 

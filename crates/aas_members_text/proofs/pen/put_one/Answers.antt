@@ -1,7 +1,8 @@
 use Rattle.serde_json.specs.Written.{compact_text}
+use Rattle.aas_members_text.specs.Keys.{name_in}
 use Rattle.aas_members_text.proofs.Putting.{put_value}
 use Rattle.aas_members_text.proofs.pen.put_one.Goals as goal
 
 pub returns : goal.returns
 returns g c =
-    put_value c.args.pen.later c.args.pen.state c.add_name-named.result c.pour.result (g.O.Out.told c.args.out.now) (g.O.Out.told c.add_name-named.new.out) (g.O.Out.told c.pour.new.out) c.args.name.now (compact_text (g.P.Poured.spell c.args.value.now)) c.add_name-named.ensures c.pour.ensures
+    put_value c.args.pen.later c.args.pen.state c.add_key-named.result c.pour.result (g.O.Out.told c.args.out.now) (g.O.Out.told c.add_key-named.new.out) (g.O.Out.told c.pour.new.out) (name_in c.args.key.now) (compact_text (g.P.Poured.spell c.args.value.now)) c.add_key-named.ensures c.pour.ensures

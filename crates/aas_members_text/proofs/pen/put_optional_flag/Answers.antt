@@ -1,12 +1,13 @@
 use Rattle.serde_json.specs.Data.{boolean}
 use Rattle.serde_json.specs.Written.{compact_text}
+use Rattle.aas_members_text.specs.Keys.{name_in}
 use Rattle.aas_members_text.proofs.Putting.{put_missing, put_present, put_value}
 use Rattle.aas_members_text.proofs.pen.put_optional_flag.Goals as goal
 
 pub returns-in-Some : goal.returns-in-Some
 returns-in-Some g c =
     put_present boolean c.args.value c.in-Some.flag c.in-Some.is
-    (put_value c.args.pen.later c.args.pen.state c.add_name-named.result c.add_flag.result (g.O.Out.told c.args.out.now) (g.O.Out.told c.add_name-named.new.out) (g.O.Out.told c.add_flag.new.out) c.args.name.now (compact_text (boolean c.in-Some.flag)) c.add_name-named.ensures c.add_flag.ensures)
+    (put_value c.args.pen.later c.args.pen.state c.add_key-named.result c.add_flag.result (g.O.Out.told c.args.out.now) (g.O.Out.told c.add_key-named.new.out) (g.O.Out.told c.add_flag.new.out) (name_in c.args.key.now) (compact_text (boolean c.in-Some.flag)) c.add_key-named.ensures c.add_flag.ensures)
 
 pub returns-in-None : goal.returns-in-None
-returns-in-None g c = put_missing boolean c.args.pen (g.O.Out.told c.args.out.now) c.args.name.now c.args.value c.in-None.is
+returns-in-None g c = put_missing boolean c.args.pen (g.O.Out.told c.args.out.now) (name_in c.args.key.now) c.args.value c.in-None.is

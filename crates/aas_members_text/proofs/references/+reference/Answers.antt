@@ -20,10 +20,10 @@ pour_reference-returns g t c =
 
 pub put_referred-returns-in-Some : goal.put_referred-returns-in-Some
 put_referred-returns-in-Some g t c =
-    let named = c.add_name-named in
+    let named = c.add_key-named in
     put_present spell_reference c.args.referred.now c.in-Some.boxed c.in-Some.is
-    (put_value c.args.pen.later c.args.pen.state c.add_name-named.result c.pour_reference.result (g.O.Out.told c.args.out.now) (g.O.Out.told c.add_name-named.new.out) (g.O.Out.told c.pour_reference.new.out) (codes "referredSemanticId") (compact_text (spell_reference c.in-Some.boxed))
-    c.add_name-named.ensures (subst (λ (r : Reference). Adds c.add_name-named.result c.pour_reference.result (g.O.Out.told c.add_name-named.new.out) (g.O.Out.told c.pour_reference.new.out) (compact_text (spell_reference r))) c.get.ensures c.pour_reference.ensures))
+    (put_value c.args.pen.later c.args.pen.state c.add_key-named.result c.pour_reference.result (g.O.Out.told c.args.out.now) (g.O.Out.told c.add_key-named.new.out) (g.O.Out.told c.pour_reference.new.out) (codes "referredSemanticId") (compact_text (spell_reference c.in-Some.boxed))
+    c.add_key-named.ensures (subst (λ (r : Reference). Adds c.add_key-named.result c.pour_reference.result (g.O.Out.told c.add_key-named.new.out) (g.O.Out.told c.pour_reference.new.out) (compact_text (spell_reference r))) c.get.ensures c.pour_reference.ensures))
 
 pub put_referred-returns-in-None : goal.put_referred-returns-in-None
 put_referred-returns-in-None g t c = put_missing spell_reference c.args.pen (g.O.Out.told c.args.out.now) (codes "referredSemanticId") c.args.referred.now c.in-None.is
