@@ -1,5 +1,5 @@
 -- Elements below which nothing is shown.
-use Rattle.std.proofs.Common.{◌≡◌, ℕ, zero, suc, ◌+◌, ◌≤◌, ◌==◌, ◌||◌, ◌&&◌, Bool, true, false, nat_lt, List, [], ◌∷◌, ◌++◌, length, length-append, refl, sym, ap, ◌∙◌, subst, append_assoc, arith, if◌then◌else◌}
+use Rattle.std.proofs.Common.{◌≡◌, ℕ, zero, suc, ◌+◌, ◌≤◌, ◌==◌, ◌||◌, ◌&&◌, Bool, true, false, nat_lt, List, [], ◌∷◌, ◌++◌, length, length-append, refl, sym, ap, ◌∙◌, append_assoc, arith, if◌then◌else◌}
 use Rattle.std.proofs.lemmas.Bool.{ltb-false, not-true, or_parts}
 use Rattle.aas_model.specs.Payload.{is_operation}
 use Rattle.aas_model.specs.declared.payload.Payload.{Payload}
@@ -10,6 +10,7 @@ use Rattle.aas_out.proofs.Adding.{adds_both, adds_nothing, adds_same}
 use Rattle.aas_rows.specs.Rows.{Line}
 use Rattle.aas_members_text.specs.Members.{fields_text, has_annotations, has_members, has_statements, has_stop, later_after, part, stop_name}
 use Rattle.aas_members_text.specs.Script.{Spoken, at_stop, is_any, listed_text, script}
+use Rattle.aas_members_text.specs.declared.members.Pen.{Pen}
 use Rattle.aas_members_text.specs.declared.members.Show.{Show}
 use Rattle.aas_pour.specs.Walk.{has_stops, is_childless}
 use Rattle.aas_pour.proofs.Going.{passed}
@@ -42,35 +43,36 @@ childless_shown w r is j vs = by (nat_lt r.level w.cut) refl (not-true (nat_lt r
 
 -- Some parts were put, and those from next on are left.
 pub record Begun {K : Type 0} (w : Show) (r : Line) (first : Bool) (next : ℕ) (later : Bool) (so_far state : Pouring) (told now : Told K) : Type 0 where
-  pub low : next ≤ 6
   pub put : List ℕ
   pub parts : (vs : List Spoken) → script w r vs 6 first ≡ put ++ script w r vs next later
   pub adds : Adds so_far state told now put
 
 pub begun_first : {K : Type 0} (w : Show) (r : Line) (first : Bool) (so_far : Pouring) (told : Told K) → Begun w r first 6 first so_far so_far told told
-begun_first w r first so_far told = record { low = omega arith; put = []; parts = λ vs. refl; adds = adds_nothing so_far told }
+begun_first w r first so_far told = record { put = []; parts = λ vs. refl; adds = adds_nothing so_far told }
 
-pub begun_more : {K : Type 0} (w : Show) (r : Line) (first : Bool) (next j : ℕ) (later then_later : Bool) (so_far state after : Pouring) (told mid now : Told K)
-    → ((i : ℕ) (vs : List Spoken) → at_stop w r i vs ≡ []) → next ≡ suc j → Begun w r first next later so_far state told mid
-    → Adds state after mid now (fields_text later (part w r next)) → then_later ≡ later_after later (part w r next) → Begun w r first j then_later so_far after told now
-begun_more w r first next j later then_later so_far state after told mid now none is h adds left =
-    let fields : List ℕ = fields_text later (part w r next) in
-    let on : (vs : List Spoken) → script w r vs next later ≡ fields ++ script w r vs j then_later =
-    λ vs. subst (λ (n : ℕ). script w r vs n later ≡ fields_text later (part w r n) ++ script w r vs j (later_after later (part w r n))) (sym is) (passed w r vs j later (none (suc j) vs))
-    ∙ ap (λ b. fields ++ script w r vs j b) (sym left) in record {
-      low = omega (arith, h.low, is);
+-- one part more
+pub begun_more : {K : Type 0} {w : Show} {r : Line} {first later : Bool} {so_far state : Pouring} {told mid : Told K} (j : ℕ) (pen : Pen) (now : Told K)
+    → is_childless w r ≡ true → Begun w r first (suc j) later so_far state told mid
+    → Adds state pen.state mid now (fields_text later (part w r (suc j))) → pen.later ≡ later_after later (part w r (suc j))
+    → Begun w r first j pen.later so_far pen.state told now
+begun_more {w = w} {r = r} {first = first} {later = later} {so_far = so_far} {state = state} {told = told} {mid = mid} j pen now is h adds left =
+    let fields : List ℕ = fields_text later (part w r (suc j)) in
+    let on : (vs : List Spoken) → script w r vs (suc j) later ≡ fields ++ script w r vs j pen.later =
+    λ vs. passed w r vs j later (childless_shown w r is (suc j) vs) ∙ ap (λ b. fields ++ script w r vs j b) (sym left) in record {
       put = h.put ++ fields;
-      parts = λ vs. h.parts vs ∙ ap (λ t. h.put ++ t) (on vs) ∙ sym (append_assoc h.put fields (script w r vs j then_later));
-      adds = adds_both so_far state after told mid now h.put fields h.adds adds;
+      parts = λ vs. h.parts vs ∙ ap (λ t. h.put ++ t) (on vs) ∙ sym (append_assoc h.put fields (script w r vs j pen.later));
+      adds = adds_both so_far state pen.state told mid now h.put fields h.adds adds;
     }
 
-pub begun_last : {K : Type 0} (w : Show) (r : Line) (first : Bool) (next : ℕ) (later : Bool) (so_far state last after : Pouring) (told mid end now : Told K) (vs : List Spoken)
-    → next ≡ 0 → Begun w r first next later so_far state told mid → Adds state last mid end (fields_text later (part w r 0)) → Adds last after end now (125 ∷ [])
+-- the last part, and the brace
+pub begun_last : {K : Type 0} {w : Show} {r : Line} {first later : Bool} {so_far state : Pouring} {told mid : Told K} (last after : Pouring) (end now : Told K) (vs : List Spoken)
+    → Begun w r first 0 later so_far state told mid → Adds state last mid end (fields_text later (part w r 0)) → Adds last after end now (125 ∷ [])
     → Adds so_far after told now (script w r vs 6 first)
-begun_last w r first next later so_far state last after told mid end now vs is h fields brace =
+begun_last {w = w} {r = r} {later = later} {so_far = so_far} {state = state} {told = told} {mid = mid} last after end now vs h fields brace =
+    let text : List ℕ = fields_text later (part w r 0) in
     adds_same so_far after told now _ _
-    (adds_both so_far state after told mid now h.put (fields_text later (part w r 0) ++ 125 ∷ []) h.adds (adds_both state last after mid end now (fields_text later (part w r 0)) (125 ∷ []) fields brace))
-    (sym (h.parts vs ∙ ap (λ (n : ℕ). h.put ++ script w r vs n later) is))
+    (adds_both so_far state after told mid now h.put (text ++ 125 ∷ []) h.adds (adds_both state last after mid end now text (125 ∷ []) fields brace))
+    (sym (h.parts vs))
 
 -- ---- how long it is
 

@@ -6,7 +6,7 @@ ghost use Rattle.aas_pour.specs.Walk.{has_stops, is_childless};
 ghost use Rattle.aas_rows.specs.Views.{line_of};
 
 use crate::stops::has_stop;
-use aas_members_text::{Members, Pen, Show};
+use aas_members_text::{Members, Show};
 use aas_model::Payload;
 use aas_out::{Out, Pouring, add};
 use aas_rows::RowView;
@@ -37,15 +37,12 @@ pub(crate) fn put_childless<M: Members, O: Out>(
     requires childless { is_childless show (line_of row.now) ≡ true }
     ensures { (children : List Spoken) → Adds so_far result (O.told out.old) (O.told out.new) (script show (line_of row.now) children 6 later) }
 {
-    let mut pen = Pen {
-        state: so_far,
-        later,
-    };
-    let mut next = 6;
-    while next > 0 {
-        pen = members.put_part(pen.state, show, row, next, pen.later, out);
-        next -= 1;
-    }
-    let last = members.put_part(pen.state, show, row, 0, pen.later, out);
-    add(last.state, b"}", out)
+    let pen = members.put_part(so_far, show, row, 6, later, out);
+    let pen = members.put_part(pen.state, show, row, 5, pen.later, out);
+    let pen = members.put_part(pen.state, show, row, 4, pen.later, out);
+    let pen = members.put_part(pen.state, show, row, 3, pen.later, out);
+    let pen = members.put_part(pen.state, show, row, 2, pen.later, out);
+    let pen = members.put_part(pen.state, show, row, 1, pen.later, out);
+    let pen = members.put_part(pen.state, show, row, 0, pen.later, out);
+    add(pen.state, b"}", out)
 }
