@@ -12,7 +12,7 @@ use Rattle.aas_members_text.specs.Script.{Spoken, element_text, is_any, listed_t
 use Rattle.aas_members_text.specs.declared.members.Show.{Show}
 use Rattle.aas_pour.specs.Elements.{IsNextElement, elements_from, elements_of}
 use Rattle.aas_pour.specs.Poured.{HasRow, if_row, kids_at, text_at}
-use Rattle.aas_pour.proofs.Looking.{past_end, voices_deep, voices_end, voices_here}
+use Rattle.aas_pour.proofs.Looking.{past_end, text_here, voices_deep, voices_end, voices_here}
 
 -- nothing stands between two ranks
 pub record Ahead (rows : List Line) (from at : ℕ) : Type 0 where
@@ -37,7 +37,7 @@ ahead_found rows from at c h is top w = (
   h.order,
   h.same w
       ∙ ap texts (voices_here w 0 rows at c is (lt-ltb 0 c.level (omega (arith, top))) (le-ltb (0 + 1) c.level (omega (arith, top))))
-      ∙ ap (λ t. t ∷ elements_from w rows (at + 1)) (sym (ap (λ o. if_row o (λ r. element_text w r (kids_at w rows r at))) is)),
+      ∙ ap (λ t. t ∷ elements_from w rows (at + 1)) (sym (text_here w rows at c is)),
 )
 
 pub ahead_deep : (rows : List Line) (from at : ℕ) (c : Line) → Ahead rows from at → slice_get rows at ≡ Some c → 1 < c.level → Ahead rows from (at + 1)

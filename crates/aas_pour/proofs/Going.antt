@@ -2,6 +2,7 @@
 use Rattle.std.proofs.Common.{◌≡◌, inl, inr, ℕ, suc, ◌+◌, ◌<◌, ◌≤◌, ◌==◌, ◌||◌, Bool, true, false, List, [], ◌∷◌, ◌++◌, length, length-append, ◌*◌, drop, Some, None, slice_get, refl, sym, ap, ◌∙◌, subst, append_assoc, arith, if◌then◌else◌}
 use Rattle.std.proofs.Math.Numerals.{add-one}
 use Rattle.std.proofs.lemmas.Bool.{cases_eq, ne_eqb, cond-false}
+use Rattle.std.proofs.lemmas.List.{append-nil}
 use Rattle.std.proofs.Math.Bool.{or-false, or-true}
 use Rattle.aas_out.specs.Adds.{Adds}
 use Rattle.aas_out.specs.Told.{Told}
@@ -11,9 +12,9 @@ use Rattle.aas_rows.specs.Rows.{Line}
 use Rattle.aas_members_text.specs.Members.{opening, closing, part, fields_text, field_text, later_after, stop_name}
 use Rattle.aas_members_text.specs.Script.{Spoken, script, element_text, at_stop, more_text, listed_text, is_any}
 use Rattle.aas_members_text.specs.declared.members.Show.{Show}
-use Rattle.aas_pour.specs.Poured.{voices, kids_at, if_row}
+use Rattle.aas_pour.specs.Poured.{voices, kids_at, if_row, text_at}
 use Rattle.aas_pour.specs.Walk.{AreBelow, IsFirst, IsNested, IsWalk, Poured, behind, up, remaining, walk_left, work, turns}
-use Rattle.aas_pour.proofs.Looking.{below_none, below_both, below_higher, skipped}
+use Rattle.aas_pour.proofs.Looking.{below_none, below_both, below_higher, skipped, text_here}
 use Rattle.aas_pour.proofs.Open.{nested_below}
 use Rattle.aas_pour.specs.declared.children.Sought.{Sought}
 use Rattle.aas_pour.specs.declared.children.Sought.TheVariants as sought
@@ -131,6 +132,12 @@ go_lost w rows items fs f n is none =
 
 pub lost : (w : Show) (rows : List Line) (fs : List Frame) (n j : ℕ) (later : Bool) → slice_get rows n ≡ None → remaining w rows fs n j later ≡ []
 lost w rows fs n j later none = ap (λ o. if_row o (λ r. script w r (kids_at w rows r n) j later ++ up w rows (λ m. []) fs n)) none
+
+-- the text of an element is a brace, and what is left where a walk over its rows begins
+pub text_walked : (w : Show) (rows : List Line) (n : ℕ) (r : Line) → slice_get rows n ≡ Some r → text_at w rows n ≡ 123 ∷ remaining w rows [] n 6 false
+text_walked w rows n r is =
+    text_here w rows n r is
+    ∙ ap (λ t. 123 ∷ t) (sym (append-nil (script w r (kids_at w rows r n) 6 false)) ∙ sym (ap (λ o. if_row o (λ r. script w r (kids_at w rows r n) 6 false ++ [])) is))
 
 -- the stop behind which a part follows
 pub first_at : (w : Show) (rows : List Line) (r : Line) (j a : ℕ) (found : Sought) → IsFirst w rows r (j + 1) a found → IsFirst w rows r (suc j) a found

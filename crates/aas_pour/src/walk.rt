@@ -1,8 +1,9 @@
 // The walk over the rows of an element: which elements are open, and which part of the current one comes next.
-ghost use Rattle.std.specs.Prelude.{◌≡◌, ◌<◌, ◌==◌, [], false, if◌then◌else◌};
+ghost use Rattle.std.specs.Prelude.{◌≡◌, ◌<◌, ◌==◌, [], Some, false, if◌then◌else◌, slice_get};
 ghost use Rattle.aas_out.specs.Adds.{Adds};
 ghost use Rattle.aas_pour.specs.Poured.{AreLow, HasRow, text_at};
-ghost use Rattle.aas_pour.specs.Walk.{IsWalk, Poured, up, walk_left, work};
+ghost use Rattle.aas_pour.specs.Walk.{IsWalk, Poured, remaining, up, walk_left, work};
+ghost use Rattle.aas_rows.specs.Views.{line_of};
 
 use crate::childless::{is_childless, put_childless};
 use crate::children::{Sought, first_child};
@@ -10,6 +11,7 @@ use crate::rows::Rows;
 use crate::stops::{closing_of, put_name, put_open};
 use aas_members_text::{Members, Show};
 use aas_out::{Out, Pouring, add};
+use aas_rows::RowView;
 use arrayvec::ArrayVec;
 
 /// An element whose children are being put.
@@ -153,7 +155,49 @@ pub fn pour_element<R: Rows, M: Members, O: Out>(
     requires there { HasRow (R.Rows.lines rows.now) rank }
     ensures { Adds so_far result (O.told out.old) (O.told out.new) (text_at show (R.Rows.lines rows.now) rank) }
 {
-    let mut state = add(so_far, b"{", out);
+    let Some(row) = rows.row(rank) else {
+        unreachable!()
+    };
+    pour_found(so_far, rows, members, show, rank, &row, out)
+}
+
+/// The same, where the row of this rank was looked up.
+pub(crate) fn pour_found<R: Rows, M: Members, O: Out>(
+    so_far: Pouring,
+    rows: &R,
+    members: &M,
+    show: Show,
+    rank: u64,
+    row: &RowView<'_>,
+    out: &mut O,
+) -> Pouring
+    requires low { AreLow (R.Rows.lines rows.now) }
+    requires there { HasRow (R.Rows.lines rows.now) rank }
+    requires found { slice_get (R.Rows.lines rows.now) rank ≡ Some (line_of row.now) }
+    ensures { Adds so_far result (O.told out.old) (O.told out.new) (text_at show (R.Rows.lines rows.now) rank) }
+{
+    let opened = add(so_far, b"{", out);
+    if is_childless(show, row) {
+        return put_childless(opened, members, show, row, false, out);
+    }
+    walk_element(opened, rows, members, show, rank, out)
+}
+
+/// Puts what follows the opening brace of the element of this rank, with all below it.
+#[inline(never)]
+fn walk_element<R: Rows, M: Members, O: Out>(
+    so_far: Pouring,
+    rows: &R,
+    members: &M,
+    show: Show,
+    rank: u64,
+    out: &mut O,
+) -> Pouring
+    requires low { AreLow (R.Rows.lines rows.now) }
+    requires there { HasRow (R.Rows.lines rows.now) rank }
+    ensures { Adds so_far result (O.told out.old) (O.told out.new) (remaining show (R.Rows.lines rows.now) [] rank 6 false) }
+{
+    let mut state = so_far;
     let mut walk = Walk {
         open: ArrayVec::new(),
         rank,

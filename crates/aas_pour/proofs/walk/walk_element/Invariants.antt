@@ -1,0 +1,11 @@
+use Rattle.std.specs.Prelude.{[], false}
+use Rattle.aas_pour.specs.Walk.{remaining, turns}
+use Rattle.aas_pour.proofs.Going.{Underway}
+use Rattle.aas_pour.proofs.walk.walk_element.Given as goal
+
+abbrev pub invariant-loop-walk : goal.invariant-loop-walk
+invariant-loop-walk g l =
+    Underway l.fn.show (g.R.Rows.lines l.rows) (remaining l.fn.show (g.R.Rows.lines l.rows) [] l.fn.rank 6 false) l.walk l.fn.so_far l.state (g.O.Out.told l.fn.out) (g.O.Out.told l.out)
+
+abbrev pub decreases-loop-walk : goal.decreases-loop-walk
+decreases-loop-walk g l = turns l.fn.show (g.R.Rows.lines l.rows) l.walk
