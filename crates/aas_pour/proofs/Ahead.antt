@@ -8,10 +8,10 @@ use Rattle.aas_out.specs.declared.pouring.Pouring.{Pouring}
 use Rattle.aas_out.proofs.Adding.{adds_both, adds_nothing, adds_same}
 use Rattle.aas_rows.specs.Rows.{Line}
 use Rattle.aas_members_text.specs.Members.{field_text}
-use Rattle.aas_members_text.specs.Script.{Spoken, element_text, is_any, listed_text, more_text}
+use Rattle.aas_members_text.specs.Script.{Spoken, is_any, listed_text, more_text}
 use Rattle.aas_members_text.specs.declared.members.Show.{Show}
 use Rattle.aas_pour.specs.Elements.{IsNextElement, elements_from, elements_of}
-use Rattle.aas_pour.specs.Poured.{HasRow, if_row, kids_at, text_at}
+use Rattle.aas_pour.specs.Poured.{HasRow, text_at}
 use Rattle.aas_pour.proofs.Looking.{past_end, text_here, voices_deep, voices_end, voices_here}
 
 -- nothing stands between two ranks

@@ -51,11 +51,11 @@ pub begun_first : {K : Type 0} (w : Show) (r : Line) (first : Bool) (so_far : Po
 begun_first w r first so_far told = record { put = []; parts = λ vs. refl; adds = adds_nothing so_far told }
 
 -- one part more
-pub begun_more : {K : Type 0} {w : Show} {r : Line} {first later : Bool} {so_far state : Pouring} {told mid : Told K} (j : ℕ) (pen : Pen) (now : Told K)
-    → is_childless w r ≡ true → Begun w r first (suc j) later so_far state told mid
+pub begun_more : {K : Type 0} {w : Show} {r : Line} {first later : Bool} {so_far state : Pouring} {told mid : Told K}
+    → (j : ℕ) (pen : Pen) (now : Told K) → is_childless w r ≡ true → Begun w r first (suc j) later so_far state told mid
     → Adds state pen.state mid now (fields_text later (part w r (suc j))) → pen.later ≡ later_after later (part w r (suc j))
     → Begun w r first j pen.later so_far pen.state told now
-begun_more {w = w} {r = r} {first = first} {later = later} {so_far = so_far} {state = state} {told = told} {mid = mid} j pen now is h adds left =
+begun_more {w = w} {r = r} {later = later} {so_far = so_far} {state = state} {told = told} {mid = mid} j pen now is h adds left =
     let fields : List ℕ = fields_text later (part w r (suc j)) in
     let on : (vs : List Spoken) → script w r vs (suc j) later ≡ fields ++ script w r vs j pen.later =
     λ vs. passed w r vs j later (childless_shown w r is (suc j) vs) ∙ ap (λ b. fields ++ script w r vs j b) (sym left) in record {
@@ -65,13 +65,14 @@ begun_more {w = w} {r = r} {first = first} {later = later} {so_far = so_far} {st
     }
 
 -- the last part, and the brace
-pub begun_last : {K : Type 0} {w : Show} {r : Line} {first later : Bool} {so_far state : Pouring} {told mid : Told K} (last after : Pouring) (end now : Told K) (vs : List Spoken)
-    → Begun w r first 0 later so_far state told mid → Adds state last mid end (fields_text later (part w r 0)) → Adds last after end now (125 ∷ [])
+pub begun_last : {K : Type 0} {w : Show} {r : Line} {first later : Bool} {so_far state : Pouring} {told mid : Told K}
+    → (last after : Pouring) (end now : Told K) (vs : List Spoken) → Begun w r first 0 later so_far state told mid
+    → Adds state last mid end (fields_text later (part w r 0)) → Adds last after end now (125 ∷ [])
     → Adds so_far after told now (script w r vs 6 first)
-begun_last {w = w} {r = r} {later = later} {so_far = so_far} {state = state} {told = told} {mid = mid} last after end now vs h fields brace =
+begun_last {w = w} {r = r} {later = later} {so_far = so_far} {state = state} {told = told} {mid = mid} last after end now vs h put brace =
     let text : List ℕ = fields_text later (part w r 0) in
-    adds_same so_far after told now _ _
-    (adds_both so_far state after told mid now h.put (text ++ 125 ∷ []) h.adds (adds_both state last after mid end now text (125 ∷ []) fields brace))
+    let both = adds_both state last after mid end now text (125 ∷ []) put brace in
+    adds_same so_far after told now _ _ (adds_both so_far state after told mid now h.put (text ++ 125 ∷ []) h.adds both)
     (sym (h.parts vs))
 
 -- ---- how long it is

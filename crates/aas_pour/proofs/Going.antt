@@ -134,10 +134,11 @@ pub lost : (w : Show) (rows : List Line) (fs : List Frame) (n j : ℕ) (later : 
 lost w rows fs n j later none = ap (λ o. if_row o (λ r. script w r (kids_at w rows r n) j later ++ up w rows (λ m. []) fs n)) none
 
 -- the text of an element is a brace, and what is left where a walk over its rows begins
-pub text_walked : (w : Show) (rows : List Line) (n : ℕ) (r : Line) → slice_get rows n ≡ Some r → text_at w rows n ≡ 123 ∷ remaining w rows [] n 6 false
+pub text_walked : (w : Show) (rows : List Line) (n : ℕ) (r : Line) → slice_get rows n ≡ Some r
+    → text_at w rows n ≡ 123 ∷ remaining w rows [] n 6 false
 text_walked w rows n r is =
-    text_here w rows n r is
-    ∙ ap (λ t. 123 ∷ t) (sym (append-nil (script w r (kids_at w rows r n) 6 false)) ∙ sym (ap (λ o. if_row o (λ r. script w r (kids_at w rows r n) 6 false ++ [])) is))
+    let text : Line → List ℕ = λ r. script w r (kids_at w rows r n) 6 false in
+    text_here w rows n r is ∙ ap (λ t. 123 ∷ t) (sym (append-nil (text r)) ∙ sym (ap (λ o. if_row o (λ r. text r ++ [])) is))
 
 -- the stop behind which a part follows
 pub first_at : (w : Show) (rows : List Line) (r : Line) (j a : ℕ) (found : Sought) → IsFirst w rows r (j + 1) a found → IsFirst w rows r (suc j) a found

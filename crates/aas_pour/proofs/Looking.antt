@@ -18,7 +18,8 @@ pub row_there : (rows : List Line) (n : ℕ) (c : Line) → slice_get rows n ≡
 row_there rows n c is = drop-cons rows n c (slice_get_within rows n c is) ∙ ap₂ (λ x m. x ∷ drop m rows) (get_or_from_slice_get rows n c c is) (sym (add-one n))
 
 -- the text of the element of a row
-pub text_here : (w : Show) (rows : List Line) (n : ℕ) (r : Line) → slice_get rows n ≡ Some r → text_at w rows n ≡ element_text w r (kids_at w rows r n)
+pub text_here : (w : Show) (rows : List Line) (n : ℕ) (r : Line) → slice_get rows n ≡ Some r
+    → text_at w rows n ≡ element_text w r (kids_at w rows r n)
 text_here w rows n r is = ap (λ o. if_row o (λ r. element_text w r (kids_at w rows r n))) is
 
 pub voices_end : (w : Show) (k : ℕ) (rows : List Line) (n : ℕ) (c : Line) → slice_get rows n ≡ Some c → nat_lt k c.level ≡ false → voices w k (drop n rows) ≡ []

@@ -12,6 +12,7 @@ use aas_out::{Out, Pouring, add};
 use aas_rows::RowView;
 
 /// Whether nothing is shown below the element of this row, whatever stands there.
+#[inline]
 pub(crate) fn is_childless(show: Show, row: &RowView<'_>) -> bool
     ensures { result ≡ is_childless show (line_of row.now) }
 {
@@ -19,6 +20,7 @@ pub(crate) fn is_childless(show: Show, row: &RowView<'_>) -> bool
 }
 
 /// Whether an element of this kind has children at some stop.
+#[inline]
 fn has_any_stop(payload: &Payload) -> bool
     ensures { result ≡ has_stops payload.now }
 {

@@ -1,16 +1,25 @@
 // The elements of a document, one after another.
-ghost use Rattle.std.specs.Prelude.{◌≡◌, ◌-◌, ◌^◌, ◌<◌, ◌||◌, ◌∷◌, [], codes, true, IfSome};
+ghost use Rattle.std.specs.Prelude.{◌≡◌, ◌-◌, ◌^◌, ◌<◌, ◌||◌, ◌∷◌, [], codes, true, IfSome, Some, option_map, slice_get};
 ghost use Rattle.aas_members_text.specs.Members.{field_text};
 ghost use Rattle.aas_members_text.specs.Script.{is_any, listed_text, more_text};
 ghost use Rattle.aas_members_text.specs.declared.members.Show.{Show};
 ghost use Rattle.aas_out.specs.Adds.{Adds};
 ghost use Rattle.aas_pour.specs.Elements.{IsNextElement, elements_from, elements_of};
 ghost use Rattle.aas_pour.specs.Poured.{AreLow};
+ghost use Rattle.aas_rows.specs.Views.{line_of};
 
 use crate::rows::Rows;
-use crate::walk::pour_element;
+use crate::walk::pour_found;
 use aas_members_text::{Members, Pen, Show, comma_of};
 use aas_out::{Out, Pouring, add};
+use aas_rows::RowView;
+
+/// A row that was found, and its rank.
+#[derive(Clone, Copy)]
+struct Found<'a> {
+    rank: u64,
+    row: RowView<'a>,
+}
 
 /// Puts the member `submodelElements` behind others, where there are elements.
 pub fn pour_elements<R: Rows, M: Members, O: Out>(
@@ -28,15 +37,16 @@ pub fn pour_elements<R: Rows, M: Members, O: Out>(
         return pen;
     };
     let named = put_elements_name(pen, out);
-    let element = pour_element(named, rows, members, show, first, out);
-    let state = pour_further(element, rows, members, show, first + 1, out);
+    let element = pour_found(named, rows, members, show, first.rank, &first.row, out);
+    let state = pour_further(element, rows, members, show, first.rank + 1, out);
     Pen { state, later: true }
 }
 
 /// The first row from a rank on that stands right below the document.
-fn next_element<R: Rows>(rows: &R, from: u64) -> Option<u64>
-    ensures next { (show : Show) → IsNextElement show (R.Rows.lines rows.now) from result }
-    ensures within { IfSome result (λ rank. rank < 2 ^ 64 - 1) }
+fn next_element<R: Rows>(rows: &R, from: u64) -> Option<Found<'_>>
+    ensures next { (show : Show) → IsNextElement show (R.Rows.lines rows.now) from (option_map (λ found. found.rank) result) }
+    ensures found { IfSome result (λ found. slice_get (R.Rows.lines rows.now) found.rank ≡ Some (line_of found.row)) }
+    ensures within { IfSome result (λ found. found.rank < 2 ^ 64 - 1) }
 {
     let mut at = from;
     loop {
@@ -47,7 +57,7 @@ fn next_element<R: Rows>(rows: &R, from: u64) -> Option<u64>
             return None;
         }
         if row.level == 1 {
-            return Some(at);
+            return Some(Found { rank: at, row });
         }
         at += 1;
     }
@@ -77,8 +87,8 @@ fn pour_further<R: Rows, M: Members, O: Out>(
     let mut at = from;
     while let Some(next) = next_element(rows, at) {
         let comma = add(state, b",", out);
-        state = pour_element(comma, rows, members, show, next, out);
-        at = next + 1;
+        state = pour_found(comma, rows, members, show, next.rank, &next.row, out);
+        at = next.rank + 1;
     }
     add(state, b"]", out)
 }

@@ -1,8 +1,9 @@
 //! Texts that are poured from rows: the text of an element or a submodel is put into an end piece by piece, and takes no
 //! memory.
 //!
-//! A walk goes over the rows in preorder. It keeps which elements are open, at most 30, and which part of each follows its
-//! children; what it has put before is never looked at again, and a row is asked for where it is needed.
+//! An element below which nothing is shown is put at once. For any other one a walk goes over the rows in preorder. It keeps
+//! which elements are open, at most 30, and which part of each follows its children; what it has put before is never looked at
+//! again, and a row is asked for where it is needed.
 //!
 //! What the members of one element are stands in `aas_members_text`.
 

@@ -9,6 +9,7 @@ use aas_model::{Payload, Role};
 use aas_out::{Out, Pouring, add};
 
 /// Whether an element of this kind has children at a stop.
+#[inline]
 #[tactic(auto, unfolding(aas_members_text::specs::Members::has_stop))]
 pub(crate) fn has_stop(stop: u8, payload: &Payload) -> bool
     requires some { 0 < stop }

@@ -7,14 +7,23 @@ returns-in_default-clause-text g c = no_elements c.args.show (g.R.Rows.lines c.a
 pub returns-in_default-clause-later : goal.returns-in_default-clause-later
 returns-in_default-clause-later g c = not_later c.args.show (g.R.Rows.lines c.args.rows.now) c.args.pen.later (c.in_default.ensures.next c.args.show)
 
-pub pour_element-element-requires-clause-there : goal.pour_element-element-requires-clause-there
-pour_element-element-requires-clause-there g c = (next_there c.args.show (g.R.Rows.lines c.args.rows.now) 0 c.in-Some.first (c.in-Some.ensures.next c.args.show)).there
+pub pour_found-element-requires-clause-there : goal.pour_found-element-requires-clause-there
+pour_found-element-requires-clause-there g c =
+    let rows = g.R.Rows.lines c.args.rows.now in
+    (next_there c.args.show rows 0 c.in-Some.first.rank (c.in-Some.ensures.next c.args.show)).there
 
 pub returns-clause-text : goal.returns-clause-text
 returns-clause-text g c =
-    all_elements c.args.show (g.R.Rows.lines c.args.rows.now) c.in-Some.first c.args.pen.later c.args.pen.state c.put_elements_name-named.result c.pour_element-element.result c.pour_further-state.result
-    (g.O.Out.told c.args.out.now) (g.O.Out.told c.put_elements_name-named.new.out) (g.O.Out.told c.pour_element-element.new.out) (g.O.Out.told c.pour_further-state.new.out)
-    (c.in-Some.ensures.next c.args.show) c.put_elements_name-named.ensures c.pour_element-element.ensures c.pour_further-state.ensures
+    let rows = g.R.Rows.lines c.args.rows.now in
+    let told = g.O.Out.told in
+    let name = c.put_elements_name-named in
+    let element = c.pour_found-element in
+    let others = c.pour_further-state in
+    all_elements c.args.show rows c.in-Some.first.rank c.args.pen.later c.args.pen.state name.result element.result others.result
+    (told c.args.out.now) (told name.new.out) (told element.new.out) (told others.new.out)
+    (c.in-Some.ensures.next c.args.show) name.ensures element.ensures others.ensures
 
 pub returns-clause-later : goal.returns-clause-later
-returns-clause-later g c = is_later c.args.show (g.R.Rows.lines c.args.rows.now) c.in-Some.first c.args.pen.later (c.in-Some.ensures.next c.args.show)
+returns-clause-later g c =
+    let rows = g.R.Rows.lines c.args.rows.now in
+    is_later c.args.show rows c.in-Some.first.rank c.args.pen.later (c.in-Some.ensures.next c.args.show)

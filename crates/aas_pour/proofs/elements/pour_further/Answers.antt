@@ -5,19 +5,27 @@ use Rattle.aas_pour.proofs.elements.pour_further.Goals as goal
 pub loop-next-init : goal.loop-next-init
 loop-next-init g c = further_start c.args.show (g.R.Rows.lines c.args.rows.now) c.args.from c.args.so_far (g.O.Out.told c.args.out.now)
 
-pub pour_element-state-requires-clause-there : goal.pour_element-state-requires-clause-there
-pour_element-state-requires-clause-there g c = (next_there c.args.show (g.R.Rows.lines c.args.rows.now) c.loop-next.at c.in-Some.next (c.in-Some.ensures.next c.args.show)).there
+pub pour_found-state-requires-clause-there : goal.pour_found-state-requires-clause-there
+pour_found-state-requires-clause-there g c =
+    let rows = g.R.Rows.lines c.args.rows.now in
+    (next_there c.args.show rows c.loop-next.at c.in-Some.next.rank (c.in-Some.ensures.next c.args.show)).there
 
 pub loop-next-smaller : goal.loop-next-smaller
 loop-next-smaller g c =
-    let h : Next c.args.show (g.R.Rows.lines c.args.rows.now) c.loop-next.at c.in-Some.next = next_there c.args.show (g.R.Rows.lines c.args.rows.now) c.loop-next.at c.in-Some.next (c.in-Some.ensures.next c.args.show) in
+    let rows = g.R.Rows.lines c.args.rows.now in
+    let h : Next c.args.show rows c.loop-next.at c.in-Some.next.rank =
+    next_there c.args.show rows c.loop-next.at c.in-Some.next.rank (c.in-Some.ensures.next c.args.show) in
     omega (arith, h.order, h.within)
 
 pub loop-next-preserved : goal.loop-next-preserved
 loop-next-preserved g c =
-    further_more c.args.show (g.R.Rows.lines c.args.rows.now) c.args.from c.loop-next.at c.in-Some.next c.args.so_far c.loop-next.state c.add-comma.result c.pour_element-state.result
-    (g.O.Out.told c.args.out.now) (g.O.Out.told c.loop-next.out) (g.O.Out.told c.add-comma.new.out) (g.O.Out.told c.pour_element-state.new.out)
-    c.loop-next.invariant (c.in-Some.ensures.next c.args.show) c.add-comma.ensures c.pour_element-state.ensures
+    let rows = g.R.Rows.lines c.args.rows.now in
+    let told = g.O.Out.told in
+    let comma = c.add-comma in
+    let element = c.pour_found-state in
+    further_more c.args.show rows c.args.from c.loop-next.at c.in-Some.next.rank c.args.so_far c.loop-next.state comma.result element.result
+    (told c.args.out.now) (told c.loop-next.out) (told comma.new.out) (told element.new.out)
+    c.loop-next.invariant (c.in-Some.ensures.next c.args.show) comma.ensures element.ensures
 
 pub returns : goal.returns
 returns g c =

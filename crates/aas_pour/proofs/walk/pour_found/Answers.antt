@@ -1,4 +1,4 @@
-use Rattle.std.proofs.Common.{◌∷◌, [], ◌++◌, false, sym}
+use Rattle.std.proofs.Common.{◌∷◌, [], false, sym}
 use Rattle.aas_members_text.specs.Script.{script}
 use Rattle.aas_out.proofs.Adding.{adds_both, adds_same}
 use Rattle.aas_rows.specs.Views.{line_of}

@@ -24,11 +24,13 @@ loop-walk-init g c =
     }
 
 pub loop-walk-smaller : goal.loop-walk-smaller
-loop-walk-smaller g c = falls c.args.show (g.R.Rows.lines c.args.rows.now) c.loop-walk.walk c.step-state.new.walk (cc) c.step-state.ensures.less
+loop-walk-smaller g c =
+    falls c.args.show (g.R.Rows.lines c.args.rows.now) c.loop-walk.walk c.step-state.new.walk (cc) c.step-state.ensures.less
 
 pub loop-walk-preserved : goal.loop-walk-preserved
 loop-walk-preserved g c =
     let rows = g.R.Rows.lines c.args.rows.now in
+    let whole = remaining c.args.show rows [] c.args.rank 6 false in
     let told = g.O.Out.told in
-    stepped c.args.show rows (remaining c.args.show rows [] c.args.rank 6 false) c.loop-walk.walk c.step-state.new.walk c.args.so_far c.loop-walk.state c.step-state.result
+    stepped c.args.show rows whole c.loop-walk.walk c.step-state.new.walk c.args.so_far c.loop-walk.state c.step-state.result
     (told c.args.out.now) (told c.loop-walk.out) (told c.step-state.new.out) c.loop-walk.invariant c.step-state.ensures.poured

@@ -5,7 +5,9 @@ use Rattle.aas_pour.proofs.walk.walk_element.Given as goal
 
 abbrev pub invariant-loop-walk : goal.invariant-loop-walk
 invariant-loop-walk g l =
-    Underway l.fn.show (g.R.Rows.lines l.rows) (remaining l.fn.show (g.R.Rows.lines l.rows) [] l.fn.rank 6 false) l.walk l.fn.so_far l.state (g.O.Out.told l.fn.out) (g.O.Out.told l.out)
+    let rows = g.R.Rows.lines l.rows in
+    let whole = remaining l.fn.show rows [] l.fn.rank 6 false in
+    Underway l.fn.show rows whole l.walk l.fn.so_far l.state (g.O.Out.told l.fn.out) (g.O.Out.told l.out)
 
 abbrev pub decreases-loop-walk : goal.decreases-loop-walk
 decreases-loop-walk g l = turns l.fn.show (g.R.Rows.lines l.rows) l.walk
