@@ -1,6 +1,5 @@
 ghost use Rattle.std.specs.Prelude.{◌≡◌, MatchOption};
 ghost use Rattle.std.specs.Borrow.{LendsIf, sem};
-ghost use Rattle.aas_rows.specs.Rows.{rows_of_all};
 ghost use Rattle.aas_sheet.specs.Lent.{holding_row, sheets_type, store_type, with_row_in, HasNoRow, IsRowOf};
 ghost use Rattle.aas_sheet.specs.SheetStore.{documents};
 ghost use Rattle.aas_sheet_rows.specs.Lent.{row_type};
@@ -149,10 +148,14 @@ impl Store for SheetStore {
 
     type Table = Sheet;
 
-    ghost rows = { λ submodel. rows_of_all submodel.kids 1 };
+    ghost kept = { λ submodel. submodel };
 
     fn table(&self, id: &str) -> Option<&Sheet> {
         self.submodels.get(id)
+    }
+
+    fn head_of(table: &Sheet) -> &Submodel {
+        table.head()
     }
 
     fn row_of(table: &Sheet, rank: u64) -> Option<RowView<'_>> {

@@ -1,12 +1,13 @@
-ghost use Rattle.std.specs.Prelude.{◌≡◌, ◌↔◌, ◌≤◌, true, false, List, Some, None, All, Err, IfOk, IfSome, IsSome, MatchOption, OnErr, OnOk, is_some};
+ghost use Rattle.std.specs.Prelude.{◌≡◌, ◌↔◌, ◌≤◌, true, false, Some, None, All, Err, IfOk, IfSome, IsSome, MatchOption, OnErr, OnOk, is_some};
 ghost use Rattle.std.specs.Prelude.{length, option_and_then, option_map, slice_get};
 ghost use Rattle.std.specs.FinMap as map;
 ghost use Rattle.std.specs.Option.{option_copied, option_map_or};
+ghost use Rattle.aas_model.specs.declared.documents.Submodel.{Submodel};
 ghost use Rattle.aas_model.specs.declared.path.Missing.{Missing};
 ghost use Rattle.aas_path_trees.specs.Edits.{inserted, removed, replaced, role_at};
 ghost use Rattle.aas_path_trees.specs.ElementAt.{element_at, place_named, children_at};
 ghost use Rattle.aas_rows.specs.Children.{is_at, nth_where};
-ghost use Rattle.aas_rows.specs.Rows.{Line, rows_of_all};
+ghost use Rattle.aas_rows.specs.Rows.{rows_of_all};
 ghost use Rattle.aas_rows.specs.Views.{line_of};
 ghost use Rattle.aas_store.specs.Documents.{Documents, count, first_above, has, ids, without_children};
 ghost use Rattle.aas_store.specs.Documents.{with_all, with_concept, with_shell, with_submodel, without};
@@ -87,24 +88,27 @@ pub trait Store {
     /// A submodel as it is stored.
     type Table;
 
-    /// The rows of its elements.
-    ghost rows: { Self.Table → List Line };
+    /// The submodel that it keeps.
+    ghost kept: { Self.Table → Submodel };
 
     /// The stored submodel of the identifier.
     fn table(&self, id: &str) -> Option<&Self::Table>
-        ensures { MatchOption result (map.get (documents self.now).submodels id.now ≡ None)
-            (λ table. Holds (documents self.now) id.now (λ s. rows table.now ≡ rows_of_all s.kids 1)) };
+        ensures { option_map kept (option_copied result) ≡ map.get (documents self.now).submodels id.now };
+
+    /// A submodel that is the stored one but for its children, of which it tells nothing.
+    fn head_of(table: &Self::Table) -> &Submodel
+        ensures { without_children result.now ≡ without_children (kept table.now) };
 
     /// The row of the rank in a stored submodel, or `None` past the end. That there are at most 65,536 bounds the levels.
     fn row_of(table: &Self::Table, rank: u64) -> Option<RowView<'_>>
-        requires { length (rows table.now) ≤ 65536 }
-        ensures { option_map line_of result ≡ slice_get (rows table.now) rank };
+        requires { length (rows_of_all (kept table.now).kids 1) ≤ 65536 }
+        ensures { option_map line_of result ≡ slice_get (rows_of_all (kept table.now).kids 1) rank };
 
     /// The rank of the child in the place, counted from 0, of a stored submodel, or `None` past the last child. That there
     /// are at most 65,536 elements bounds the ranks.
     fn child_rank(table: &Self::Table, place: u64) -> Option<u64>
-        requires { length (rows table.now) ≤ 65536 }
-        ensures { result ≡ nth_where (is_at 1) place (rows table.now) };
+        requires { length (rows_of_all (kept table.now).kids 1) ≤ 65536 }
+        ensures { result ≡ nth_where (is_at 1) place (rows_of_all (kept table.now).kids 1) };
 
     /// How many elements the submodel of the identifier has, at all levels. That these are at most 65,536 bounds the count.
     fn element_count(&self, id: &str) -> Option<u64>

@@ -1,5 +1,4 @@
 ghost use Rattle.std.specs.Prelude.{◌≡◌};
-ghost use Rattle.aas_rows.specs.Rows.{rows_of_all};
 ghost use Rattle.aas_store.specs.Documents.{empty};
 ghost use Rattle.aas_store.specs.TreeStore.{documents};
 
@@ -121,10 +120,14 @@ impl Store for TreeStore {
 
     type Table = Submodel;
 
-    ghost rows = { λ submodel. rows_of_all submodel.kids 1 };
+    ghost kept = { λ submodel. submodel };
 
     fn table(&self, id: &str) -> Option<&Submodel> {
         self.submodels.get(id)
+    }
+
+    fn head_of(table: &Submodel) -> &Submodel {
+        table
     }
 
     fn row_of(table: &Submodel, rank: u64) -> Option<RowView<'_>> {
