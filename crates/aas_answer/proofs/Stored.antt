@@ -23,12 +23,15 @@ use Rattle.aas_store.specs.Storable.{IsStorable}
 use Rattle.aas_answer.specs.Answers.{submodel_shown}
 use Rattle.aas_answer.specs.Shown.{show_at}
 use Rattle.aas_answer.proofs.Low.{rows_are_low}
-use Rattle.aas_answer.proofs.Pages.{head_there}
 use Rattle.aas_answer.proofs.Shown.{submodel_text_shown}
 
 -- these rows are those of the submodel that is found
 abbrev pub HasLines : Option Submodel → List Line → Type 0
 HasLines found lines = MatchOption found ⊥ (λ s. lines ≡ rows_of_all s.kids 1)
+
+pub has_lines : (found : Option Submodel) (s : Submodel) (lines : List Line) → Some s ≡ found → lines ≡ rows_of_all s.kids 1
+    → HasLines found lines
+has_lines found s lines is rows = subst (λ (o : Option Submodel). HasLines o lines) is rows
 
 -- valid submodels
 abbrev pub HasValid : Option Submodel → Type 0
@@ -37,9 +40,9 @@ HasValid found = (s : Submodel) → found ≡ Some s → IsStorable s
 pub storable : (d : Documents) (id : Identifier) → ValidIsStorable → AreValid d → HasValid (map.get d.submodels id)
 storable d id law valid s is = let there = valid.submodels id s is in law s there.valid there.few
 
-pub few_lines : (found : Option Submodel) (lines : List Line) → HasValid found → HasLines found lines → length lines ≤ 65536
-few_lines None lines valid has = absurd has
-few_lines (Some s) lines valid has = let few = (valid s refl).few in omega (arith, few, ap length has ∙ count_at s.kids 1)
+pub few_lines : (found : Option Submodel) (s : Submodel) → HasValid found → Some s ≡ found
+    → length (rows_of_all s.kids 1) ≤ 65536
+few_lines found s valid is = let few = (valid s (sym is)).few in omega (arith, few, count_at s.kids 1)
 
 pub few_elements : (found : Option Submodel) → HasValid found → IfSome found (λ s. element_count s ≤ 65536)
 few_elements None valid = tt
@@ -49,20 +52,14 @@ pub low_lines : (found : Option Submodel) (lines : List Line) → HasValid found
 low_lines None lines valid has = absurd has
 low_lines (Some s) lines valid has = subst AreLow (sym has) (rows_are_low s.kids (valid s refl).shallow)
 
--- what is shown of a stored submodel with the children that its rows tell
-pub shown_of_lines : (level : Level) (extent : Extent) (found : Option Submodel) (h : Submodel) (lines : List Line) → HasValid found → HasLines found lines
-    → Some (without_children h) ≡ option_map without_children found
-    → (s : Submodel) × (lines ≡ rows_of_all s.kids 1) × (compact_text (spell_submodel (shown_submodel (show_at 0 level extent) h s.kids)) ≡ option_map_or (submodel_shown level extent) found [])
-shown_of_lines level extent None h lines valid has is = absurd has
-shown_of_lines level extent (Some s) h lines valid has is =
-    let there = head_there (Some s) h is in
-    let w = show_at 0 level extent in
-    let same : s ≡ there.0 = cc in (
-      s,
-      has,
-      ap (λ h. compact_text (spell_submodel (shown_submodel w h s.kids))) (there.2 ∙ ap without_children (sym same))
-          ∙ submodel_text_shown level extent s (rows_are_low s.kids (valid s refl).shallow),
-    )
+-- what is shown of a stored submodel by its head, with its children
+pub shown_by_head : (level : Level) (extent : Extent) (found : Option Submodel) (h s : Submodel) → HasValid found → Some s ≡ found
+    → without_children h ≡ without_children s
+    → compact_text (spell_submodel (shown_submodel (show_at 0 level extent) h s.kids)) ≡ option_map_or (submodel_shown level extent) found []
+shown_by_head level extent found h s valid is head =
+    ap (λ h. compact_text (spell_submodel (shown_submodel (show_at 0 level extent) h s.kids))) head
+    ∙ submodel_text_shown level extent s (rows_are_low s.kids (valid s (sym is)).shallow)
+    ∙ ap (λ o. option_map_or (submodel_shown level extent) o []) is
 
 -- a submodel that isn't told of by its head isn't there
 pub no_head : (found : Option Submodel) → None ≡ option_map without_children found → found ≡ None

@@ -88,16 +88,13 @@ pub(crate) fn children_answer<S: Store>(
         ⊎ (result ≡ of_children (S.documents store.now) id.now span (child_text form)) }
 {
     let id = id.as_str();
-    let (Some(head), Some(count), Some(table)) = (
-        store.submodel_head(id),
-        store.child_count(id),
-        store.table(id),
-    ) else {
+    let (Some(count), Some(table)) = (store.child_count(id), store.table(id)) else {
         return Err(Refusal::NotFound {
             what: Absent::Submodel,
         });
     };
     valid_submodels_are_storable();
+    let head = S::head_of(table);
     let rows = StoredRows::<S>::new(table);
     Ok(children_page(alloc, &rows, head, count, span, form)?)
 }

@@ -74,15 +74,13 @@ fn pour_stored<S: Store, O: Out>(
     ensures { Adds so_far result (O.told out.old) (O.told out.new)
         (option_map_or (submodel_shown level extent) (map.get (S.documents store.now).submodels id.now) []) }
 {
-    match store.submodel_head(id) {
-        Some(head) => match store.table(id) {
-            Some(table) => {
-                valid_submodels_are_storable();
-                let rows = StoredRows::<S>::new(table);
-                pour_submodel(so_far, head, &rows, show_at(0, level, extent), out)
-            }
-            None => so_far,
-        },
+    match store.table(id) {
+        Some(table) => {
+            valid_submodels_are_storable();
+            let head = S::head_of(table);
+            let rows = StoredRows::<S>::new(table);
+            pour_submodel(so_far, head, &rows, show_at(0, level, extent), out)
+        }
         None => so_far,
     }
 }

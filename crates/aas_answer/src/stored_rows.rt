@@ -1,6 +1,7 @@
 // The rows of a stored submodel.
 ghost use Rattle.std.specs.Prelude.{◌≡◌, ◌-◌, ◌^◌, ◌<◌, ◌≤◌, length, IfSome};
 ghost use Rattle.aas_rows.specs.Children.{is_at, nth_where};
+ghost use Rattle.aas_rows.specs.Rows.{rows_of_all};
 ghost use Rattle.aas_answer.specs.Children.{child_from};
 
 use aas_pour::Rows;
@@ -21,21 +22,21 @@ impl<'a, S: Store> Model for StoredRows<'a, S> {
     ghost use Rattle.std.specs.Prelude.{◌≤◌, List, length};
     ghost use Rattle.aas_model.specs.contracts.common.Common as common;
     ghost use Rattle.aas_model.specs.contracts.payload.Payload as payload;
-    ghost use Rattle.aas_rows.specs.Rows.{Line};
+    ghost use Rattle.aas_rows.specs.Rows.{Line, rows_of_all};
 
     ghost Value = { List Line };
 
     ghost coded = { Prim.hlevel (codes, common.the_row.coded, payload.the_row.coded) };
 
-    ghost view = { λ rows. S.rows rows.table.now };
+    ghost view = { λ rows. rows_of_all (S.kept rows.table.now).kids 1 };
 
-    ghost invariant = { λ rows. length (S.rows rows.table.now) ≤ 65536 };
+    ghost invariant = { λ rows. length (rows_of_all (S.kept rows.table.now).kids 1) ≤ 65536 };
 }
 
 impl<'a, S: Store> StoredRows<'a, S> {
     pub(crate) fn new(table: &'a S::Table) -> StoredRows<'a, S>
-        requires { length (S.rows table.now) ≤ 65536 }
-        ensures { result ≡ S.rows table.now }
+        requires { length (rows_of_all (S.kept table.now).kids 1) ≤ 65536 }
+        ensures { result ≡ rows_of_all (S.kept table.now).kids 1 }
     {
         StoredRows { table }
     }

@@ -1,4 +1,4 @@
-use Rattle.std.proofs.Common.{sym, ◌∙◌, subst, ap}
+use Rattle.std.proofs.Common.{sym, ◌∙◌, ap}
 use Rattle.std.specs.FinMap as map
 use Rattle.serde_json.specs.Written.{compact_text}
 use Rattle.aas_json_mapping.specs.Documents.{spell_submodel}
@@ -6,37 +6,37 @@ use Rattle.aas_out.proofs.Adding.{adds_same}
 use Rattle.aas_pour.specs.Submodels.{shown_submodel}
 use Rattle.aas_answer.specs.Answers.{submodel_shown}
 use Rattle.aas_answer.proofs.Entries.{adds_none}
-use Rattle.aas_answer.proofs.Stored.{HasLines, few_lines, low_lines, no_head, shown_of_lines, storable}
+use Rattle.aas_answer.proofs.Stored.{few_lines, has_lines, low_lines, shown_by_head, storable}
 use Rattle.aas_answer.proofs.pouring.pour_stored.Goals as goal
 
 pub new-rows-requires : goal.new-rows-requires
 new-rows-requires g c =
     let d = g.S.Store.documents c.args.store.now in
-    few_lines (map.get d.submodels c.args.id.now) (g.S.Store.rows c.in-Some-table.table.now)
-    (storable d c.args.id.now c.valid_submodels_are_storable.ensures c.requires) c.in-Some-table.ensures
+    few_lines (map.get d.submodels c.args.id.now) (g.S.Store.kept c.in-Some.table.now)
+    (storable d c.args.id.now c.valid_submodels_are_storable.ensures c.requires) c.in-Some.ensures
 
 pub pour_submodel-requires : goal.pour_submodel-requires
 pour_submodel-requires g c =
     let d = g.S.Store.documents c.args.store.now in
     let found = map.get d.submodels c.args.id.now in
     low_lines found c.new-rows.result (storable d c.args.id.now c.valid_submodels_are_storable.ensures c.requires)
-    (subst (HasLines found) (sym c.new-rows.ensures) c.in-Some-table.ensures)
+    (has_lines found (g.S.Store.kept c.in-Some.table.now) c.new-rows.result c.in-Some.ensures c.new-rows.ensures)
 
-pub returns-in-Some-table : goal.returns-in-Some-table
-returns-in-Some-table g c =
+pub returns-in-Some : goal.returns-in-Some
+returns-in-Some g c =
     let d = g.S.Store.documents c.args.store.now in
     let found = map.get d.submodels c.args.id.now in
     let t = g.O.Out.told c.args.out.now in
     let u = g.O.Out.told c.pour_submodel.new.out in
-    let h = c.in-Some.head.now in
-    let shown =
-    shown_of_lines c.args.level c.args.extent found h (g.S.Store.rows c.in-Some-table.table.now)
-    (storable d c.args.id.now c.valid_submodels_are_storable.ensures c.requires) c.in-Some-table.ensures c.in-Some.ensures in
-    adds_same c.args.so_far c.pour_submodel.result t u (compact_text (spell_submodel (shown_submodel c.show_at.result h shown.0.kids))) _
-    (c.pour_submodel.ensures.canonical shown.0.kids (c.new-rows.ensures ∙ shown.1))
-    (ap (λ w. compact_text (spell_submodel (shown_submodel w h shown.0.kids))) c.show_at.ensures ∙ shown.2)
+    let s = g.S.Store.kept c.in-Some.table.now in
+    let h = c.head_of-head.result.now in
+    adds_same c.args.so_far c.pour_submodel.result t u (compact_text (spell_submodel (shown_submodel c.show_at.result h s.kids))) _
+    (c.pour_submodel.ensures.canonical s.kids c.new-rows.ensures)
+    (ap (λ w. compact_text (spell_submodel (shown_submodel w h s.kids))) c.show_at.ensures
+    ∙ shown_by_head c.args.level c.args.extent found h s (storable d c.args.id.now c.valid_submodels_are_storable.ensures c.requires)
+    c.in-Some.ensures c.head_of-head.ensures)
 
 pub returns-in-None : goal.returns-in-None
 returns-in-None g c =
     let found = map.get (g.S.Store.documents c.args.store.now).submodels c.args.id.now in
-    adds_none (submodel_shown c.args.level c.args.extent) found c.args.so_far (g.O.Out.told c.args.out.now) (no_head found c.in-None.ensures)
+    adds_none (submodel_shown c.args.level c.args.extent) found c.args.so_far (g.O.Out.told c.args.out.now) (sym c.in-None.ensures)
