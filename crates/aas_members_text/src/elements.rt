@@ -26,6 +26,7 @@ use aas_rows::RowView;
 pub struct CanonicalMembers;
 
 impl Members for CanonicalMembers {
+    #[inline(always)]
     fn put_part<O: Out>(
         &self,
         so_far: Pouring,

@@ -1,10 +1,10 @@
 // Members of an object, one after another.
-ghost use Rattle.std.specs.Prelude.{◌≡◌, ◌∷◌, ◌++◌, [], Some, true, option_map};
+ghost use Rattle.std.specs.Prelude.{◌≡◌, ◌∷◌, ◌++◌, [], Some, false, true, map, option_map};
 ghost use Rattle.std.specs.Str.{chars};
 ghost use Rattle.json.specs.Print.{quoted};
-ghost use Rattle.serde_json.specs.Data.{boolean, string};
-ghost use Rattle.serde_json.specs.Written.{comma_if, compact_text};
-ghost use Rattle.aas_json_table.specs.Spelled.{list_of, text_of};
+ghost use Rattle.serde_json.specs.Data.{boolean, no_items, string};
+ghost use Rattle.serde_json.specs.Written.{comma_if, compact_text, items_text};
+ghost use Rattle.aas_json_table.specs.Spelled.{list_of, onto, text_of};
 ghost use Rattle.aas_members_text.specs.Keys.{is_key, name_in};
 ghost use Rattle.aas_members_text.specs.Puts.{BeginsObject, PutsFields};
 ghost use Rattle.aas_out.specs.Adds.{Adds};
@@ -107,7 +107,7 @@ fn put_characters<O: Out>(pen: Pen, key: &[u8], text: &str, out: &mut O) -> Pen
 }
 
 /// Puts a member whose value is the name of a value of an enumeration.
-#[inline]
+#[inline(always)]
 pub(crate) fn put_word<V: Named, O: Out>(pen: Pen, key: &[u8], value: V, out: &mut O) -> Pen
     requires { is_key key.now ≡ true }
     ensures { PutsFields pen result (O.told out.old) (O.told out.new) ((name_in key.now, Some (compact_text (string (V.name_of value)))) ∷ []) }
@@ -167,7 +167,7 @@ pub(crate) fn add_flag<O: Out>(so_far: Pouring, flag: bool, out: &mut O) -> Pour
 }
 
 /// Puts a member whose value is of a sort.
-#[inline]
+#[inline(always)]
 pub(crate) fn put_one<P: Poured, O: Out>(pen: Pen, key: &[u8], value: &P::Tree, out: &mut O) -> Pen
     requires { is_key key.now ≡ true }
     ensures { PutsFields pen result (O.told out.old) (O.told out.new) ((name_in key.now, Some (compact_text (P.spell value.now))) ∷ []) }
@@ -180,7 +180,7 @@ pub(crate) fn put_one<P: Poured, O: Out>(pen: Pen, key: &[u8], value: &P::Tree, 
 }
 
 /// The same, where there may be none.
-#[inline]
+#[inline(always)]
 pub(crate) fn put_optional<P: Poured, O: Out>(
     pen: Pen,
     key: &[u8],
@@ -196,8 +196,22 @@ pub(crate) fn put_optional<P: Poured, O: Out>(
     }
 }
 
+/// Puts a member whose value is an array of these items.
+#[inline(never)]
+fn put_items<P: Poured, O: Out>(pen: Pen, key: &[u8], items: &[P::Tree], out: &mut O) -> Pen
+    requires { is_key key.now ≡ true }
+    ensures { PutsFields pen result (O.told out.old) (O.told out.new) ((name_in key.now, Some (91 ∷ items_text false (onto (map P.spell items.now) no_items))) ∷ []) }
+{
+    let named = add_key(pen, key, out);
+    let opened = add(named, b"[", out);
+    Pen {
+        state: pour_items::<P, O>(opened, items, out),
+        later: true,
+    }
+}
+
 /// Puts a member whose value is an array, unless it has no items.
-#[inline]
+#[inline(always)]
 pub fn put_list<P: Poured, O: Out>(pen: Pen, key: &[u8], values: &Many<P::Tree>, out: &mut O) -> Pen
     requires { is_key key.now ≡ true }
     ensures { PutsFields pen result (O.told out.old) (O.told out.new) ((name_in key.now, option_map compact_text (list_of P.spell values.now)) ∷ []) }
@@ -205,10 +219,5 @@ pub fn put_list<P: Poured, O: Out>(pen: Pen, key: &[u8], values: &Many<P::Tree>,
     if values.is_empty() {
         return pen;
     }
-    let named = add_key(pen, key, out);
-    let opened = add(named, b"[", out);
-    Pen {
-        state: pour_items::<P, O>(opened, values.as_slice(), out),
-        later: true,
-    }
+    put_items::<P, O>(pen, key, values.as_slice(), out)
 }
