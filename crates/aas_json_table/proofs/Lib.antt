@@ -2,3 +2,4 @@ pub mod Escapes
 pub mod Lists
 pub mod NameLemmas
 pub mod RowsByName
+pub mod Shallow

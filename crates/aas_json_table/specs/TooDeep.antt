@@ -1,5 +1,5 @@
 -- The first place of a JSON value that lies too deep, in the order of the first mapping fault. The limits are this profile's own rule.
-use Rattle.std.specs.Prelude.{ℕ, zero, suc, ◌+◌, List, [], Option, Some, None, option_map}
+use Rattle.std.specs.Prelude.{ℕ, zero, suc, ◌+◌, nat_lt, Bool, false, List, [], Option, Some, None, option_map}
 use Rattle.serde_json.specs.Data.{Data, array, object, Items, no_items, item, Members, no_members, member}
 use Rattle.aas_json_table.specs.Table.{Sort, reference, element, data_element, MemberType, one, many, kept, plain, Row}
 use Rattle.aas_json_table.specs.Rows.{Pointer, in_member, in_item, first_of, below, row_named, rows_of}
@@ -63,3 +63,9 @@ abbrev mutual
   pub too_deep_all : Members → Levels → Option Pointer
   too_deep_all no_members l = None
   too_deep_all (member k d ms) l = first_of (below (in_member k) (too_deep plain d l)) (too_deep_all ms l)
+
+-- a value in which no other lies, where kept data would have a level left: nothing in it lies too deep
+abbrev pub is_shallow : Data → Levels → Bool
+is_shallow (array ds) l = false
+is_shallow (object ms) l = false
+is_shallow d l = nat_lt 0 l.kept

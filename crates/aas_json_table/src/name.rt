@@ -1,5 +1,6 @@
-// Each name of a member is spelled here and nowhere else in code. The same word may be another name elsewhere: of a
-// parameter, of a segment of a path, or of a specific asset id.
+// Each name of a member is spelled here, and once more as it stands in a text: in `key.rt` of `aas_members_text` and
+// `stops.rt` of `aas_pour`. The same word may be another name elsewhere: of a parameter, of a segment of a path, or of a
+// specific asset id.
 
 pub const ADMINISTRATION: &str = "administration";
 

@@ -1,7 +1,7 @@
 ghost use Rattle.std.specs.Prelude.{◌≡◌, ◌-◌, map, IfOk, option_map};
 ghost use Rattle.serde_json.specs.View.{view, items_view, members_view};
 ghost use Rattle.aas_json_table.specs.TooDeep.{too_deep, too_deep_items, too_deep_members, too_deep_all};
-ghost use Rattle.aas_json_table.specs.TooDeep.{limits, spend, enter, enter_kept};
+ghost use Rattle.aas_json_table.specs.TooDeep.{limits, spend, enter, enter_kept, is_shallow};
 ghost use Rattle.aas_json_table.specs.Seen.{row_of, member_type_of, sort_of, levels_of};
 
 use crate::pointer::{Token, Trail};
@@ -134,7 +134,18 @@ fn too_deep_items(
     Ok(None)
 }
 
+// Whether no other value lies in this one, so that nothing in it lies too deep where kept data has a level left.
+fn is_shallow(value: &Value, left: Levels) -> bool
+    ensures { result ≡ is_shallow (view value.now) (levels_of left) }
+{
+    match value {
+        Value::Array(_) | Value::Object(_) => false,
+        _ => left.kept > 0,
+    }
+}
+
 #[cycle(too_deep)]
+#[tactic(auto, using(crate::proofs::Shallow::shallow_member))]
 fn too_deep_members(
     alloc: Global,
     rows: &'static [Row],
@@ -145,6 +156,9 @@ fn too_deep_members(
         ≡ too_deep_members (members_view members.now.entries) (map row_of rows.now) (levels_of left)) }
 {
     for (name, value) in members.iter() {
+        if is_shallow(value, left) {
+            continue;
+        }
         if let Some(row) = row_named(name.as_str(), rows) {
             if let Some(trail) = too_deep(alloc, row.member_type, value, left)? {
                 return Ok(Some(trail.below(Token::member(alloc, name.as_str())?)?));
