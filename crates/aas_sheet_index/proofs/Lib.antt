@@ -1,3 +1,4 @@
+pub mod Above
 pub mod Measures
 pub mod Merged
 pub mod Moved

@@ -5,7 +5,7 @@ use Rattle.std.proofs.lemmas.List.{drop_all, take-append-drop, take-set, length-
 use Rattle.std.proofs.lemmas.List.Elements.{All-cons, All-head, All-tail}
 use Rattle.aas_lemmas.proofs.Lists.{drop_at}
 use Rattle.aas_rows.specs.Rows.{count_deeper, sizes}
-use Rattle.aas_sheet_index.specs.Sides.{levels, measured, sizes_of, AreMeasured, BeginsMeasured, HaveLevels}
+use Rattle.aas_sheet_index.specs.Sides.{levels, measured, sizes_of, AreMeasured, HaveLevels}
 use Rattle.aas_sheet_index.specs.declared.side.Side.{Side}
 
 -- ---- one size
@@ -32,7 +32,7 @@ levels_drop zero ss = refl
 levels_drop (suc n) [] = refl
 levels_drop (suc n) (s ∷ ss) = levels_drop n ss
 
-drop_more : (m n : ℕ) (xs : List Side) → drop m (drop n xs) ≡ drop (n + m) xs
+pub drop_more : (m n : ℕ) (xs : List Side) → drop m (drop n xs) ≡ drop (n + m) xs
 drop_more m zero xs = ap (λ k. drop k xs) (none m)
   where
     none : (m : ℕ) → m ≡ 0 + m
@@ -46,6 +46,14 @@ drop_more m (suc n) (x ∷ xs) = drop_more m n xs ∙ ap (λ k. drop k (x ∷ xs
   where
     next : (n m : ℕ) → suc (n + m) ≡ suc n + m
     next n m = omega arith
+
+pub count_most : (k : ℕ) (xs : List Side) → count_deeper k (levels xs) ≤ length xs
+count_most k [] = omega arith
+count_most k (x ∷ xs) = by (nat_lt k x.level) (count_most k xs)
+  where
+    by : (b : Bool) → count_deeper k (levels xs) ≤ length xs → (if b then 1 + count_deeper k (levels xs) else 0) ≤ suc (length xs)
+    by true h = omega arith
+    by false h = omega arith
 
 -- counted up to end: the rows from the first on stand deeper than k
 pub record Counted (ss : List Side) (k first end : ℕ) : Type 0 where
@@ -79,16 +87,8 @@ count_on ss k first end s known c lt is deep =
     let rest = ap (count_deeper k) left in
     (record { above = omega (arith, c.above); inside = omega arith; counts = omega (arith, counts, here, more, rest, size, c.above) }, omega arith)
   where
-    at_most : (k : ℕ) (xs : List Side) → count_deeper k (levels xs) ≤ length xs
-    at_most k [] = omega arith
-    at_most k (x ∷ xs) = by (nat_lt k x.level) (at_most k xs)
-      where
-        by : (b : Bool) → count_deeper k (levels xs) ≤ length xs → (if b then 1 + count_deeper k (levels xs) else 0) ≤ suc (length xs)
-        by true h = omega arith
-        by false h = omega arith
-
     within : (ss : List Side) (k m : ℕ) → m ≤ length ss → m + count_deeper k (levels (drop m ss)) ≤ length ss
-    within ss k m le = let most = at_most k (drop m ss) in let long = length-drop m ss in omega (arith, most, long)
+    within ss k m le = let most = count_most k (drop m ss) in let long = length-drop m ss in omega (arith, most, long)
 
 -- where no row is left, or the next stands no deeper, all are counted
 pub counted_at_end : (ss : List Side) (k first : ℕ) (end : ℕ) → Counted ss k first end → length ss ≤ end → end - first ≡ count_deeper k (levels (drop first ss))
@@ -137,7 +137,7 @@ pub measured_back : (xs ys : List Side) → AreMeasured (xs ++ ys) → AreMeasur
 measured_back [] ys known = known
 measured_back (x ∷ xs) ys known = let rest : AreMeasured (xs ++ ys) = cc in measured_back xs ys rest
 
-drop_measured : (n : ℕ) (ss : List Side) → drop n (measured ss) ≡ measured (drop n ss)
+pub drop_measured : (n : ℕ) (ss : List Side) → drop n (measured ss) ≡ measured (drop n ss)
 drop_measured zero ss = refl
 drop_measured (suc n) [] = refl
 drop_measured (suc n) (s ∷ ss) = drop_measured n ss
@@ -187,7 +187,7 @@ measuring_on start ss n m size d next so_far is =
 
 -- ---- where measuring begins and ends
 
-measured_known : (ss : List Side) → AreMeasured ss → measured ss ≡ ss
+pub measured_known : (ss : List Side) → AreMeasured ss → measured ss ≡ ss
 measured_known [] known = refl
 measured_known (s ∷ ss) known =
     let own : s.size ≡ 1 + count_deeper s.level (levels ss) = cc in
@@ -197,64 +197,5 @@ measured_known (s ∷ ss) known =
 pub measuring_begun : (start : List Side) (n : ℕ) → n ≤ length start → AreMeasured (drop n start) → Measuring start start n
 measuring_begun start n le known = record { inside = le; before = refl; behind = sym (measured_known (drop n start) known) }
 
--- the levels behind a row that stands no deeper count for nothing
-count_same : (n k l : ℕ) (xs ys : List Side) → take (suc n) xs ≡ take (suc n) ys → slice_get (levels ys) n ≡ Some l → l ≤ k
-    → count_deeper k (levels xs) ≡ count_deeper k (levels ys)
-count_same n k l xs [] same is le = absurd (cc)
-count_same n k l [] (y ∷ ys) same is le = absurd (cc)
-count_same zero k l (x ∷ xs) (y ∷ ys) same is le =
-    let own : x ≡ y = cc in
-    let level : y.level ≡ l = cc in
-    let none : nat_lt k y.level ≡ false = le-ltb k y.level (omega arith) in
-    ap (λ b. if b then 1 + count_deeper k (levels xs) else 0) (ap (λ (s : Side). nat_lt k s.level) own ∙ none)
-    ∙ sym (ap (λ b. if b then 1 + count_deeper k (levels ys) else 0) none)
-count_same (suc n) k l (x ∷ xs) (y ∷ ys) same is le =
-    let own : x ≡ y = cc in
-    let rest : take (suc n) xs ≡ take (suc n) ys = cc in
-    ap₂ (λ (s : Side) m. if nat_lt k s.level then 1 + m else 0) own (count_same n k l xs ys rest is le)
-
-measured_same : (n : ℕ) (xs ys : List Side) → HaveLevels ys → take (suc n) xs ≡ take (suc n) ys → slice_get (levels ys) n ≡ Some 1
-    → take n (measured xs) ≡ take n (measured ys)
-measured_same zero xs ys deep same is = refl
-measured_same (suc n) xs [] deep same is = absurd (cc)
-measured_same (suc n) [] (y ∷ ys) deep same is = absurd (cc)
-measured_same (suc n) (x ∷ xs) (y ∷ ys) deep same is =
-    let own : x ≡ y = cc in
-    let rest : take (suc n) xs ≡ take (suc n) ys = cc in
-    let P : Side → Type 0 = λ s. 0 < s.level in
-    let high : 0 < y.level = All-head P y ys deep in
-    ap₂ (λ s ss. s ∷ ss)
-    (ap (λ (s : Side). record s { size = 1 + count_deeper s.level (levels xs) }) own
-    ∙ ap (λ m. record y { size = 1 + m }) (count_same n y.level 1 xs ys rest is (omega arith)))
-    (measured_same n xs ys (All-tail P y ys deep) rest is)
-
-take_begun : (m n : ℕ) (xs rest : List Side) → m ≤ n → n ≤ length xs → take m (take n xs ++ rest) ≡ take m xs
-take_begun zero n xs rest le inside = refl
-take_begun (suc m) zero xs rest le inside = absurd (omega arith)
-take_begun (suc m) (suc n) [] rest le inside = absurd (omega arith)
-take_begun (suc m) (suc n) (x ∷ xs) rest le inside = ap (λ xs. x ∷ xs) (take_begun m n xs rest (omega arith) (omega arith))
-
-level_before : (start ss : List Side) (n : ℕ) (d : Side) → take (suc n) ss ≡ take (suc n) start → n < length ss
-    → slice_get (levels start) n ≡ Some (slice_index_or ss n d).level
-level_before start [] n d same lt = absurd (omega arith)
-level_before [] (s ∷ ss) n d same lt = absurd (cc)
-level_before (x ∷ start) (s ∷ ss) zero d same lt = let own : x ≡ s = cc in ap (λ (s : Side). Some s.level) own
-level_before (x ∷ start) (s ∷ ss) (suc n) d same lt =
-    let rest : take (suc n) ss ≡ take (suc n) start = cc in level_before start ss n d rest (omega arith)
-
--- where a row of level 1 stands before the first that changed, none before it counts what changed
-pub measuring_over : (start ss : List Side) (first n m size : ℕ) (d : Side) → BeginsMeasured (take first start) → HaveLevels start
-    → first ≤ length start → m < first → n ≡ suc m → Measuring start ss n → slice_get (sizes (levels ss)) m ≡ Some size
-    → (slice_index_or ss m d).level ≡ 1 → slice_set ss m (record (slice_index_or ss m d) { size = size }) ≡ measured start
-measuring_over start ss first n m size d begun deep inside lt next so_far is one =
-    let new : List Side = slice_set ss m (record (slice_index_or ss m d) { size = size }) in
-    let on : Measuring start new m = measuring_on start ss n m size d next so_far is in
-    let xs : List Side = take first start ++ begun.rest in
-    let before : take (suc m) ss ≡ take (suc m) start = subst (λ n. take n ss ≡ take n start) next so_far.before in
-    let within : suc m ≤ length ss = subst (λ n. n ≤ length ss) next so_far.inside in
-    let level : slice_get (levels start) m ≡ Some 1 = level_before start ss m d before (omega arith) ∙ ap (λ n. Some n) one in
-    let front : take m new ≡ take m (measured start) =
-    on.before ∙ sym (take_begun m first start begun.rest (omega arith) inside) ∙ ap (take m) (sym (measured_known xs begun.all))
-    ∙ measured_same m xs start deep (take_begun (suc m) first start begun.rest (omega arith) inside) level in
-    sym (take-append-drop m new) ∙ ap₂ (λ xs ys. xs ++ ys) front (on.behind ∙ sym (drop_measured m start))
-    ∙ take-append-drop m (measured start)
+pub measuring_done : (start ss : List Side) (n : ℕ) → Measuring start ss n → ss ≡ take n start ++ measured (drop n start)
+measuring_done start ss n m = sym (take-append-drop n ss) ∙ ap₂ (λ xs ys. xs ++ ys) m.before m.behind

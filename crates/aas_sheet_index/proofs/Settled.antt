@@ -9,8 +9,9 @@ use Rattle.std.proofs.lemmas.List.Elements.{filter-append, All-append, All-drop,
 use Rattle.std.proofs.lemmas.List.Sorted.{list_any-IsPermutation}
 use Rattle.aas_model_text.specs.Many.{filled}
 use Rattle.aas_sheet_index.specs.Index.{compared, has_name, is_between, key_of, order, Enlarged, IsColumn, IsIndex, IsPart, Listed, Waiting}
+use Rattle.aas_sheet_index.specs.Measuring.{Begins, StandFor}
 use Rattle.aas_sheet_index.specs.Moving.{moved, renumbered, stays}
-use Rattle.aas_sheet_index.specs.Sides.{measured, AreMeasured, BeginsMeasured, HaveLevels}
+use Rattle.aas_sheet_index.specs.Sides.{measured, AreMeasured, HaveLevels}
 use Rattle.aas_sheet_index.specs.declared.side.Side.{Side}
 use Rattle.aas_sheet_index.proofs.Measures.{have_measured, measured_back, measured_long, sized_measured}
 use Rattle.aas_sheet_index.proofs.Moved.{back_long, back_sorted, front_sorted, listed, Cut}
@@ -110,26 +111,42 @@ module _ (ss : List Side) (first end count : ℕ) (p : Parts ss first end count)
         names = subst (Listed ((p.front ++ p.new) ++ p.rest) 0 (length ((p.front ++ p.new) ++ p.rest))) (sym shape) (listed p.front p.old p.rest p.new first end count total cut w.kept w.fresh x y);
       })
 
-  -- the sizes before the new sides, and those behind them, are what they were
-  pub begins : (lent : List Side) → lent ≡ replace_range (take count ss) first end (drop count ss) → AreMeasured (take count ss)
-      → BeginsMeasured (take first lent)
-  begins lent is known =
-      let front : take first lent ≡ p.front =
-      take_seam lent p.front (p.new ++ p.rest) first (is ∙ replaced ∙ append_assoc p.front p.new p.rest) p.at_first in
-      record { rest = p.old ++ p.rest; all = subst AreMeasured (all_old ∙ ap (λ xs. xs ++ (p.old ++ p.rest)) (sym front)) known }
-
-  pub ends : (lent : List Side) (total : ℕ) → lent ≡ replace_range (take count ss) first end (drop count ss) → total ≡ length ss
-      → AreMeasured (take count ss) → AreMeasured (drop (first + (total - count)) lent)
-  ends lent total is all known =
+  -- the sides from the new ones on
+  rest_at : (lent : List Side) (total : ℕ) → lent ≡ replace_range (take count ss) first end (drop count ss) → total ≡ length ss
+      → drop (first + (total - count)) lent ≡ p.rest
+  rest_at lent total is all =
       let cut = cut_of ss first end count p in
       let both = length-append p.front p.new in
       let at_first = p.at_first in
       let at_total = cut.at_total in
       let long : length (p.front ++ p.new) ≡ first + (total - count) = omega (arith, both, at_first, at_total, all) in
-      let rest : drop (first + (total - count)) lent ≡ p.rest =
-      drop_seam lent (p.front ++ p.new) p.rest (first + (total - count)) (is ∙ replaced) long in
+      drop_seam lent (p.front ++ p.new) p.rest (first + (total - count)) (is ∙ replaced) long
+
+  -- the sizes behind the new sides are what they were
+  pub ends : (lent : List Side) (total : ℕ) → lent ≡ replace_range (take count ss) first end (drop count ss) → total ≡ length ss
+      → AreMeasured (take count ss) → AreMeasured (drop (first + (total - count)) lent)
+  ends lent total is all known =
       let old : AreMeasured ((p.front ++ p.old) ++ p.rest) = subst AreMeasured (all_old ∙ sym (append_assoc p.front p.old p.rest)) known in
-      subst AreMeasured (sym rest) (measured_back (p.front ++ p.old) p.rest old)
+      subst AreMeasured (sym (rest_at lent total is all)) (measured_back (p.front ++ p.old) p.rest old)
+
+  -- those before them had others behind them
+  pub stand : (lent : List Side) (total level : ℕ) → lent ≡ replace_range (take count ss) first end (drop count ss) → total ≡ length ss
+      → AreMeasured (take count ss) → Begins level (drop first ss) → StandFor lent first (first + (total - count)) end level
+  stand lent total level is all known begins =
+      let front : take first lent ≡ p.front =
+      take_seam lent p.front (p.new ++ p.rest) first (is ∙ replaced ∙ append_assoc p.front p.new p.rest) p.at_first in
+      let behind : drop first ss ≡ (p.old ++ p.rest) ++ p.new =
+      drop_seam ss p.front (p.old ++ (p.rest ++ p.new)) first p.whole p.at_first ∙ sym (append_assoc p.old p.rest p.new) in
+      let rest : p.rest ≡ drop (first + (total - count)) lent = sym (rest_at lent total is all) in record {
+        old = p.old;
+        went = p.at_end;
+        sized = subst AreMeasured (all_old ∙ ap₂ (λ xs ys. xs ++ (p.old ++ ys)) (sym front) rest) known;
+        begins = subst (λ ys. Begins level (p.old ++ ys)) rest (begins_front (p.old ++ p.rest) p.new (subst (Begins level) behind begins));
+      }
+    where
+      begins_front : (xs ys : List Side) → Begins level (xs ++ ys) → Begins level xs
+      begins_front [] ys h = tt
+      begins_front (x ∷ xs) ys h = h
 
 -- ---- levels
 

@@ -1,5 +1,5 @@
 -- What stands beside the rows of a table: idShorts, levels and sizes. This profile's own rule.
-use Rattle.std.specs.Prelude.{◌≡◌, ℕ, ◌+◌, ◌<◌, ◌==◌, ◌&&◌, Bool, List, [], ◌∷◌, ◌++◌, map}
+use Rattle.std.specs.Prelude.{◌≡◌, ℕ, ◌+◌, ◌<◌, ◌==◌, ◌&&◌, Bool, List, [], ◌∷◌, map}
 use Rattle.std.specs.List.{All}
 use Rattle.aas_path_trees.specs.ElementAt.{is_text}
 use Rattle.aas_rows.specs.Rows.{count_deeper, sizes}
@@ -19,11 +19,6 @@ measured (s ∷ ss) = record s { size = 1 + count_deeper s.level (levels ss) } �
 -- each has that size already
 abbrev pub AreMeasured : List Side → Type 0
 AreMeasured ss = sizes_of ss ≡ sizes (levels ss)
-
--- sides that had their sizes with others behind them
-pub record BeginsMeasured (ss : List Side) : Type 0 where
-  pub rest : List Side
-  pub all : AreMeasured (ss ++ rest)
 
 -- no level is 0, which is the submodel's own
 abbrev pub HaveLevels : List Side → Type 0

@@ -5,7 +5,7 @@ ghost use Rattle.aas_sheet_index.specs.Index.{Enlarged, IsIndex, Waiting};
 ghost use Rattle.aas_sheet_index.specs.Sides.{is_named_below, measured, AreMeasured, HaveLevels};
 
 use crate::listing::{add_ranks, sorted_ranks};
-use crate::measuring::measure;
+use crate::measuring::{level_at, measure, measure_edited};
 use crate::merging::merge;
 use crate::moving::renumber;
 use crate::searching::first_named;
@@ -38,7 +38,7 @@ fn enlarge(
 }
 
 /// Puts the sides from `count` on into the place of those from `first` to `end`, and the last `added` ranks, which are
-/// theirs, into the index.
+/// theirs, into the index. `above` tells the sides above the place, the nearest last.
 fn settle(
     sides: &mut Many<Side>,
     ranks: &mut Vec<u32>,
@@ -46,6 +46,7 @@ fn settle(
     end: usize,
     count: usize,
     added: usize,
+    above: &[usize],
 )
     requires ordered { first ≤ end }
     requires before { end ≤ count }
@@ -59,18 +60,21 @@ fn settle(
     ensures index { IsIndex sides.new ranks.new.items }
 {
     let total = sides.len();
+    let level = level_at(sides.as_slice(), first);
     splice(sides, first, end, count);
     renumber(ranks, first, end, count, total);
     let kept = ranks.len() - added;
     merge(sides.as_slice(), ranks.as_mut_slice(), kept);
-    measure(sides.as_mut_slice(), first, first + (total - count));
+    let known = first + (total - count);
+    measure_edited(sides.as_mut_slice(), first, known, end, level, above);
 }
 
 /// What stands beside the rows of a table, with an index by level and idShort.
 ///
 /// Contracts see it as the list of the sides. A look-up by name compares some 17 idShorts among 65,536. An edit moves 4
 /// bytes for each rank, or none where sides come behind all others, and merges the new ones in. It measures the new sides
-/// and those before them up to a child of the submodel, and no others.
+/// and adds to the sizes of those above the place. Where it isn't told which these are, it measures the sides before the
+/// place too, up to a child of the submodel.
 #[derive(Drop)]
 pub struct Sides {
     sides: Many<Side>,
@@ -130,7 +134,16 @@ impl Sides {
     }
 
     /// Puts these sides into the place of those from `first` to `end`. Each has its size then.
-    pub fn replace(&mut self, first: usize, end: usize, more: Many<Side>) -> Result<(), NoMemory>
+    ///
+    /// `above` tells the ranks of the sides above the place, the nearest last. It spares a search for them: whatever it
+    /// tells, the sides come out the same.
+    pub fn replace(
+        &mut self,
+        first: usize,
+        end: usize,
+        more: Many<Side>,
+        above: &[usize],
+    ) -> Result<(), NoMemory>
         requires ordered { first ≤ end }
         requires within { end ≤ length self.old }
         requires few { length (replace_range self.old first end more) ≤ 2 ^ 31 }
@@ -140,17 +153,33 @@ impl Sides {
     {
         let count = self.sides.len();
         let added = enlarge(&mut self.sides, &mut self.ranks, more)?;
-        settle(&mut self.sides, &mut self.ranks, first, end, count, added);
+        settle(
+            &mut self.sides,
+            &mut self.ranks,
+            first,
+            end,
+            count,
+            added,
+            above,
+        );
         Ok(())
     }
 
-    /// Takes the sides from `first` to `end` out. Each other has its size then.
-    pub fn remove(&mut self, first: usize, end: usize)
+    /// Takes the sides from `first` to `end` out. Each other has its size then. `above` tells what it tells `replace`.
+    pub fn remove(&mut self, first: usize, end: usize, above: &[usize])
         requires ordered { first ≤ end }
         requires within { end ≤ length self.old }
         ensures { self.new ≡ measured (remove_range self.old first end) }
     {
         let count = self.sides.len();
-        settle(&mut self.sides, &mut self.ranks, first, end, count, 0);
+        settle(
+            &mut self.sides,
+            &mut self.ranks,
+            first,
+            end,
+            count,
+            0,
+            above,
+        );
     }
 }

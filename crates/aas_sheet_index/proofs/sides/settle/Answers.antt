@@ -3,10 +3,11 @@ use Rattle.std.specs.List.{replace_range}
 use Rattle.std.specs.List.Sorted.{IsPermutation, IsSorted}
 use Rattle.std.proofs.lemmas.List.Sorted.{length_permutation}
 use Rattle.aas_sheet_index.specs.Index.{order, IsIndex}
+use Rattle.aas_sheet_index.specs.Measuring.{Begins}
 use Rattle.aas_sheet_index.specs.Moving.{renumbered}
 use Rattle.aas_sheet_index.specs.Sides.{measured, HaveLevels}
 use Rattle.aas_sheet_index.specs.declared.side.Side.{Side}
-use Rattle.aas_sheet_index.proofs.Settled.{begins, ends, fits, levels_spliced, measured_in, meeting, merged, renewed}
+use Rattle.aas_sheet_index.proofs.Settled.{ends, fits, levels_spliced, measured_in, meeting, merged, renewed, stand}
 use Rattle.aas_sheet_index.proofs.Spliced.{parts, take_seam}
 use Rattle.aas_sheet_index.proofs.sides.settle.Goals as goal
 
@@ -33,7 +34,7 @@ merge-requires-clause-front c =
     let r =
     renewed ss a.first a.end a.count p a.ranks.now.items new a.added c.requires.waiting (c.renumber.ensures ∙ ap (λ (n : ℕ). renumbered a.first a.end a.count n a.ranks.now.items) c.len-total.ensures) in
     let m = meeting next new a.added kept r (ap (λ (n : ℕ). n - a.added) (c.len.ensures ∙ c.renumber.new.ranks.ok.0)) in
-    subst (λ (ss : List Side). IsSorted (order ss) (take kept c.as_mut_slice.result.now)) (sym (c.as_slice.ensures ∙ c.splice.ensures))
+    subst (λ (ss : List Side). IsSorted (order ss) (take kept c.as_mut_slice.result.now)) (sym (c.as_slice-2.ensures ∙ c.splice.ensures))
     (subst (λ (xs : List ℕ). IsSorted (order next) (take kept xs)) (sym c.as_mut_slice.ensures.value) m.front)
 
 pub merge-requires-clause-back : goal.merge-requires-clause-back
@@ -47,28 +48,29 @@ merge-requires-clause-back c =
     let r =
     renewed ss a.first a.end a.count p a.ranks.now.items new a.added c.requires.waiting (c.renumber.ensures ∙ ap (λ (n : ℕ). renumbered a.first a.end a.count n a.ranks.now.items) c.len-total.ensures) in
     let m = meeting next new a.added kept r (ap (λ (n : ℕ). n - a.added) (c.len.ensures ∙ c.renumber.new.ranks.ok.0)) in
-    subst (λ (ss : List Side). IsSorted (order ss) (drop kept c.as_mut_slice.result.now)) (sym (c.as_slice.ensures ∙ c.splice.ensures))
+    subst (λ (ss : List Side). IsSorted (order ss) (drop kept c.as_mut_slice.result.now)) (sym (c.as_slice-2.ensures ∙ c.splice.ensures))
     (subst (λ (xs : List ℕ). IsSorted (order next) (drop kept xs)) (sym c.as_mut_slice.ensures.value) m.back)
 
-pub measure-requires-clause-levels : goal.measure-requires-clause-levels
-measure-requires-clause-levels c =
+pub measure_edited-requires-clause-levels : goal.measure_edited-requires-clause-levels
+measure_edited-requires-clause-levels c =
     let a = c.args in
     subst HaveLevels (sym (c.as_mut_slice-2.ensures.value ∙ c.splice.ensures))
     (levels_spliced a.sides.now a.first a.end a.count c.requires.levels)
 
-pub measure-requires-clause-front : goal.measure-requires-clause-front
-measure-requires-clause-front c =
-    let a = c.args in
-    let p = parts a.sides.now a.first a.end a.count c.requires.ordered c.requires.before c.requires.within in
-    begins a.sides.now a.first a.end a.count p c.as_mut_slice-2.result.now (c.as_mut_slice-2.ensures.value ∙ c.splice.ensures)
-    c.requires.sized
-
-pub measure-requires-clause-back : goal.measure-requires-clause-back
-measure-requires-clause-back c =
+pub measure_edited-requires-clause-back : goal.measure_edited-requires-clause-back
+measure_edited-requires-clause-back c =
     let a = c.args in
     let p = parts a.sides.now a.first a.end a.count c.requires.ordered c.requires.before c.requires.within in
     ends a.sides.now a.first a.end a.count p c.as_mut_slice-2.result.now c.len-total.result
     (c.as_mut_slice-2.ensures.value ∙ c.splice.ensures) c.len-total.ensures c.requires.sized
+
+pub measure_edited-requires-clause-others : goal.measure_edited-requires-clause-others
+measure_edited-requires-clause-others c =
+    let a = c.args in
+    let p = parts a.sides.now a.first a.end a.count c.requires.ordered c.requires.before c.requires.within in
+    stand a.sides.now a.first a.end a.count p c.as_mut_slice-2.result.now c.len-total.result c.level_at-level.result
+    (c.as_mut_slice-2.ensures.value ∙ c.splice.ensures) c.len-total.ensures c.requires.sized
+    (subst (λ (ss : List Side). Begins c.level_at-level.result (drop a.first ss)) c.as_slice.ensures c.level_at-level.ensures)
 
 pub returns-clause-index : goal.returns-clause-index
 returns-clause-index c =
@@ -80,10 +82,10 @@ returns-clause-index c =
     let p = parts ss a.first a.end a.count c.requires.ordered c.requires.before c.requires.within in
     let r =
     renewed ss a.first a.end a.count p a.ranks.now.items new a.added c.requires.waiting (c.renumber.ensures ∙ ap (λ (n : ℕ). renumbered a.first a.end a.count n a.ranks.now.items) c.len-total.ensures) in
-    let sorted : IsSorted (order next) last = subst (λ (ss : List Side). IsSorted (order ss) last) (c.as_slice.ensures ∙ c.splice.ensures) c.merge.ensures.sorted in
+    let sorted : IsSorted (order next) last = subst (λ (ss : List Side). IsSorted (order ss) last) (c.as_slice-2.ensures ∙ c.splice.ensures) c.merge.ensures.sorted in
     let same : IsPermutation new last = subst (λ (xs : List ℕ). IsPermutation xs last) c.as_mut_slice.ensures.value c.merge.ensures.same in
     let index : IsIndex (measured next) last = merged next new last a.added r c.requires.short sorted same in
     let long : length last ≡ c.renumber.new.ranks.len = length_permutation new last same ∙ sym c.renumber.new.ranks.ok.0 in
     let ranks_are = take_seam (last ++ drop (length last) new) last (drop (length last) new) c.renumber.new.ranks.len refl long in
-    let sides_are = measured_in c.splice.new.items c.as_mut_slice-2.result.now c.measure.new.sides c.as_mut_slice-2.ensures.value c.measure.ensures ∙ ap measured c.splice.ensures in
+    let sides_are = measured_in c.splice.new.items c.as_mut_slice-2.result.now c.measure_edited.new.sides c.as_mut_slice-2.ensures.value c.measure_edited.ensures ∙ ap measured c.splice.ensures in
     subst (λ (ss : List Side). IsIndex ss (take c.renumber.new.ranks.len (last ++ drop (length last) new))) (sym sides_are) (subst (IsIndex (measured next)) (sym ranks_are) index)
