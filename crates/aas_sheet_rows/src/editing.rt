@@ -10,8 +10,14 @@ use crate::row::Kept;
 use aas_model::{Element, Many, NoMemory};
 use aas_sheet_index::{Sides, append, splice, truncate};
 
-/// Takes the rows from `first` to `end` out.
-pub(crate) fn remove_rows(rows: &mut Many<Kept>, sides: &mut Sides, first: usize, end: usize)
+/// Takes the rows from `first` to `end` out. `above` tells the ranks above the place, the nearest last.
+pub(crate) fn remove_rows(
+    rows: &mut Many<Kept>,
+    sides: &mut Sides,
+    first: usize,
+    end: usize,
+    above: &[usize],
+)
     requires long { length rows.old ≡ length sides.old }
     requires ordered { first ≤ end }
     requires within { end ≤ length sides.old }
@@ -21,10 +27,11 @@ pub(crate) fn remove_rows(rows: &mut Many<Kept>, sides: &mut Sides, first: usize
 {
     let count = rows.len();
     splice(rows, first, end, count);
-    sides.remove(first, end);
+    sides.remove(first, end, above);
 }
 
-/// Puts the rows of an element, which stands at the level, into the place of those from `first` to `end`.
+/// Puts the rows of an element, which stands at the level, into the place of those from `first` to `end`. `above` tells
+/// the ranks above the place, the nearest last.
 pub(crate) fn put_rows(
     rows: &mut Many<Kept>,
     sides: &mut Sides,
@@ -32,6 +39,7 @@ pub(crate) fn put_rows(
     end: usize,
     level: u32,
     element: Element,
+    above: &[usize],
 ) -> Result<(), NoMemory>
     requires long { length rows.old ≡ length sides.old }
     requires ordered { first ≤ end }
@@ -53,7 +61,7 @@ pub(crate) fn put_rows(
     lay_all(&mut more_rows, &mut more_sides, level, elements)?;
     let count = rows.len();
     append(rows, more_rows)?;
-    match sides.replace(first, end, more_sides) {
+    match sides.replace(first, end, more_sides, above) {
         Ok(()) => {
             splice(rows, first, end, count);
             Ok(())

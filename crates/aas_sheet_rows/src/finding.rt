@@ -15,6 +15,17 @@ use crate::row::Kept;
 use aas_model::{PathStep, Payload};
 use aas_sheet_index::{Side, Sides};
 use aas_store::{Spot, StepRef, step_ref};
+use arrayvec::ArrayVec;
+
+/// The ranks of the elements that a path passes, the first 30.
+pub(crate) type Passed = ArrayVec<usize, 30>;
+
+/// Adds a rank, where there is room.
+pub(crate) fn pass(passed: &mut Passed, rank: usize) {
+    if !passed.is_full() {
+        passed.push(rank);
+    }
+}
 
 pub(crate) fn is_list(payload: &Payload) -> bool
     ensures { result ≡ is_list_payload payload.now }
@@ -107,7 +118,7 @@ pub(crate) fn rank_behind(rows: &[Kept], sides: &[Side], rank: usize) -> usize
 }
 
 /// The rank of the element to which a step and then a path lead from the rows from `first` to `end`, which stand below
-/// one of a level.
+/// one of a level. Adds the ranks of the elements on the way there.
 pub(crate) fn find_among(
     rows: &[Kept],
     sides: &Sides,
@@ -117,6 +128,7 @@ pub(crate) fn find_among(
     in_list: bool,
     step: &PathStep,
     path: &[PathStep],
+    passed: &mut Passed,
 ) -> Option<usize>
     requires table { IsTable rows.now sides.now }
     requires ordered { first ≤ end }
@@ -130,11 +142,22 @@ pub(crate) fn find_among(
     match path.split_first() {
         None => Some(rank),
         Some((next, rest)) => {
+            pass(passed, rank);
             let all = sides.as_slice();
             let level = all[rank].level;
             let in_list = is_list(&rows[rank].get().payload);
             let end = rank_behind(rows, all, rank);
-            find_among(rows, sides, rank + 1, end, level, in_list, next, rest)
+            find_among(
+                rows,
+                sides,
+                rank + 1,
+                end,
+                level,
+                in_list,
+                next,
+                rest,
+                passed,
+            )
         },
     }
 }

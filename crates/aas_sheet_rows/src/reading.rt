@@ -8,7 +8,7 @@ ghost use Rattle.aas_sheet_rows.specs.Table.{IsTable};
 ghost use Rattle.aas_path_trees.specs.ElementAt.{children_at};
 ghost use Rattle.aas_store.specs.Reads.{first_semantic_id};
 
-use crate::finding::{find_among, rank_behind};
+use crate::finding::{Passed, find_among, rank_behind};
 use crate::row::Kept;
 use aas_model::{Path, Reference};
 use aas_sheet_index::{Side, Sides};
@@ -35,7 +35,18 @@ pub(crate) fn below(rows: &[Kept], sides: &Sides, path: &Path) -> Option<Span>
             level: 0,
         });
     };
-    let rank = find_among(rows, sides, 0, sides.len(), 0, false, step, rest)?;
+    let mut passed = Passed::new();
+    let rank = find_among(
+        rows,
+        sides,
+        0,
+        sides.len(),
+        0,
+        false,
+        step,
+        rest,
+        &mut passed,
+    )?;
     let all = sides.as_slice();
     let end = rank_behind(rows, all, rank);
     Some(Span {

@@ -3,7 +3,8 @@ ghost use Rattle.std.specs.Option.{option_copied};
 
 use crate::editing::{put_rows, remove_rows};
 use crate::finding::{
-    child_among, count_below, depth_among, find_among, is_list, rank_behind, rank_of_step,
+    Passed, child_among, count_below, depth_among, find_among, is_list, pass, rank_behind,
+    rank_of_step,
 };
 use crate::growing::{element_from, grow};
 use crate::laying::lay_all;
@@ -23,8 +24,9 @@ use std::mem;
 /// A step of a path by name costs a binary search in an index of all rows; one by place costs the siblings that it passes
 /// and what stands below them, in a walk along a narrow column. An edit moves 8 bytes for each row behind its place and
 /// what stands beside it. It writes 4 bytes for each row in the index, unless rows come behind all others, and merges the
-/// new ones in. It measures the new rows and those before them up to a child of the submodel. Only `from_submodel`,
-/// `insert`, `replace` and copies take memory.
+/// new ones in. It measures the new rows, and adds to the sizes of those above them. Of these it knows 30: a place that
+/// stands deeper has the rows before it measured too, up to a child of the submodel. Only `from_submodel`, `insert`,
+/// `replace` and copies take memory.
 #[derive(Drop)]
 pub struct Sheet {
     /// It has no children: they stand in the rows.
@@ -134,11 +136,20 @@ impl Sheet {
     pub fn find(&self, path: &Path) -> Option<usize>
         ensures { result ≡ rank_at self.now path.now.steps }
     {
+        let mut passed = Passed::new();
+        self.trace(path, &mut passed)
+    }
+
+    /// What `find` gives. Adds the ranks of the elements on the way there.
+    fn trace(&self, path: &Path, passed: &mut Passed) -> Option<usize>
+        ensures { result ≡ rank_at self.now path.now.steps }
+    {
         let Some((step, rest)) = path.steps.as_slice().split_first() else {
             return None;
         };
         let rows = self.rows.as_slice();
-        find_among(rows, &self.sides, 0, self.sides.len(), 0, false, step, rest)
+        let end = self.sides.len();
+        find_among(rows, &self.sides, 0, end, 0, false, step, rest, passed)
     }
 
     /// How many steps of the path lead to an element.
@@ -284,8 +295,10 @@ impl Sheet {
         ensures err { OnErr result (self.new ≡ self.old) }
     {
         let mut element = element;
-        let (end, level) = match self.find(path) {
+        let mut above = Passed::new();
+        let (end, level) = match self.trace(path, &mut above) {
             Some(rank) => {
+                pass(&mut above, rank);
                 let rows = self.rows.as_slice();
                 let sides = self.sides.as_slice();
                 element.role = role_within(&rows[rank].get().payload).unwrap_or(Role::Member);
@@ -296,7 +309,16 @@ impl Sheet {
                 (self.sides.len(), 1)
             },
         };
-        put_rows(&mut self.rows, &mut self.sides, end, end, level, element)
+        let above = above.as_slice();
+        put_rows(
+            &mut self.rows,
+            &mut self.sides,
+            end,
+            end,
+            level,
+            element,
+            above,
+        )
     }
 
     /// Puts the element in the place and the role of the one to which the path leads. That there are at most 65,536
@@ -306,7 +328,8 @@ impl Sheet {
         ensures ok { OnOk result (self.new ≡ replaced self.old path.now.steps element) }
         ensures err { OnErr result (self.new ≡ self.old) }
     {
-        let Some(rank) = self.find(path) else {
+        let mut above = Passed::new();
+        let Some(rank) = self.trace(path, &mut above) else {
             return Ok(());
         };
         let rows = self.rows.as_slice();
@@ -315,17 +338,28 @@ impl Sheet {
         element.role = rows[rank].get().role;
         let level = sides[rank].level;
         let end = rank_behind(rows, sides, rank);
-        put_rows(&mut self.rows, &mut self.sides, rank, end, level, element)
+        let above = above.as_slice();
+        put_rows(
+            &mut self.rows,
+            &mut self.sides,
+            rank,
+            end,
+            level,
+            element,
+            above,
+        )
     }
 
     /// Takes the element to which the path leads out.
     pub fn remove(&mut self, path: &Path)
         ensures { self.new ≡ removed self.old path.now.steps }
     {
-        let Some(rank) = self.find(path) else {
+        let mut above = Passed::new();
+        let Some(rank) = self.trace(path, &mut above) else {
             return;
         };
         let end = rank_behind(self.rows.as_slice(), self.sides.as_slice(), rank);
-        remove_rows(&mut self.rows, &mut self.sides, rank, end);
+        let above = above.as_slice();
+        remove_rows(&mut self.rows, &mut self.sides, rank, end, above);
     }
 }

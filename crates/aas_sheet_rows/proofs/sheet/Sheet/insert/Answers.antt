@@ -90,9 +90,9 @@ put_rows-requires-clause-low c =
     let p : List PathStep = c.args.path.now.steps in
     let e : Element = c.args.element in
     let all : List Line = lines_of t.rows t.sides in
-    let ls : List Line = replace_range all c.match-find.end.0 c.match-find.end.0 (rows c.match-find.element c.match-find.end.1) in
+    let ls : List Line = replace_range all c.match-trace.end.0 c.match-trace.end.0 (rows c.match-trace.element c.match-trace.end.1) in
     let made : Made d (inserted d p e) ls =
-    elim c.match-find.branch [
+    elim c.match-trace.branch [
       | in-Some w ↦
           let rank : ℕ = w.in-Some.rank in
           let rs : List Row = w.as_slice-rows.result.now in
@@ -116,7 +116,7 @@ put_rows-requires-clause-low c =
           (subst (λ (p : List PathStep). Made d (inserted d p e) (replace_range all w.len.result w.len.result (rows (with_role e Member) 1))) (sym (only_root d p e w.in-None.ensures c.requires.takes))
           (subst (λ n. Made d (inserted d [] e) (replace_range all n n (rows (with_role e Member) 1))) (sym w.len.ensures) (made_first t.head t.rows t.sides d c.self.invariant c.self.view_is e Member refl)))
     ] in
-    let bounds = edit_bounds d (inserted d p e) all c.match-find.end.0 c.match-find.end.0 c.match-find.end.1 c.match-find.element made c.requires.few in
+    let bounds = edit_bounds d (inserted d p e) all c.match-trace.end.0 c.match-trace.end.0 c.match-trace.end.1 c.match-trace.element made c.requires.few in
     omega (arith, bounds.0, bounds.1)
 
 pub put_rows-requires-clause-few : goal.put_rows-requires-clause-few
@@ -126,9 +126,9 @@ put_rows-requires-clause-few c =
     let p : List PathStep = c.args.path.now.steps in
     let e : Element = c.args.element in
     let all : List Line = lines_of t.rows t.sides in
-    let ls : List Line = replace_range all c.match-find.end.0 c.match-find.end.0 (rows c.match-find.element c.match-find.end.1) in
+    let ls : List Line = replace_range all c.match-trace.end.0 c.match-trace.end.0 (rows c.match-trace.element c.match-trace.end.1) in
     let made : Made d (inserted d p e) ls =
-    elim c.match-find.branch [
+    elim c.match-trace.branch [
       | in-Some w ↦
           let rank : ℕ = w.in-Some.rank in
           let rs : List Row = w.as_slice-rows.result.now in
@@ -152,7 +152,7 @@ put_rows-requires-clause-few c =
           (subst (λ (p : List PathStep). Made d (inserted d p e) (replace_range all w.len.result w.len.result (rows (with_role e Member) 1))) (sym (only_root d p e w.in-None.ensures c.requires.takes))
           (subst (λ n. Made d (inserted d [] e) (replace_range all n n (rows (with_role e Member) 1))) (sym w.len.ensures) (made_first t.head t.rows t.sides d c.self.invariant c.self.view_is e Member refl)))
     ] in
-    let bounds = edit_bounds d (inserted d p e) all c.match-find.end.0 c.match-find.end.0 c.match-find.end.1 c.match-find.element made c.requires.few in
+    let bounds = edit_bounds d (inserted d p e) all c.match-trace.end.0 c.match-trace.end.0 c.match-trace.end.1 c.match-trace.element made c.requires.few in
     few_enough _ bounds.2
 
 pub invariant_of-self : goal.invariant_of-self
@@ -162,9 +162,9 @@ invariant_of-self c =
     let p : List PathStep = c.args.path.now.steps in
     let e : Element = c.args.element in
     let all : List Line = lines_of t.rows t.sides in
-    let ls : List Line = replace_range all c.match-find.end.0 c.match-find.end.0 (rows c.match-find.element c.match-find.end.1) in
+    let ls : List Line = replace_range all c.match-trace.end.0 c.match-trace.end.0 (rows c.match-trace.element c.match-trace.end.1) in
     let made : Made d (inserted d p e) ls =
-    elim c.match-find.branch [
+    elim c.match-trace.branch [
       | in-Some w ↦
           let rank : ℕ = w.in-Some.rank in
           let rs : List Row = w.as_slice-rows.result.now in
@@ -197,9 +197,9 @@ returns-clause-ok c =
     let p : List PathStep = c.args.path.now.steps in
     let e : Element = c.args.element in
     let all : List Line = lines_of t.rows t.sides in
-    let ls : List Line = replace_range all c.match-find.end.0 c.match-find.end.0 (rows c.match-find.element c.match-find.end.1) in
+    let ls : List Line = replace_range all c.match-trace.end.0 c.match-trace.end.0 (rows c.match-trace.element c.match-trace.end.1) in
     let made : Made d (inserted d p e) ls =
-    elim c.match-find.branch [
+    elim c.match-trace.branch [
       | in-Some w ↦
           let rank : ℕ = w.in-Some.rank in
           let rs : List Row = w.as_slice-rows.result.now in
