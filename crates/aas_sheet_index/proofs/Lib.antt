@@ -1,4 +1,5 @@
 pub mod Above
+pub mod Dropped
 pub mod Measures
 pub mod Merged
 pub mod Moved

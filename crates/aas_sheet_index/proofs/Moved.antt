@@ -61,7 +61,7 @@ module _ (p : ℕ → Bool) (f : ℕ → ℕ) (Q : ℕ → Type 0) (to : ℕ) wh
       by true is rest = ap₂ (λ c d. c || d) (apart (f x) to (never x a.0 is)) rest
       by false is rest = rest
 
-filter_all : (p : ℕ → Bool) (xs : List ℕ) → AllByRecursion (λ x. p x ≡ true) xs → filter p xs ≡ xs
+pub filter_all : (p : ℕ → Bool) (xs : List ℕ) → AllByRecursion (λ x. p x ≡ true) xs → filter p xs ≡ xs
 filter_all p [] a = refl
 filter_all p (x ∷ xs) a = ap (λ c. cond c (x ∷ filter p xs) (filter p xs)) a.0 ∙ ap (λ ys. x ∷ ys) (filter_all p xs a.1)
 
@@ -317,7 +317,7 @@ module _ (b m t w : List Side) (first end count total : ℕ) (cut : Cut b m t w 
             off_front z z' z_in (put a g) e = absurd (omega (arith, a, g, e, l))
             off_front z z' z_in (shifted a g) e = absurd (omega (arith, a, g, e, k, z_in, ordered, cut.at_total, cut.at_count))
 
--- ---- where nothing moves
+-- ---- where nothing is dropped
 
 pub all_stay : (first end : ℕ) → end ≤ first → (ranks : List ℕ) → filter (stays first end) ranks ≡ ranks
 all_stay first end le [] = refl
@@ -328,22 +328,3 @@ all_stay first end le (r ∷ ranks) =
     by : (b : Bool) → nat_lt r first ≡ b → (b || not (nat_lt r end)) ≡ true
     by true is = refl
     by false is = let high = ltb-false r first is in ap not (le-ltb r end (omega (arith, high)))
-
-none_moves : (count total r : ℕ) → moved count count count total r ≡ r
-none_moves count total r = by (nat_lt r count)
-  where
-    by : (b : Bool) → (if b then r else if b then r - (count - count) + (total - count) else r - (count - count)) ≡ r
-    by true = refl
-    by false = omega arith
-
--- sides that come behind all others
-pub all_as_before : (first end count total : ℕ) → first ≤ end → end ≤ count → first ≡ count → (ranks : List ℕ)
-    → renumbered first end count total ranks ≡ ranks
-all_as_before first end count total ordered within last ranks =
-    let also : end ≡ count = omega arith in
-    ap₂ (λ m n. renumbered m n count total ranks) last also
-    ∙ ap (map (moved count count count total)) (all_stay count count (omega arith) ranks) ∙ same ranks
-  where
-    same : (ranks : List ℕ) → map (moved count count count total) ranks ≡ ranks
-    same [] = refl
-    same (r ∷ ranks) = ap₂ (λ r rs. r ∷ rs) (none_moves count total r) (same ranks)

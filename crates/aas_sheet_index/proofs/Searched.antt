@@ -26,10 +26,10 @@ use Rattle.aas_sheet_index.proofs.Ordered.{is_less, numbers, weak}
 
 -- ---- what stands between
 
-tied : (a : List ℕ) (m n : ℕ) → is_lt (compared a m a n) ≡ nat_lt m n
+pub tied : (a : List ℕ) (m n : ℕ) → is_lt (compared a m a n) ≡ nat_lt m n
 tied a m n = ap (λ o. is_lt (ordering_then o (nat_cmp m n))) (tied_itself nat_list_cmp_total a) ∙ numbers m n
 
-between : (a b : List ℕ) (first r q : ℕ) → is_lt (compared b r a first) ≡ false → is_lt (compared a q b r) ≡ false → (b ≡ a) × (first ≤ r) × (r ≤ q)
+pub between : (a b : List ℕ) (first r q : ℕ) → is_lt (compared b r a first) ≡ false → is_lt (compared a q b r) ≡ false → (b ≡ a) × (first ≤ r) × (r ≤ q)
 between a b first r q low high = by (slice_cmp nat_cmp b a) refl low
   where
     back : (o : Ordering) → slice_cmp nat_cmp b a ≡ o → slice_cmp nat_cmp a b ≡ ordering_reverse o

@@ -1,6 +1,6 @@
 -- Where ranks go when the sides that stand behind the others, from count on up to total, come into the place of those from
 -- first to end.
-use Rattle.std.specs.Prelude.{ℕ, ◌+◌, ◌-◌, ◌||◌, not, nat_lt, Bool, List, map, if◌then◌else◌}
+use Rattle.std.specs.Prelude.{ℕ, ◌+◌, ◌-◌, ◌==◌, ◌||◌, not, nat_lt, Bool, List, map, if◌then◌else◌}
 use Rattle.std.specs.List.{filter}
 
 abbrev pub stays : ℕ → ℕ → ℕ → Bool
@@ -11,3 +11,6 @@ moved first end count total r = if nat_lt r end then r else if nat_lt r count th
 
 abbrev pub renumbered : ℕ → ℕ → ℕ → ℕ → List ℕ → List ℕ
 renumbered first end count total ranks = map (moved first end count total) (filter (stays first end) ranks)
+
+abbrev pub is_other : ℕ → ℕ → Bool
+is_other rank r = not (r == rank)

@@ -61,8 +61,8 @@ fn settle(
 {
     let total = sides.len();
     let level = level_at(sides.as_slice(), first);
+    renumber(sides.as_slice(), ranks, first, end, count, added);
     splice(sides, first, end, count);
-    renumber(ranks, first, end, count, total);
     let kept = ranks.len() - added;
     merge(sides.as_slice(), ranks.as_mut_slice(), kept);
     let known = first + (total - count);
