@@ -70,10 +70,12 @@ module _ (ss : List Side) (x : ℕ) (zs : List ℕ) (others : AreOther x zs) whe
   gathered_from : (ys : List ℕ) → Rises (is_less ss) ys → AllByRecursion (λ y. is_less ss y x ≡ false) ys
       → Gathered x (ys ++ zs)
   gathered_from [] up high = loose x zs others
-  gathered_from (y ∷ ys) up high =
-      (λ ne. each_both (λ z. (z == x) ≡ false) ys zs
-      (each_weaker (λ z. is_less ss z y ≡ false) (λ z. (z == x) ≡ false) (λ z e. apart z x (λ same. ne (equal z e same))) ys up.0)
-      others, gathered_from ys up.1 high.1)
+  gathered_from (y ∷ ys) up high = (
+    λ ne. each_both (λ z. (z == x) ≡ false) ys zs
+        (each_weaker (λ z. is_less ss z y ≡ false) (λ z. (z == x) ≡ false) (λ z e. apart z x (λ same. ne (equal z e same))) ys up.0)
+        others,
+    gathered_from ys up.1 high.1,
+  )
     where
       equal : (z : ℕ) → is_less ss z y ≡ false → z ≡ x → y ≡ x
       equal z e same =
@@ -88,9 +90,11 @@ module _ (ss : List Side) (x : ℕ) (zs : List ℕ) (others : AreOther x zs) whe
   gathered_at ys zero inside up low high =
       gathered_from ys up (recursion_from_All (λ y. is_less ss y x ≡ false) ys (λ k d within. high k d (omega arith) within))
   gathered_at [] (suc n) inside up low high = absurd (omega arith)
-  gathered_at (y ∷ ys) (suc n) inside up low high =
-      (apart y x other, gathered_at ys n (omega arith) up.1 (λ k d a b. low (suc k) d (omega arith) (omega arith))
-      (λ k d a b. high (suc k) d (omega arith) (omega arith)))
+  gathered_at (y ∷ ys) (suc n) inside up low high = (
+    apart y x other,
+    gathered_at ys n (omega arith) up.1 (λ k d a b. low (suc k) d (omega arith) (omega arith))
+        (λ k d a b. high (suc k) d (omega arith) (omega arith)),
+  )
     where
       other : y ≡ x → ⊥
       other same =

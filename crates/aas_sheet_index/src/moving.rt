@@ -7,8 +7,9 @@ ghost use Rattle.aas_sheet_index.specs.Moving.{is_other, moved, renumbered, stay
 use crate::order::place_of_rank;
 use crate::side::Side;
 
-/// So few ranks are sought in the index one by one. For more of them a pass over all ranks takes less time.
-const FEW: usize = 8;
+/// Up to so many ranks are sought in the index one by one. Taking one out moves the ranks behind it at once, in about a
+/// fifteenth of the time of a pass that looks at each rank.
+const FEW: usize = 12;
 
 fn moved(rank: u32, first: usize, end: usize, count: usize, total: usize) -> u32
     requires ordered { first ≤ end }
@@ -28,7 +29,8 @@ fn moved(rank: u32, first: usize, end: usize, count: usize, total: usize) -> u32
     place as u32
 }
 
-/// How many ranks before the last `added`, which are those from `count` on, stay as they are: all of them, or none.
+/// How many of the first ranks needn't be moved. Where nothing stands behind the place, or as many sides come as go, only
+/// the last `added` ranks move, those of the sides that come.
 fn unmoved(
     ranks: &[u32],
     first: usize,
@@ -52,15 +54,8 @@ fn unmoved(
     }
 }
 
-/// Moves the ranks behind the first `from`, which would not change.
-fn move_all(
-    ranks: &mut [u32],
-    from: usize,
-    first: usize,
-    end: usize,
-    count: usize,
-    total: usize,
-)
+/// Moves the ranks. The first `from` would stay as they are, and are left out.
+fn move_all(ranks: &mut [u32], from: usize, first: usize, end: usize, count: usize, total: usize)
     requires ordered { first ≤ end }
     requires within { end ≤ count }
     requires more { count ≤ total }
@@ -74,7 +69,7 @@ fn move_all(
     }
 }
 
-/// Drops a rank. If it is there, it has its place among the first `kept`.
+/// Drops a rank, however often it stands among the first `kept`, which are in order. It is none of the others.
 fn drop_rank(sides: &[Side], ranks: &mut Vec<u32>, kept: usize, rank: u32)
     requires inside { kept ≤ length ranks.old.items }
     requires sorted { IsSorted (order sides.now) (take kept ranks.old.items) }
@@ -135,7 +130,7 @@ fn drop_between(
 /// Drops the ranks from `first` to `end`, and moves the others to where they go when the sides from `count` on, whose
 /// ranks are the last `added`, come into the place of these.
 ///
-/// Where few ranks go, and the sides behind the place stay where they are, no pass over all ranks is made.
+/// Where few ranks go, and the sides behind the place stay where they are, no pass is made over all ranks.
 pub(crate) fn renumber(
     sides: &[Side],
     ranks: &mut Vec<u32>,

@@ -71,10 +71,10 @@ fn settle(
 
 /// What stands beside the rows of a table, with an index by level and idShort.
 ///
-/// Contracts see it as the list of the sides. A look-up by name compares some 17 idShorts among 65,536. An edit moves 4
-/// bytes for each rank, or none where sides come behind all others, and merges the new ones in. It measures the new sides
-/// and adds to the sizes of those above the place. Where it isn't told which these are, it measures the sides before the
-/// place too, up to a child of the submodel.
+/// Contracts see it as the list of the sides. A look-up by name compares some 17 idShorts among 65,536. An edit takes a
+/// few ranks out of the index by as many comparisons each, and merges the new ones in. It looks at every rank only where
+/// many sides go, or where those behind the place move. It measures the new sides and adds to the sizes of those above the
+/// place. Where it isn't told which these are, it measures the sides before the place too, up to a child of the submodel.
 #[derive(Drop)]
 pub struct Sides {
     sides: Many<Side>,
