@@ -18,7 +18,8 @@ overflow_sub-kept c =
     let new : List ℕ = c.renumber.new.ranks.items in
     let p = parts ss a.first a.end a.count c.requires.ordered c.requires.before c.requires.within in
     let r =
-    renewed ss a.first a.end a.count p a.ranks.now.items new a.added c.requires.waiting (c.renumber.ensures ∙ ap (λ (xs : List Side). renumbered a.first a.end a.count (length xs) a.ranks.now.items) c.as_slice-2.ensures) in
+    renewed ss a.first a.end a.count p a.ranks.now.items new a.added c.requires.waiting
+    (c.renumber.ensures ∙ ap (λ (xs : List Side). renumbered a.first a.end a.count (length xs) a.ranks.now.items) c.as_slice-2.ensures) in
     let inside : a.added ≤ length new = fits (replace_range (take a.count ss) a.first a.end (drop a.count ss)) new a.added r in
     let long : c.len.result ≡ length new = c.len.ensures ∙ c.renumber.new.ranks.ok.0 in
     omega arith
@@ -32,7 +33,8 @@ merge-requires-clause-front c =
     let kept : ℕ = c.len.result - a.added in
     let p = parts ss a.first a.end a.count c.requires.ordered c.requires.before c.requires.within in
     let r =
-    renewed ss a.first a.end a.count p a.ranks.now.items new a.added c.requires.waiting (c.renumber.ensures ∙ ap (λ (xs : List Side). renumbered a.first a.end a.count (length xs) a.ranks.now.items) c.as_slice-2.ensures) in
+    renewed ss a.first a.end a.count p a.ranks.now.items new a.added c.requires.waiting
+    (c.renumber.ensures ∙ ap (λ (xs : List Side). renumbered a.first a.end a.count (length xs) a.ranks.now.items) c.as_slice-2.ensures) in
     let m = meeting next new a.added kept r (ap (λ (n : ℕ). n - a.added) (c.len.ensures ∙ c.renumber.new.ranks.ok.0)) in
     subst (λ (ss : List Side). IsSorted (order ss) (take kept c.as_mut_slice.result.now)) (sym (c.as_slice-3.ensures ∙ c.splice.ensures))
     (subst (λ (xs : List ℕ). IsSorted (order next) (take kept xs)) (sym c.as_mut_slice.ensures.value) m.front)
@@ -46,7 +48,8 @@ merge-requires-clause-back c =
     let kept : ℕ = c.len.result - a.added in
     let p = parts ss a.first a.end a.count c.requires.ordered c.requires.before c.requires.within in
     let r =
-    renewed ss a.first a.end a.count p a.ranks.now.items new a.added c.requires.waiting (c.renumber.ensures ∙ ap (λ (xs : List Side). renumbered a.first a.end a.count (length xs) a.ranks.now.items) c.as_slice-2.ensures) in
+    renewed ss a.first a.end a.count p a.ranks.now.items new a.added c.requires.waiting
+    (c.renumber.ensures ∙ ap (λ (xs : List Side). renumbered a.first a.end a.count (length xs) a.ranks.now.items) c.as_slice-2.ensures) in
     let m = meeting next new a.added kept r (ap (λ (n : ℕ). n - a.added) (c.len.ensures ∙ c.renumber.new.ranks.ok.0)) in
     subst (λ (ss : List Side). IsSorted (order ss) (drop kept c.as_mut_slice.result.now)) (sym (c.as_slice-3.ensures ∙ c.splice.ensures))
     (subst (λ (xs : List ℕ). IsSorted (order next) (drop kept xs)) (sym c.as_mut_slice.ensures.value) m.back)
@@ -81,7 +84,8 @@ returns-clause-index c =
     let last : List ℕ = c.merge.new.ranks in
     let p = parts ss a.first a.end a.count c.requires.ordered c.requires.before c.requires.within in
     let r =
-    renewed ss a.first a.end a.count p a.ranks.now.items new a.added c.requires.waiting (c.renumber.ensures ∙ ap (λ (xs : List Side). renumbered a.first a.end a.count (length xs) a.ranks.now.items) c.as_slice-2.ensures) in
+    renewed ss a.first a.end a.count p a.ranks.now.items new a.added c.requires.waiting
+    (c.renumber.ensures ∙ ap (λ (xs : List Side). renumbered a.first a.end a.count (length xs) a.ranks.now.items) c.as_slice-2.ensures) in
     let sorted : IsSorted (order next) last = subst (λ (ss : List Side). IsSorted (order ss) last) (c.as_slice-3.ensures ∙ c.splice.ensures) c.merge.ensures.sorted in
     let same : IsPermutation new last = subst (λ (xs : List ℕ). IsPermutation xs last) c.as_mut_slice.ensures.value c.merge.ensures.same in
     let index : IsIndex (measured next) last = merged next new last a.added r c.requires.short sorted same in
