@@ -12,5 +12,6 @@ moved first end count total r = if nat_lt r end then r else if nat_lt r count th
 abbrev pub renumbered : ℕ → ℕ → ℕ → ℕ → List ℕ → List ℕ
 renumbered first end count total ranks = map (moved first end count total) (filter (stays first end) ranks)
 
+-- all but the rank
 abbrev pub is_other : ℕ → ℕ → Bool
 is_other rank r = not (r == rank)
