@@ -1,4 +1,4 @@
-ghost use Rattle.std.specs.Prelude.{◌≡◌, ◌≤◌, ◌++◌, drop, length, take, reverse, OnErr, OnOk};
+ghost use Rattle.std.specs.Prelude.{◌≡◌, ◌+◌, ◌-◌, ◌≤◌, ◌++◌, drop, length, take, reverse, OnErr, OnOk};
 ghost use Rattle.std.specs.List.{remove_range, replace_range, slice_range};
 
 use aas_model::{Many, NoMemory};
@@ -61,6 +61,28 @@ pub fn append<T: Drop>(items: &mut Many<T>, more: Many<T>) -> Result<(), NoMemor
     }
 }
 
+/// Swaps the items from `first` to `end` and as many from `added` on.
+fn exchange<T>(items: &mut [T], first: usize, end: usize, added: usize)
+    requires ordered { first ≤ end }
+    requires before { end ≤ added }
+    requires as_many { length items.old ≡ added + (end - first) }
+    ensures { items.new ≡ replace_range (take added items.old) first end (drop added items.old) ++ slice_range (take added items.old) first end }
+{
+    let (front, back) = items.split_at_mut(added);
+    front[first..end].swap_with_slice(back);
+}
+
+/// Puts the items from `added` on into the place of as many from `first` to `end`. Those behind the place do not move.
+fn replace<T: Drop>(items: &mut Many<T>, first: usize, end: usize, added: usize)
+    requires ordered { first ≤ end }
+    requires before { end ≤ added }
+    requires as_many { length items.old ≡ added + (end - first) }
+    ensures { items.new ≡ replace_range (take added items.old) first end (drop added items.old) }
+{
+    exchange(items.as_mut_slice(), first, end, added);
+    truncate(items, added);
+}
+
 /// Puts the items from `added` on into the place of those from `first` to `end`.
 pub fn splice<T: Drop>(items: &mut Many<T>, first: usize, end: usize, added: usize)
     requires ordered { first ≤ end }
@@ -68,6 +90,10 @@ pub fn splice<T: Drop>(items: &mut Many<T>, first: usize, end: usize, added: usi
     requires within { added ≤ length items.old }
     ensures { items.new ≡ replace_range (take added items.old) first end (drop added items.old) }
 {
+    if items.len() - added == end - first {
+        replace(items, first, end, added);
+        return;
+    }
     let count = items.len() - (end - first);
     let next = first + (items.len() - added);
     move_to_end(items.as_mut_slice(), first, added);
