@@ -196,11 +196,11 @@ impl Wire for MemWire {
         ensures called { IsWireCall self.old self.new result }
         ensures fails { IsErr result ↔ IsNextFailing self.old.calls }
     {
-        if self.calls.next_fails() {
-            self.wire_faults = self.wire_faults.saturating_add(1);
-            return Err(Failed);
+        if !self.calls.next_fails() {
+            return Ok(());
         }
-        Ok(())
+        self.wire_faults = self.wire_faults.saturating_add(1);
+        Err(Failed)
     }
 
     fn next(&mut self) -> Result<bool, Failed>
