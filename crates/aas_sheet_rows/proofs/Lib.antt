@@ -1,4 +1,5 @@
 mod Below
+mod Children
 mod Columns
 pub mod Edits
 mod Found

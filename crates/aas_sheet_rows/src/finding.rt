@@ -1,5 +1,4 @@
 ghost use Rattle.std.specs.Prelude.{◌≡◌, ◌<◌, ◌≤◌, ◌+◌, ◌-◌, ◌^◌, List, length, take, drop, map, slice_get, option_map, Some};
-ghost use Rattle.std.specs.List.{count_by};
 ghost use Rattle.std.specs.Option.{IfSome};
 ghost use Rattle.aas_model.specs.declared.element.Element.{Element};
 ghost use Rattle.aas_path_trees.specs.Children.{is_list_payload};
@@ -52,13 +51,6 @@ fn nth_below(sides: &[Side], level: u32, place: u64) -> Option<usize>
         }
     }
     None
-}
-
-/// How many rows stand one level below another.
-pub(crate) fn count_below(sides: &[Side], level: u32) -> usize
-    ensures { result ≡ count_by (is_below level) sides.now }
-{
-    sides.iter().filter(|side| is_below(side, level)).count()
 }
 
 /// The rank from `first` to `end` that is the nth one level below a level.

@@ -3,8 +3,7 @@ ghost use Rattle.std.specs.Option.{option_copied};
 
 use crate::editing::{put_rows, remove_rows};
 use crate::finding::{
-    Passed, child_among, count_below, depth_among, find_among, is_list, pass, rank_behind,
-    rank_of_step,
+    Passed, child_among, depth_among, find_among, is_list, pass, rank_behind, rank_of_step,
 };
 use crate::growing::{element_from, grow};
 use crate::laying::lay_all;
@@ -22,7 +21,8 @@ use std::mem;
 /// A submodel, which contracts see as the tree that its rows stand for.
 ///
 /// A step of a path by name costs a binary search in an index of all rows; one by place costs the siblings that it passes
-/// and what stands below them, in a walk along a narrow column. An edit moves 8 bytes for each row behind its place and
+/// and what stands below them, in a walk along a narrow column. The children of the submodel are counted as they come and
+/// go. Where no row stands deeper, the one in a place is found at once; else by that walk. An edit moves 8 bytes for each row behind its place and
 /// what stands beside it. It writes 4 bytes for each row in the index, unless rows come behind all others, and merges the
 /// new ones in. It measures the new rows, and adds to the sizes of those above them. Of these it knows 30: a place that
 /// stands deeper has the rows before it measured too, up to a child of the submodel. Only `from_submodel`, `insert`,
@@ -33,12 +33,15 @@ pub struct Sheet {
     head: Submodel,
     rows: Many<Kept>,
     sides: Sides,
+    /// How many rows stand right below the submodel.
+    children: usize,
 }
 
 impl Model for Sheet {
+    ghost use Rattle.std.specs.Prelude.{◌≡◌};
     ghost use Rattle.aas_model.specs.contracts.documents.Submodel as submodel;
     ghost use Rattle.aas_model.specs.declared.documents.Submodel.{Submodel};
-    ghost use Rattle.aas_sheet_rows.specs.Table.{submodel_of, IsTable};
+    ghost use Rattle.aas_sheet_rows.specs.Table.{children_in, submodel_of, IsTable};
 
     ghost Value = { Submodel };
 
@@ -46,7 +49,7 @@ impl Model for Sheet {
 
     ghost view = { λ sheet. submodel_of sheet.head sheet.rows sheet.sides };
 
-    ghost invariant = { λ sheet. IsTable sheet.rows sheet.sides };
+    ghost invariant = { λ sheet. IsTable sheet.rows sheet.sides × (sheet.children ≡ children_in sheet.sides) };
 }
 
 impl Sheet {
@@ -72,11 +75,17 @@ impl Sheet {
         let mut head = submodel;
         let alloc = head.kids.alloc();
         let kids = mem::replace(&mut head.kids, Many::new(alloc));
+        let children = kids.len();
         let mut rows = Many::new(alloc);
         let mut sides = Many::new(alloc);
         lay_all(&mut rows, &mut sides, 1, kids)?;
         let sides = Sides::new(sides)?;
-        Ok(Sheet { head, rows, sides })
+        Ok(Sheet {
+            head,
+            rows,
+            sides,
+            children,
+        })
     }
 
     /// A submodel that is this one but for its children, of which it tells nothing.
@@ -219,15 +228,23 @@ impl Sheet {
     pub fn child_count(&self) -> usize
         ensures { result ≡ length self.now.kids }
     {
-        count_below(self.sides.as_slice(), 0)
+        self.children
     }
 
     /// The rank of the child in a place, counted from 0, or `None` past the last child.
     pub fn child_rank(&self, place: u64) -> Option<usize>
         ensures { result ≡ nth_where (is_at 1) place (rows_of_all self.now.kids 1) }
     {
+        let count = self.sides.len();
+        if self.children == count {
+            return if place < count as u64 {
+                Some(place as usize)
+            } else {
+                None
+            };
+        }
         let step = StepRef::Place(place);
-        rank_of_step(&self.sides, 0, self.sides.len(), 0, true, step)
+        rank_of_step(&self.sides, 0, count, 0, true, step)
     }
 
     /// The child to which the step leads from the element of the rank, or from the submodel.
@@ -318,7 +335,11 @@ impl Sheet {
             level,
             element,
             above,
-        )
+        )?;
+        if path.steps.is_empty() {
+            self.children += 1;
+        }
+        Ok(())
     }
 
     /// Puts the element in the place and the role of the one to which the path leads. That there are at most 65,536
@@ -361,5 +382,8 @@ impl Sheet {
         let end = rank_behind(self.rows.as_slice(), self.sides.as_slice(), rank);
         let above = above.as_slice();
         remove_rows(&mut self.rows, &mut self.sides, rank, end, above);
+        if path.steps.len() == 1 {
+            self.children -= 1;
+        }
     }
 }

@@ -10,7 +10,7 @@ returns-in-None c =
     let t = c.self.inside in
     let d = c.args.self.now in
     let rs : List Row = c.as_slice-rows.result.now in
-    let v = viewed t.head t.rows rs t.sides t.sides d c.self.invariant c.self.view_is c.as_slice-rows.ensures refl in
+    let v = viewed t.head t.rows rs t.sides t.sides d c.self.invariant.0 c.self.view_is c.as_slice-rows.ensures refl in
     c.child_among.ensures d.kids (subst (λ (n : ℕ). Among rs t.sides 0 n 0 d.kids) (sym c.len.ensures) (all_among t.head rs t.sides d v.0 v.1))
     ∙ ap (λ (p : Option ℕ). spot_below d p (step_of c.args.step)) (sym c.in-None.is)
 

@@ -1,11 +1,26 @@
-use Rattle.std.proofs.Common.{◌≡◌, ℕ, ◌+◌, ◌-◌, true, drop, option_map, take, ◌∙◌, subst}
+use Rattle.std.proofs.Common.{◌≡◌, ℕ, ◌+◌, ◌-◌, ◌<◌, ◌≤◌, true, length, drop, option_map, take, sym, ◌∙◌, subst, arith}
 use Rattle.aas_model.specs.declared.path.PathStep.TheVariants.{Place}
 use Rattle.aas_sheet_rows.specs.Found.{side_of_step}
+use Rattle.aas_sheet_rows.specs.Table.{children_in}
+use Rattle.aas_sheet_rows.proofs.Children.{no_rank_past, rank_of_place}
 use Rattle.aas_sheet_rows.proofs.Standing.{rank_in_place}
 use Rattle.aas_sheet_rows.proofs.sheet.Sheet.child_rank.Goals as goal
 
 pub returns : goal.returns
 returns c =
     let t = c.self.inside in
-    subst (λ (n : ℕ). c.rank_of_step.result ≡ option_map (λ i. 0 + i) (side_of_step true (Place c.args.place) 0 (take (n - 0) (drop 0 t.sides)))) c.len.ensures c.rank_of_step.ensures.value
-    ∙ rank_in_place t.head t.rows t.sides c.args.self.now c.self.invariant c.self.view_is c.args.place
+    subst (λ (n : ℕ). c.rank_of_step.result ≡ option_map (λ i. 0 + i) (side_of_step true (Place c.args.place) 0 (take (n - 0) (drop 0 t.sides)))) c.len-count.ensures c.rank_of_step.ensures.value
+    ∙ rank_in_place t.head t.rows t.sides c.args.self.now c.self.invariant.0 c.self.view_is c.args.place
+
+pub returns-then-place-count : goal.returns-then-place-count
+returns-then-place-count c =
+    let t = c.self.inside in
+    let all : children_in t.sides ≡ length t.sides = sym c.self.invariant.1 ∙ c.if-self-count.true ∙ c.len-count.ensures in
+    let within : c.args.place < length t.sides = omega (arith, c.if-place-count.true, c.len-count.ensures) in
+    rank_of_place t.head t.rows t.sides c.args.self.now c.self.invariant.0 c.self.view_is c.args.place all within
+
+pub returns-else-place-count : goal.returns-else-place-count
+returns-else-place-count c =
+    let t = c.self.inside in
+    let past : length t.sides ≤ c.args.place = omega (arith, c.if-place-count.false, c.len-count.ensures) in
+    no_rank_past t.head t.rows t.sides c.args.self.now c.self.invariant.0 c.self.view_is c.args.place past

@@ -10,5 +10,5 @@ returns c =
     let t = c.self.inside in
     let d = c.args.self.now in
     let rs : List Row = c.as_slice-rows.result.now in
-    let v = viewed t.head t.rows rs t.sides t.sides d c.self.invariant c.self.view_is c.as_slice-rows.ensures refl in
+    let v = viewed t.head t.rows rs t.sides t.sides d c.self.invariant.0 c.self.view_is c.as_slice-rows.ensures refl in
     c.depth_among.ensures.value d.kids (subst (λ (n : ℕ). Among rs t.sides 0 n 0 d.kids) (sym c.len.ensures) (all_among t.head rs t.sides d v.0 v.1)) ∙ ap (depth_found d) (sym c.in-Some.ensures.cases.0 ∙ c.as_slice.ensures)

@@ -13,7 +13,7 @@ pub returns-then-rank-sides : goal.returns-then-rank-sides
 returns-then-rank-sides c =
     let t = c.self.inside in
     let d = c.args.self.now in
-    let v = viewed t.head t.rows c.as_slice-rows.result.now t.sides c.as_slice-sides.result.now d c.self.invariant c.self.view_is c.as_slice-rows.ensures c.as_slice-sides.ensures in
+    let v = viewed t.head t.rows c.as_slice-rows.result.now t.sides c.as_slice-sides.result.now d c.self.invariant.0 c.self.view_is c.as_slice-rows.ensures c.as_slice-sides.ensures in
     sym (none_past t.head c.as_slice-rows.result.now c.as_slice-sides.result.now d v.0 v.1 c.args.rank c.if-rank-sides.true)
 
 pub returns-then-end-rank : goal.returns-then-end-rank
@@ -26,7 +26,7 @@ returns-then-end-rank c =
     let side : Side = c.index-sides-rank.result in
     let kids : List Element = c.new-kids.result in
     let x : Element = c.in_ok-element.element in
-    let v = viewed t.head t.rows rs t.sides ss d c.self.invariant c.self.view_is c.as_slice-rows.ensures
+    let v = viewed t.head t.rows rs t.sides ss d c.self.invariant.0 c.self.view_is c.as_slice-rows.ensures
     c.as_slice-sides.ensures in
     let inside : c.args.rank < length ss = omega (arith, c.if-rank-sides.false) in
     let end = c.rank_behind-end in
@@ -42,7 +42,7 @@ returns-then-is_empty c =
     let d = c.args.self.now in
     let rs : List Row = c.as_slice-rows.result.now in
     let ss : List Side = c.as_slice-sides.result.now in
-    let v = viewed t.head t.rows rs t.sides ss d c.self.invariant c.self.view_is c.as_slice-rows.ensures c.as_slice-sides.ensures in
+    let v = viewed t.head t.rows rs t.sides ss d c.self.invariant.0 c.self.view_is c.as_slice-rows.ensures c.as_slice-sides.ensures in
     let inside : c.args.rank < length ss = omega (arith, c.if-rank-sides.false) in
     let g = taken t.head rs ss d c.args.rank c.rank_behind-end.result v.0 v.1 inside c.rank_behind-end.ensures.value c.rank_behind-end.ensures.above in
     absurd (some_grown c.in_ok-grown.grown g.0 (c.in_ok-grown.ensures ∙ g.2) (c.is_empty.ensures.0 c.if-is_empty.true))
@@ -53,7 +53,7 @@ returns c =
     let d = c.args.self.now in
     let rs : List Row = c.as_slice-rows.result.now in
     let ss : List Side = c.as_slice-sides.result.now in
-    let v = viewed t.head t.rows rs t.sides ss d c.self.invariant c.self.view_is c.as_slice-rows.ensures c.as_slice-sides.ensures in
+    let v = viewed t.head t.rows rs t.sides ss d c.self.invariant.0 c.self.view_is c.as_slice-rows.ensures c.as_slice-sides.ensures in
     let inside : c.args.rank < length ss = omega (arith, c.if-rank-sides.false) in
     let g = taken t.head rs ss d c.args.rank c.rank_behind-end.result v.0 v.1 inside c.rank_behind-end.ensures.value c.rank_behind-end.ensures.above in
     only c.in_ok-grown.grown g.0 c.remove.result (c.in_ok-grown.ensures ∙ g.2) c.remove.ensures.item ∙ sym g.1

@@ -14,7 +14,7 @@ returns-in-Some c =
     let ks = children_at d c.args.path.now.steps in
     let found = c.in-Some.found in
     let rs : List Row = c.as_slice-rows.result.now in
-    let v = viewed t.head t.rows rs t.sides t.sides d c.self.invariant c.self.view_is c.as_slice-rows.ensures refl in
+    let v = viewed t.head t.rows rs t.sides t.sides d c.self.invariant.0 c.self.view_is c.as_slice-rows.ensures refl in
     c.first_semantic_id.ensures found.level ks
     (subst (λ (ss : List Side). Among rs ss found.first found.end found.level ks) (sym c.as_slice-sides.ensures) (c.in-Some.ensures.rows d (all_among t.head rs t.sides d v.0 v.1)))
 
@@ -23,5 +23,5 @@ returns-in-None c =
     let t = c.self.inside in
     let d = c.args.self.now in
     let rs : List Row = c.as_slice-rows.result.now in
-    let v = viewed t.head t.rows rs t.sides t.sides d c.self.invariant c.self.view_is c.as_slice-rows.ensures refl in
+    let v = viewed t.head t.rows rs t.sides t.sides d c.self.invariant.0 c.self.view_is c.as_slice-rows.ensures refl in
     sym (ap first_semantic_id (c.in-None.ensures.rows d (all_among t.head rs t.sides d v.0 v.1)))

@@ -1,14 +1,16 @@
 use Rattle.std.proofs.Common.{◌≡◌, ◌≤◌, List, [], ◌++◌, length, sym, ap, ap₂, ◌∙◌, subst, arith}
 use Rattle.aas_model.specs.declared.documents.Submodel.{Submodel}
+use Rattle.aas_model.specs.declared.element.Element.{Element}
 use Rattle.aas_rows.specs.Edits.{count}
 use Rattle.aas_rows.specs.Rows.{rows_of_all}
 use Rattle.aas_rows.proofs.Edited.{count_at}
 use Rattle.aas_sheet_index.specs.Sides.{measured}
 use Rattle.aas_sheet_index.specs.declared.side.Side.{Side}
 use Rattle.aas_sheet_index.proofs.Measures.{measured_long, sized_measured}
-use Rattle.aas_sheet_rows.specs.Table.{lines_of, submodel_of, IsTable}
+use Rattle.aas_sheet_rows.specs.Table.{children_in, lines_of, submodel_of, IsTable}
 use Rattle.aas_sheet_rows.specs.declared.row.Row.{Row}
 use Rattle.aas_sheet_rows.proofs.Edits.{few_enough}
+use Rattle.aas_sheet_rows.proofs.Found.{siblings_counted}
 use Rattle.aas_sheet_rows.proofs.Loans.{lines_long}
 use Rattle.aas_sheet_rows.proofs.Made.{laid_deep, lines_measured, made_submodel, made_table}
 use Rattle.aas_sheet_rows.proofs.sheet.Sheet.from_submodel.Goals as goal
@@ -42,7 +44,13 @@ invariant_of-result c =
     let ss : List Side = c.lay_all.new.sides in
     let start : lines_of c.new-rows.result c.new-sides.result ≡ [] = ap (λ (rs : List Row). lines_of rs c.new-sides.result) c.new-rows.ensures in
     let are : lines_of rs ss ≡ rows_of_all c.args.submodel.kids 1 = c.in_ok-lay_all.ensures.lines ∙ ap₂ (λ xs ks. xs ++ rows_of_all ks 1) start c.replace-kids.ensures.value in
-    subst (IsTable rs) (sym c.in_ok-sides.ensures) (made_table c.args.submodel.kids rs (measured ss) (c.in_ok-lay_all.ensures.long ∙ sym (measured_long ss)) (lines_measured rs ss ∙ are) (sized_measured ss))
+    let kids : List Element = c.args.submodel.kids in
+    let long : length rs ≡ length (measured ss) = c.in_ok-lay_all.ensures.long ∙ sym (measured_long ss) in
+    let same : lines_of rs (measured ss) ≡ rows_of_all kids 1 = lines_measured rs ss ∙ are in
+    let counted = siblings_counted 0 rs (measured ss) kids long (sym same) in (
+      subst (IsTable rs) (sym c.in_ok-sides.ensures) (made_table kids rs (measured ss) long same (sized_measured ss)),
+      c.len-children.ensures ∙ ap length c.replace-kids.ensures.value ∙ sym counted ∙ ap children_in (sym c.in_ok-sides.ensures),
+    )
 
 pub returns : goal.returns
 returns c =

@@ -10,6 +10,7 @@ use Rattle.aas_rows.specs.Rows.{Line, rows}
 use Rattle.aas_sheet_rows.specs.Table.{lines_of}
 use Rattle.aas_sheet_rows.specs.declared.row.Row.{Row}
 use Rattle.aas_sheet_index.specs.declared.side.Side.{Side}
+use Rattle.aas_sheet_rows.proofs.Children.{put_children, replaced_children}
 use Rattle.aas_sheet_rows.proofs.Edits.{Made, edit_bounds, few_enough, made_replaced, nothing_replaced, put_table, reached, reached_end, reached_row, reached_within}
 use Rattle.aas_sheet_rows.proofs.Standing.{viewed}
 use Rattle.aas_sheet_rows.proofs.sheet.Sheet.replace.Goals as goal
@@ -25,7 +26,7 @@ offset_bounds-rows-rank c =
     let rank : ℕ = c.in-Some.rank in
     let rs : List Row = c.as_slice-rows.result.now in
     let ss : List Side = c.as_slice-sides.result.now in
-    let v = viewed t.head t.rows rs t.sides ss d c.self.invariant c.self.view_is c.as_slice-rows.ensures c.as_slice-sides.ensures in
+    let v = viewed t.head t.rows rs t.sides ss d c.self.invariant.0 c.self.view_is c.as_slice-rows.ensures c.as_slice-sides.ensures in
     let r = reached d p rank c.in-Some.ensures in
     let inside : rank < length ss = reached_within t.head rs ss d v.0 v.1 p rank r in
     let within : rank < length rs = omega (arith, inside, v.0.long) in
@@ -39,7 +40,7 @@ bounds-rows-rank c =
     let rank : ℕ = c.in-Some.rank in
     let rs : List Row = c.as_slice-rows.result.now in
     let ss : List Side = c.as_slice-sides.result.now in
-    let v = viewed t.head t.rows rs t.sides ss d c.self.invariant c.self.view_is c.as_slice-rows.ensures c.as_slice-sides.ensures in
+    let v = viewed t.head t.rows rs t.sides ss d c.self.invariant.0 c.self.view_is c.as_slice-rows.ensures c.as_slice-sides.ensures in
     let r = reached d p rank c.in-Some.ensures in
     let inside : rank < length ss = reached_within t.head rs ss d v.0 v.1 p rank r in
     let within : rank < length rs = omega (arith, inside, v.0.long) in
@@ -53,7 +54,7 @@ offset_bounds-sides-rank c =
     let rank : ℕ = c.in-Some.rank in
     let rs : List Row = c.as_slice-rows.result.now in
     let ss : List Side = c.as_slice-sides.result.now in
-    let v = viewed t.head t.rows rs t.sides ss d c.self.invariant c.self.view_is c.as_slice-rows.ensures c.as_slice-sides.ensures in
+    let v = viewed t.head t.rows rs t.sides ss d c.self.invariant.0 c.self.view_is c.as_slice-rows.ensures c.as_slice-sides.ensures in
     let r = reached d p rank c.in-Some.ensures in
     let inside : rank < length ss = reached_within t.head rs ss d v.0 v.1 p rank r in
     let within : rank < length rs = omega (arith, inside, v.0.long) in
@@ -67,7 +68,7 @@ bounds-sides-rank c =
     let rank : ℕ = c.in-Some.rank in
     let rs : List Row = c.as_slice-rows.result.now in
     let ss : List Side = c.as_slice-sides.result.now in
-    let v = viewed t.head t.rows rs t.sides ss d c.self.invariant c.self.view_is c.as_slice-rows.ensures c.as_slice-sides.ensures in
+    let v = viewed t.head t.rows rs t.sides ss d c.self.invariant.0 c.self.view_is c.as_slice-rows.ensures c.as_slice-sides.ensures in
     let r = reached d p rank c.in-Some.ensures in
     let inside : rank < length ss = reached_within t.head rs ss d v.0 v.1 p rank r in
     let within : rank < length rs = omega (arith, inside, v.0.long) in
@@ -81,7 +82,7 @@ bounds-sides-rank-in-Some c =
     let rank : ℕ = c.in-Some.rank in
     let rs : List Row = c.as_slice-rows.result.now in
     let ss : List Side = c.as_slice-sides.result.now in
-    let v = viewed t.head t.rows rs t.sides ss d c.self.invariant c.self.view_is c.as_slice-rows.ensures c.as_slice-sides.ensures in
+    let v = viewed t.head t.rows rs t.sides ss d c.self.invariant.0 c.self.view_is c.as_slice-rows.ensures c.as_slice-sides.ensures in
     let r = reached d p rank c.in-Some.ensures in
     let inside : rank < length ss = reached_within t.head rs ss d v.0 v.1 p rank r in
     let within : rank < length rs = omega (arith, inside, v.0.long) in
@@ -95,7 +96,7 @@ rank_behind-end-requires-clause-within c =
     let rank : ℕ = c.in-Some.rank in
     let rs : List Row = c.as_slice-rows.result.now in
     let ss : List Side = c.as_slice-sides.result.now in
-    let v = viewed t.head t.rows rs t.sides ss d c.self.invariant c.self.view_is c.as_slice-rows.ensures c.as_slice-sides.ensures in
+    let v = viewed t.head t.rows rs t.sides ss d c.self.invariant.0 c.self.view_is c.as_slice-rows.ensures c.as_slice-sides.ensures in
     let r = reached d p rank c.in-Some.ensures in
     let inside : rank < length ss = reached_within t.head rs ss d v.0 v.1 p rank r in
     let within : rank < length rs = omega (arith, inside, v.0.long) in
@@ -109,7 +110,7 @@ put_rows-requires-clause-high c =
     let rank : ℕ = c.in-Some.rank in
     let rs : List Row = c.as_slice-rows.result.now in
     let ss : List Side = c.as_slice-sides.result.now in
-    let v = viewed t.head t.rows rs t.sides ss d c.self.invariant c.self.view_is c.as_slice-rows.ensures c.as_slice-sides.ensures in
+    let v = viewed t.head t.rows rs t.sides ss d c.self.invariant.0 c.self.view_is c.as_slice-rows.ensures c.as_slice-sides.ensures in
     let r = reached d p rank c.in-Some.ensures in
     let inside : rank < length ss = reached_within t.head rs ss d v.0 v.1 p rank r in
     let within : rank < length rs = omega (arith, inside, v.0.long) in
@@ -127,7 +128,7 @@ put_rows-requires-clause-low c =
     let rank : ℕ = c.in-Some.rank in
     let rs : List Row = c.as_slice-rows.result.now in
     let ss : List Side = c.as_slice-sides.result.now in
-    let v = viewed t.head t.rows rs t.sides ss d c.self.invariant c.self.view_is c.as_slice-rows.ensures c.as_slice-sides.ensures in
+    let v = viewed t.head t.rows rs t.sides ss d c.self.invariant.0 c.self.view_is c.as_slice-rows.ensures c.as_slice-sides.ensures in
     let r = reached d p rank c.in-Some.ensures in
     let inside : rank < length ss = reached_within t.head rs ss d v.0 v.1 p rank r in
     let within : rank < length rs = omega (arith, inside, v.0.long) in
@@ -143,7 +144,7 @@ put_rows-requires-clause-low c =
     let ls : List Line = replace_range (lines_of t.rows t.sides) rank end (rows (with_role e role) side.level) in
     let made : Made d (replaced d p e) ls =
     subst (λ (ls : List Line). Made d (replaced d p e) ls) (ap₂ (λ q k. replace_range (lines_of t.rows t.sides) rank end (rows (with_role e q) k)) (sym role_is) (sym level_is))
-    (made_replaced t.head t.rows t.sides d c.self.invariant c.self.view_is p rank end e r back) in
+    (made_replaced t.head t.rows t.sides d c.self.invariant.0 c.self.view_is p rank end e r back) in
     let bounds = edit_bounds d (replaced d p e) (lines_of t.rows t.sides) rank end side.level (with_role e role) made c.requires in
     omega (arith, bounds.0, bounds.1)
 
@@ -155,7 +156,7 @@ put_rows-requires-clause-few c =
     let rank : ℕ = c.in-Some.rank in
     let rs : List Row = c.as_slice-rows.result.now in
     let ss : List Side = c.as_slice-sides.result.now in
-    let v = viewed t.head t.rows rs t.sides ss d c.self.invariant c.self.view_is c.as_slice-rows.ensures c.as_slice-sides.ensures in
+    let v = viewed t.head t.rows rs t.sides ss d c.self.invariant.0 c.self.view_is c.as_slice-rows.ensures c.as_slice-sides.ensures in
     let r = reached d p rank c.in-Some.ensures in
     let inside : rank < length ss = reached_within t.head rs ss d v.0 v.1 p rank r in
     let within : rank < length rs = omega (arith, inside, v.0.long) in
@@ -171,7 +172,7 @@ put_rows-requires-clause-few c =
     let ls : List Line = replace_range (lines_of t.rows t.sides) rank end (rows (with_role e role) side.level) in
     let made : Made d (replaced d p e) ls =
     subst (λ (ls : List Line). Made d (replaced d p e) ls) (ap₂ (λ q k. replace_range (lines_of t.rows t.sides) rank end (rows (with_role e q) k)) (sym role_is) (sym level_is))
-    (made_replaced t.head t.rows t.sides d c.self.invariant c.self.view_is p rank end e r back) in
+    (made_replaced t.head t.rows t.sides d c.self.invariant.0 c.self.view_is p rank end e r back) in
     let bounds = edit_bounds d (replaced d p e) (lines_of t.rows t.sides) rank end side.level (with_role e role) made c.requires in
     few_enough _ bounds.2
 
@@ -183,7 +184,7 @@ invariant_of-self c =
     let rank : ℕ = c.in-Some.rank in
     let rs : List Row = c.as_slice-rows.result.now in
     let ss : List Side = c.as_slice-sides.result.now in
-    let v = viewed t.head t.rows rs t.sides ss d c.self.invariant c.self.view_is c.as_slice-rows.ensures c.as_slice-sides.ensures in
+    let v = viewed t.head t.rows rs t.sides ss d c.self.invariant.0 c.self.view_is c.as_slice-rows.ensures c.as_slice-sides.ensures in
     let r = reached d p rank c.in-Some.ensures in
     let inside : rank < length ss = reached_within t.head rs ss d v.0 v.1 p rank r in
     let within : rank < length rs = omega (arith, inside, v.0.long) in
@@ -199,8 +200,10 @@ invariant_of-self c =
     let ls : List Line = replace_range (lines_of t.rows t.sides) rank end (rows (with_role e role) side.level) in
     let made : Made d (replaced d p e) ls =
     subst (λ (ls : List Line). Made d (replaced d p e) ls) (ap₂ (λ q k. replace_range (lines_of t.rows t.sides) rank end (rows (with_role e q) k)) (sym role_is) (sym level_is))
-    (made_replaced t.head t.rows t.sides d c.self.invariant c.self.view_is p rank end e r back) in
-    (put_table t.head t.rows t.sides d c.self.invariant c.self.view_is c.put_rows.result (replaced d p e) ls c.put_rows.new.rows c.put_rows.new.sides made c.put_rows.ensures.lines c.put_rows.ensures.long c.put_rows.ensures.sized c.put_rows.ensures.same_rows c.put_rows.ensures.same_sides).0
+    (made_replaced t.head t.rows t.sides d c.self.invariant.0 c.self.view_is p rank end e r back) in
+    let put = put_table t.head t.rows t.sides d c.self.invariant.0 c.self.view_is c.put_rows.result (replaced d p e) ls c.put_rows.new.rows c.put_rows.new.sides made c.put_rows.ensures.lines c.put_rows.ensures.long c.put_rows.ensures.sized c.put_rows.ensures.same_rows c.put_rows.ensures.same_sides in
+    (put.0, put_children t.head t.rows t.sides d c.self.invariant.0 c.self.view_is c.put_rows.result (replaced d p e) c.put_rows.new.rows c.put_rows.new.sides
+    t.children c.self.invariant.1 put.0 put.1 c.put_rows.ensures.same_sides (replaced_children d p e))
 
 pub returns-clause-ok : goal.returns-clause-ok
 returns-clause-ok c =
@@ -210,7 +213,7 @@ returns-clause-ok c =
     let rank : ℕ = c.in-Some.rank in
     let rs : List Row = c.as_slice-rows.result.now in
     let ss : List Side = c.as_slice-sides.result.now in
-    let v = viewed t.head t.rows rs t.sides ss d c.self.invariant c.self.view_is c.as_slice-rows.ensures c.as_slice-sides.ensures in
+    let v = viewed t.head t.rows rs t.sides ss d c.self.invariant.0 c.self.view_is c.as_slice-rows.ensures c.as_slice-sides.ensures in
     let r = reached d p rank c.in-Some.ensures in
     let inside : rank < length ss = reached_within t.head rs ss d v.0 v.1 p rank r in
     let within : rank < length rs = omega (arith, inside, v.0.long) in
@@ -226,5 +229,5 @@ returns-clause-ok c =
     let ls : List Line = replace_range (lines_of t.rows t.sides) rank end (rows (with_role e role) side.level) in
     let made : Made d (replaced d p e) ls =
     subst (λ (ls : List Line). Made d (replaced d p e) ls) (ap₂ (λ q k. replace_range (lines_of t.rows t.sides) rank end (rows (with_role e q) k)) (sym role_is) (sym level_is))
-    (made_replaced t.head t.rows t.sides d c.self.invariant c.self.view_is p rank end e r back) in
-    (put_table t.head t.rows t.sides d c.self.invariant c.self.view_is c.put_rows.result (replaced d p e) ls c.put_rows.new.rows c.put_rows.new.sides made c.put_rows.ensures.lines c.put_rows.ensures.long c.put_rows.ensures.sized c.put_rows.ensures.same_rows c.put_rows.ensures.same_sides).1
+    (made_replaced t.head t.rows t.sides d c.self.invariant.0 c.self.view_is p rank end e r back) in
+    (put_table t.head t.rows t.sides d c.self.invariant.0 c.self.view_is c.put_rows.result (replaced d p e) ls c.put_rows.new.rows c.put_rows.new.sides made c.put_rows.ensures.lines c.put_rows.ensures.long c.put_rows.ensures.sized c.put_rows.ensures.same_rows c.put_rows.ensures.same_sides).1

@@ -12,6 +12,6 @@ returns c =
     let t = c.self.inside in
     let d = c.args.self.now in
     let rs : List Row = c.as_slice-rows.result.now in
-    let v = viewed t.head t.rows rs t.sides t.sides d c.self.invariant c.self.view_is c.as_slice-rows.ensures refl in
+    let v = viewed t.head t.rows rs t.sides t.sides d c.self.invariant.0 c.self.view_is c.as_slice-rows.ensures refl in
     c.find_among.ensures.value d.kids (subst (λ (n : ℕ). Among rs t.sides 0 n 0 d.kids) (sym c.len-end.ensures) (all_among t.head rs t.sides d v.0 v.1)) ∙ from_zero (rank_among false c.in-Some.step.now c.in-Some.rest.now d.kids)
     ∙ ap (rank_at d) (sym c.in-Some.ensures.cases.0 ∙ c.as_slice.ensures)

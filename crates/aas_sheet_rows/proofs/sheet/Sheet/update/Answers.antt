@@ -11,7 +11,7 @@ use Rattle.aas_sheet_rows.proofs.sheet.Sheet.update.Goals as goal
 pub put_payloads-requires : goal.put_payloads-requires
 put_payloads-requires c =
     let t = c.self.inside in
-    let u = updated t.head t.rows t.sides c.args.path.now.steps c.args.patch.rows c.base_of-base.result c.args.self.now c.self.invariant c.self.view_is c.requires c.base_of-base.ensures in
+    let u = updated t.head t.rows t.sides c.args.path.now.steps c.args.patch.rows c.base_of-base.result c.args.self.now c.self.invariant.0 c.self.view_is c.requires c.base_of-base.ensures in
     subst (λ (rs : List Row). InRange c.base_of-base.result (length rs) c.as_mut_slice-2.result.now) (sym c.as_mut_slice.ensures.value)
     (subst (λ (ps : List PatchRow). InRange c.base_of-base.result (length t.rows) ps) (sym c.as_mut_slice-2.ensures.value) u.within)
 
@@ -19,6 +19,6 @@ pub returns : goal.returns
 returns c =
     let t = c.self.inside in
     let base : ℕ = c.base_of-base.result in
-    let u = updated t.head t.rows t.sides c.args.path.now.steps c.args.patch.rows base c.args.self.now c.self.invariant c.self.view_is c.requires c.base_of-base.ensures in
+    let u = updated t.head t.rows t.sides c.args.path.now.steps c.args.patch.rows base c.args.self.now c.self.invariant.0 c.self.view_is c.requires c.base_of-base.ensures in
     let new : c.put_payloads.new.rows ≡ written t.rows base c.args.patch.rows = c.put_payloads.ensures ∙ ap₂ (λ rs ps. written rs base ps) c.as_mut_slice.ensures.value c.as_mut_slice-2.ensures.value in
     ap (λ rs. submodel_of t.head rs t.sides) (filled_all t.rows c.put_payloads.new.rows (ap length new ∙ written_long t.rows base c.args.patch.rows) ∙ new) ∙ u.same
