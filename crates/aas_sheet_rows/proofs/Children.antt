@@ -1,5 +1,5 @@
 -- How many children a submodel has, before and after an edit.
-use Rattle.std.proofs.Common.{◌≡◌, ℕ, zero, suc, ◌+◌, ◌<◌, ◌≤◌, Bool, true, false, cond, if◌then◌else◌, List, [], ◌∷◌, ◌++◌, length, Option, Some, None, option_and_then, option_map, refl, sym, ap, ◌∙◌, subst, arith, length-append, Result, Ok, Err, OnOk, OnErr}
+use Rattle.std.proofs.Common.{◌≡◌, ℕ, zero, suc, ◌+◌, ◌<◌, ◌≤◌, Bool, true, false, cond, if◌then◌else◌, List, [], ◌∷◌, length, Option, Some, None, option_and_then, option_map, refl, sym, ap, ◌∙◌, arith, length-append, Result, Ok, Err, OnOk, OnErr}
 use Rattle.std.specs.List.{count_by}
 use Rattle.std.specs.Option.{option_map_or}
 use Rattle.std.proofs.lemmas.List.{length-set}
@@ -10,7 +10,7 @@ use Rattle.aas_model.specs.declared.documents.Submodel.{Submodel}
 use Rattle.aas_model.specs.declared.element.Element.{Element}
 use Rattle.aas_model.specs.declared.element.Role.{Role}
 use Rattle.aas_model.specs.declared.path.PathStep.{PathStep}
-use Rattle.aas_path_trees.specs.Children.{is_list, kids_of, role_of, with_kids, with_role}
+use Rattle.aas_path_trees.specs.Children.{role_of, with_role}
 use Rattle.aas_path_trees.specs.Edits.{inserted, removed, removed_among, replaced, role_under, role_under_found, with_last, with_last_at, without_child}
 use Rattle.aas_path_trees.specs.ElementAt.{child_by, element_among, element_at, element_below}
 use Rattle.aas_path_trees.specs.Patched.{element_count}
@@ -22,7 +22,7 @@ use Rattle.aas_rows.proofs.Counting.{have_child_count}
 use Rattle.aas_store.proofs.Listed.{as_many_of_all}
 use Rattle.aas_sheet_index.specs.Sides.{is_below}
 use Rattle.aas_sheet_index.specs.declared.side.Side.{Side}
-use Rattle.aas_sheet_rows.specs.Table.{children_in, lines_of, submodel_of, IsTable}
+use Rattle.aas_sheet_rows.specs.Table.{children_in, submodel_of, IsTable}
 use Rattle.aas_sheet_rows.specs.declared.row.Row.{Row}
 use Rattle.aas_sheet_rows.proofs.Edits.{Reached}
 use Rattle.aas_sheet_rows.proofs.Loans.{lines_long}

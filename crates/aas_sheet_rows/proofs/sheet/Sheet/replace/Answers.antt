@@ -201,9 +201,11 @@ invariant_of-self c =
     let made : Made d (replaced d p e) ls =
     subst (λ (ls : List Line). Made d (replaced d p e) ls) (ap₂ (λ q k. replace_range (lines_of t.rows t.sides) rank end (rows (with_role e q) k)) (sym role_is) (sym level_is))
     (made_replaced t.head t.rows t.sides d c.self.invariant.0 c.self.view_is p rank end e r back) in
-    let put = put_table t.head t.rows t.sides d c.self.invariant.0 c.self.view_is c.put_rows.result (replaced d p e) ls c.put_rows.new.rows c.put_rows.new.sides made c.put_rows.ensures.lines c.put_rows.ensures.long c.put_rows.ensures.sized c.put_rows.ensures.same_rows c.put_rows.ensures.same_sides in
-    (put.0, put_children t.head t.rows t.sides d c.self.invariant.0 c.self.view_is c.put_rows.result (replaced d p e) c.put_rows.new.rows c.put_rows.new.sides
-    t.children c.self.invariant.1 put.0 put.1 c.put_rows.ensures.same_sides (replaced_children d p e))
+    let put = put_table t.head t.rows t.sides d c.self.invariant.0 c.self.view_is c.put_rows.result (replaced d p e) ls c.put_rows.new.rows c.put_rows.new.sides made c.put_rows.ensures.lines c.put_rows.ensures.long c.put_rows.ensures.sized c.put_rows.ensures.same_rows c.put_rows.ensures.same_sides in (
+      put.0,
+      put_children t.head t.rows t.sides d c.self.invariant.0 c.self.view_is c.put_rows.result (replaced d p e) c.put_rows.new.rows c.put_rows.new.sides
+          t.children c.self.invariant.1 put.0 put.1 c.put_rows.ensures.same_sides (replaced_children d p e),
+    )
 
 pub returns-clause-ok : goal.returns-clause-ok
 returns-clause-ok c =
