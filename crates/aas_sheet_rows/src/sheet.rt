@@ -22,11 +22,12 @@ use std::mem;
 ///
 /// A step of a path by name costs a binary search in an index of all rows; one by place costs the siblings that it passes
 /// and what stands below them, in a walk along a narrow column. The children of the submodel are counted as they come and
-/// go. Where no row stands deeper, the one in a place is found at once; else by that walk. An edit moves 8 bytes for each row behind its place and
-/// what stands beside it. It writes 4 bytes for each row in the index, unless rows come behind all others, and merges the
-/// new ones in. It measures the new rows, and adds to the sizes of those above them. Of these it knows 30: a place that
-/// stands deeper has the rows before it measured too, up to a child of the submodel. Only `from_submodel`, `insert`,
-/// `replace` and copies take memory.
+/// go; where no row stands deeper, the one in a place is found at once, and else by that walk. An edit moves 8 bytes for
+/// each row behind its place and what stands beside it. It takes few rows out of the index by binary searches, writes 4
+/// bytes for each row in it only where many go or where rows behind the place move, and merges the new ones in. It
+/// measures the new rows, and adds to the sizes of those above them. Of these it knows 30: a place that stands deeper has
+/// the rows before it measured too, up to a child of the submodel. Only `from_submodel`, `insert`, `replace` and copies
+/// take memory.
 #[derive(Drop)]
 pub struct Sheet {
     /// It has no children: they stand in the rows.
