@@ -21,11 +21,12 @@ use std::alloc::Global;
 /// document behind the one that they meet; `put_all` moves each document once for all that it puts in.
 ///
 /// A step of a path by name costs a binary search in an index of all rows of the submodel; one by place costs the siblings
-/// that it passes and what stands below them, in a walk along a narrow column. An edit moves 8 bytes for each row behind its
-/// place and what stands beside it. It takes few rows out of the index by binary searches, writes 4 bytes for each row in it
-/// only where many go or where rows behind the place move, and merges the new ones in. It measures the new rows, and adds
-/// to the sizes of those above them. Of these it knows 30: a place that stands deeper has the rows before it measured too,
-/// up to a child of the submodel. Only puts, `insert_element`, `replace_element` and copies take memory.
+/// that it passes and what stands below them, in a walk along a narrow column. So does a child of the submodel by its place,
+/// unless no row stands deeper. An edit moves 8 bytes for each row behind its place and what stands beside it. It takes few
+/// rows out of the index by binary searches, writes 4 bytes for each row in it only where many go or where rows behind the
+/// place move, and merges the new ones in. It measures the new rows, and adds to the sizes of those above them. Of these it
+/// knows 30: a place that stands deeper has the rows before it measured too, up to a child of the submodel. Only puts,
+/// `insert_element`, `replace_element` and copies take memory.
 #[derive(Drop)]
 pub struct SheetStore {
     shells: Shelf<Shell>,
