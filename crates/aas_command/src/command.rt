@@ -1,32 +1,32 @@
 use crate::SentValue;
 use aas_model::{
-    AssetInformation, Concept, Element, Environment, Path, Reference, Shell, Submodel, Text,
+    AssetInformation, Boxed, Concept, Element, Environment, Path, Reference, Shell, Submodel, Text,
 };
 
-/// A change of the repository.
+/// A change of the repository. Documents and elements lie in boxes, so that a command is moved at little cost.
 ///
 /// IDTA-01002-3-0, the operations of the three repository interfaces that change what they hold.
 #[derive(Drop)]
 pub enum Command {
     /// Post a shell, a submodel, a concept description.
     CreateShell {
-        document: Shell,
+        document: Boxed<Shell>,
     },
     CreateSubmodel {
-        document: Submodel,
+        document: Boxed<Submodel>,
     },
     CreateConcept {
-        document: Concept,
+        document: Boxed<Concept>,
     },
     /// Put one in the place of that which has its identifier.
     ReplaceShell {
-        document: Shell,
+        document: Boxed<Shell>,
     },
     ReplaceSubmodel {
-        document: Submodel,
+        document: Boxed<Submodel>,
     },
     ReplaceConcept {
-        document: Concept,
+        document: Boxed<Concept>,
     },
     /// Delete that which has the identifier.
     DeleteShell {
@@ -41,7 +41,7 @@ pub enum Command {
     /// Put the asset information of the shell that has the identifier.
     SetAsset {
         shell: Text,
-        asset: AssetInformation,
+        asset: Boxed<AssetInformation>,
     },
     /// Post a reference to a submodel: the last of the shell's.
     AddReference {
@@ -57,13 +57,13 @@ pub enum Command {
     InsertElement {
         submodel: Text,
         path: Path,
-        element: Element,
+        element: Boxed<Element>,
     },
     /// Put an element in the place of that to which the path leads.
     ReplaceElement {
         submodel: Text,
         path: Path,
-        element: Element,
+        element: Boxed<Element>,
     },
     /// Delete the element to which the path leads.
     DeleteElement {

@@ -76,17 +76,29 @@ fn payload(alloc: Global, command: &Command) -> Result<Vec<u8>, EncodeFault>
     ensures fields { OnOk result (HasFields command.now) }
 {
     match command {
-        Command::CreateShell { document } => one_field(alloc, 1, &shell_text(alloc, document)?),
+        Command::CreateShell { document } => one_field(
+            alloc,
+            1,
+            &shell_text(alloc, document.get())?,
+        ),
         Command::CreateSubmodel { document } => {
-            one_field(alloc, 2, &submodel_text(alloc, document)?)
+            one_field(alloc, 2, &submodel_text(alloc, document.get())?)
         }
-        Command::CreateConcept { document } => one_field(alloc, 3, &concept_text(alloc, document)?),
-        Command::ReplaceShell { document } => one_field(alloc, 4, &shell_text(alloc, document)?),
+        Command::CreateConcept { document } => one_field(
+            alloc,
+            3,
+            &concept_text(alloc, document.get())?,
+        ),
+        Command::ReplaceShell { document } => one_field(
+            alloc,
+            4,
+            &shell_text(alloc, document.get())?,
+        ),
         Command::ReplaceSubmodel { document } => {
-            one_field(alloc, 5, &submodel_text(alloc, document)?)
+            one_field(alloc, 5, &submodel_text(alloc, document.get())?)
         }
         Command::ReplaceConcept { document } => {
-            one_field(alloc, 6, &concept_text(alloc, document)?)
+            one_field(alloc, 6, &concept_text(alloc, document.get())?)
         }
         Command::DeleteShell { id } => one_field(alloc, 7, id.as_str().as_bytes()),
         Command::DeleteSubmodel { id } => one_field(alloc, 8, id.as_str().as_bytes()),
@@ -95,7 +107,7 @@ fn payload(alloc: Global, command: &Command) -> Result<Vec<u8>, EncodeFault>
             alloc,
             10,
             shell.as_str().as_bytes(),
-            &asset_text(alloc, asset)?,
+            &asset_text(alloc, asset.get())?,
         ),
         Command::AddReference { shell, reference } => two_fields(
             alloc,
@@ -113,12 +125,12 @@ fn payload(alloc: Global, command: &Command) -> Result<Vec<u8>, EncodeFault>
             submodel,
             path,
             element,
-        } => element_payload(alloc, 13, submodel, path, element),
+        } => element_payload(alloc, 13, submodel, path, element.get()),
         Command::ReplaceElement {
             submodel,
             path,
             element,
-        } => element_payload(alloc, 14, submodel, path, element),
+        } => element_payload(alloc, 14, submodel, path, element.get()),
         Command::DeleteElement { submodel, path } => path_payload(alloc, 15, submodel, path),
         Command::UpdateValue {
             submodel,

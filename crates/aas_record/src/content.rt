@@ -24,8 +24,8 @@ use aas_json_read::{
     read_asset_information, read_concept, read_element, read_environment, read_shell, read_submodel,
 };
 use aas_model::{
-    AssetInformation, Concept, Element, Environment, Many, NoMemory, Path, ReadFault, Reference,
-    Shell, Submodel, Text,
+    AssetInformation, Boxed, Concept, Element, Environment, Many, NoMemory, Path, ReadFault,
+    Reference, Shell, Submodel, Text,
 };
 use aas_path::{PathFault, parse_path};
 use aas_reference::read_reference;
@@ -186,6 +186,26 @@ impl Content for SentValue {
         } else {
             Ok(None)
         }
+    }
+}
+
+impl<T: Tree> Tree for Boxed<T> {
+    ghost trees = { T.trees };
+
+    ghost left = { T.left };
+
+    fn read(alloc: Global, bytes: &[u8], level: u32) -> Result<Boxed<T>, ReadFault> {
+        match <T as Tree>::read(alloc, bytes, level) {
+            Ok(tree) => match Boxed::new(alloc, tree) {
+                Ok(boxed) => Ok(boxed),
+                Err(NoMemory) => Err(ReadFault::NoMemory),
+            },
+            Err(fault) => Err(fault),
+        }
+    }
+
+    fn text(&self, alloc: Global) -> Result<Vec<u8>, NoMemory> {
+        self.get().text(alloc)
     }
 }
 

@@ -8,7 +8,7 @@ use crate::RecordFault;
 use crate::content::Place;
 use crate::fields::{field, last_field, last_tree};
 use aas_command::{Command, SentValue};
-use aas_model::{Element, Path, Text};
+use aas_model::{Boxed, Element, Path, Text};
 use std::alloc::Global;
 
 /// A level at which no element can stand.
@@ -27,7 +27,7 @@ pub(crate) fn insertion(
     let at = (payload.len() - rest.len()) as u64;
     let (place, last) = field::<Place>(alloc, rest, at)?;
     let at = (payload.len() - last.len()) as u64;
-    let element = last_tree::<Element>(alloc, last, at, level(&place.path) + 1)?;
+    let element = last_tree::<Boxed<Element>>(alloc, last, at, level(&place.path) + 1)?;
     Ok(Command::InsertElement {
         submodel,
         path: place.path,
@@ -48,7 +48,7 @@ pub(crate) fn replacement(
     let at = (payload.len() - rest.len()) as u64;
     let (path, last) = field::<Path>(alloc, rest, at)?;
     let at = (payload.len() - last.len()) as u64;
-    let element = last_tree::<Element>(alloc, last, at, level(&path))?;
+    let element = last_tree::<Boxed<Element>>(alloc, last, at, level(&path))?;
     Ok(Command::ReplaceElement {
         submodel,
         path,

@@ -40,16 +40,30 @@ pub(crate) fn decide<S: Store>(
     ensures { IsDecision has_room (S.documents store.old) command (S.documents store.new) result }
 {
     match command {
-        Command::CreateShell { document } => create(alloc, store, document, has_room),
-        Command::CreateSubmodel { document } => create(alloc, store, document, has_room),
-        Command::CreateConcept { document } => create(alloc, store, document, has_room),
-        Command::ReplaceShell { document } => replace(alloc, store, document, has_room),
-        Command::ReplaceSubmodel { document } => replace(alloc, store, document, has_room),
-        Command::ReplaceConcept { document } => replace(alloc, store, document, has_room),
+        Command::CreateShell { document } => {
+            create(alloc, store, document.into_inner(), has_room)
+        }
+        Command::CreateSubmodel { document } => {
+            create(alloc, store, document.into_inner(), has_room)
+        }
+        Command::CreateConcept { document } => {
+            create(alloc, store, document.into_inner(), has_room)
+        }
+        Command::ReplaceShell { document } => {
+            replace(alloc, store, document.into_inner(), has_room)
+        }
+        Command::ReplaceSubmodel { document } => {
+            replace(alloc, store, document.into_inner(), has_room)
+        }
+        Command::ReplaceConcept { document } => {
+            replace(alloc, store, document.into_inner(), has_room)
+        }
         Command::DeleteShell { id } => delete(store, Collection::Shells, id, has_room),
         Command::DeleteSubmodel { id } => delete(store, Collection::Submodels, id, has_room),
         Command::DeleteConcept { id } => delete(store, Collection::Concepts, id, has_room),
-        Command::SetAsset { shell, asset } => set_asset(alloc, store, shell, asset, has_room),
+        Command::SetAsset { shell, asset } => {
+            set_asset(alloc, store, shell, asset.into_inner(), has_room)
+        }
         Command::AddReference { shell, reference } => {
             add_reference(alloc, store, shell, reference, has_room)
         }
@@ -60,12 +74,12 @@ pub(crate) fn decide<S: Store>(
             submodel,
             path,
             element,
-        } => insert_element(alloc, store, submodel, path, element, has_room),
+        } => insert_element(alloc, store, submodel, path, element.into_inner(), has_room),
         Command::ReplaceElement {
             submodel,
             path,
             element,
-        } => replace_element(alloc, store, submodel, path, element, has_room),
+        } => replace_element(alloc, store, submodel, path, element.into_inner(), has_room),
         Command::DeleteElement { submodel, path } => {
             delete_element(alloc, store, submodel, path, has_room)
         }

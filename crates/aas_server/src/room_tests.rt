@@ -7,7 +7,7 @@ ghost use Rattle.aas_step.specs.Valid.{AreValid};
 
 use aas_api_service::Service;
 use aas_command::{Absent, Command, Refusal};
-use aas_model::{Extent, Head, Level, Many, NoMemory, Semantics, Submodel, Text};
+use aas_model::{Boxed, Extent, Head, Level, Many, NoMemory, Semantics, Submodel, Text};
 use aas_outside::{MemKeeper, MemLink};
 use aas_question::Question;
 use aas_repo::{Done, Repo};
@@ -66,7 +66,7 @@ fn create(alloc: Global, id: &str) -> Result<Command, NoMemory>
     ensures { IfOk result IsWellFormed }
 {
     Ok(Command::CreateSubmodel {
-        document: submodel(alloc, id)?,
+        document: Boxed::new(alloc, submodel(alloc, id)?)?,
     })
 }
 
