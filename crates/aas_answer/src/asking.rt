@@ -52,12 +52,12 @@ fn tell_unplanned<S: Store>(
         | Question::Submodel { .. }
         | Question::Concepts { .. } => unreachable!(),
         Question::ShellsReference { selection } => {
-            documents_answer(alloc, store, selection, DocumentForm::ShellReference)
+            documents_answer(alloc, store, selection.get(), DocumentForm::ShellReference)
         }
         Question::ReferencesOf { shell, span } => references_answer(alloc, store, shell, *span),
         Question::SubmodelsMetadata { selection } => {
             let form = SubmodelForm::Metadata;
-            documents_answer(alloc, store, selection, DocumentForm::Submodel(form))
+            documents_answer(alloc, store, selection.get(), DocumentForm::Submodel(form))
         }
         Question::SubmodelsValue {
             selection,
@@ -68,11 +68,11 @@ fn tell_unplanned<S: Store>(
                 level: *level,
                 extent: *extent,
             };
-            documents_answer(alloc, store, selection, DocumentForm::Submodel(form))
+            documents_answer(alloc, store, selection.get(), DocumentForm::Submodel(form))
         }
         Question::SubmodelsReference { selection } => {
             let form = SubmodelForm::Reference;
-            documents_answer(alloc, store, selection, DocumentForm::Submodel(form))
+            documents_answer(alloc, store, selection.get(), DocumentForm::Submodel(form))
         }
         Question::Elements {
             id,

@@ -32,7 +32,7 @@ pub fn plan<S: Store>(
         Question::Shells { selection } => {
             let extent = Extent::WithBlobValue;
             let shells = Collection::Shells;
-            Ok(Some(plan_page(alloc, store, shells, selection, Level::Deep, extent)?))
+            Ok(Some(plan_page(alloc, store, shells, selection.get(), Level::Deep, extent)?))
         }
         Question::Submodels {
             selection,
@@ -40,7 +40,7 @@ pub fn plan<S: Store>(
             extent,
         } => {
             let submodels = Collection::Submodels;
-            Ok(Some(plan_page(alloc, store, submodels, selection, *level, *extent)?))
+            Ok(Some(plan_page(alloc, store, submodels, selection.get(), *level, *extent)?))
         }
         Question::Submodel { id, level, extent } => {
             Ok(Some(plan_submodel(alloc, store, id, *level, *extent)?))
@@ -48,7 +48,7 @@ pub fn plan<S: Store>(
         Question::Concepts { selection } => {
             let extent = Extent::WithBlobValue;
             let concepts = Collection::Concepts;
-            Ok(Some(plan_page(alloc, store, concepts, selection, Level::Deep, extent)?))
+            Ok(Some(plan_page(alloc, store, concepts, selection.get(), Level::Deep, extent)?))
         }
         _ => Ok(None),
     }

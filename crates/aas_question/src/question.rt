@@ -1,7 +1,7 @@
-use aas_model::{Extent, Level, Path, Text};
+use aas_model::{Boxed, Extent, Level, Path, Text};
 use aas_page::{Selection, Span};
 
-/// What is asked of a repository and changes nothing.
+/// What is asked of a repository and changes nothing. Selections, which are large, lie in boxes.
 ///
 /// IDTA-01002-3-0, the operations of the three repository interfaces that get a page of documents or of a document's children, a
 /// document by its identifier, or an element of a submodel by its path; with the modifiers of what is told of it. A path that is
@@ -10,11 +10,11 @@ use aas_page::{Selection, Span};
 pub enum Question {
     /// A page of shells.
     Shells {
-        selection: Selection,
+        selection: Boxed<Selection>,
     },
     /// A page of references to shells.
     ShellsReference {
-        selection: Selection,
+        selection: Boxed<Selection>,
     },
     Shell {
         id: Text,
@@ -34,23 +34,23 @@ pub enum Question {
     },
     /// A page of submodels.
     Submodels {
-        selection: Selection,
+        selection: Boxed<Selection>,
         level: Level,
         extent: Extent,
     },
     /// A page of the metadata of submodels.
     SubmodelsMetadata {
-        selection: Selection,
+        selection: Boxed<Selection>,
     },
     /// A page of the values of submodels.
     SubmodelsValue {
-        selection: Selection,
+        selection: Boxed<Selection>,
         level: Level,
         extent: Extent,
     },
     /// A page of references to submodels.
     SubmodelsReference {
-        selection: Selection,
+        selection: Boxed<Selection>,
     },
     Submodel {
         id: Text,
@@ -118,7 +118,7 @@ pub enum Question {
     },
     /// A page of concept descriptions.
     Concepts {
-        selection: Selection,
+        selection: Boxed<Selection>,
     },
     Concept {
         id: Text,

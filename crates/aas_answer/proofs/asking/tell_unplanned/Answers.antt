@@ -1,6 +1,8 @@
 use Rattle.std.proofs.Common.{◌≡◌, ◌⊎◌, Err, sym, subst}
 use Rattle.aas_command.specs.declared.refusal.Refusal.TheVariants.{NoMemory}
+use Rattle.aas_page.specs.declared.filter.Selection.{Selection}
 use Rattle.aas_question.specs.declared.question.Question.{Question}
+use Rattle.aas_question.specs.declared.question.Question.TheVariants.{SubmodelsValue}
 use Rattle.aas_store.specs.Documents.{Documents}
 use Rattle.aas_answer.proofs.asking.tell_unplanned.Goals as goal
 use Rattle.aas_answer.specs.Answers.{Answer, answer_of}
@@ -16,7 +18,11 @@ returns-in-ReferencesOf g c = told (g.S.Store.documents c.args.store.now) _ _ _ 
 
 pub returns-in-SubmodelsValue : goal.returns-in-SubmodelsValue
 unfolding answer_of
-returns-in-SubmodelsValue g c = told (g.S.Store.documents c.args.store.now) _ _ _ c.in-SubmodelsValue.is c.documents_answer-in-SubmodelsValue.ensures
+returns-in-SubmodelsValue g c =
+    let d : Documents = g.S.Store.documents c.args.store.now in
+    let found : Answer = c.documents_answer-in-SubmodelsValue.result in
+    let Told : Selection → Type 0 = λ s. (found ≡ Err NoMemory) ⊎ (found ≡ answer_of d (SubmodelsValue s c.in-SubmodelsValue.level c.in-SubmodelsValue.extent)) in
+    told d found _ _ c.in-SubmodelsValue.is (subst Told c.get-in-SubmodelsValue.ensures c.documents_answer-in-SubmodelsValue.ensures)
 
 pub returns-in-Elements : goal.returns-in-Elements
 unfolding answer_of
