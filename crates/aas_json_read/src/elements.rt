@@ -53,11 +53,11 @@ fn element_in(
     ensures says { IfOk result (λ found. option_map spell_element found ≡ canonical_object (Some (sorted (rows_for (name_of kind)))) (canonical_member (members_view members.now.entries))) }
     ensures place { IfOk result (λ found. IfSome found (λ e. suits role (seen e) ≡ true)) }
 {
+    let common = common_in(alloc, members)?;
+    let kids = kids_in(alloc, members, kind)?;
     let Some(payload) = payload_in(alloc, members, kind)? else {
         return Ok(None);
     };
-    let common = common_in(alloc, members)?;
-    let kids = kids_in(alloc, members, kind)?;
     Ok(Some(Element {
         common,
         payload,
