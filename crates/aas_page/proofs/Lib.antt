@@ -1,4 +1,5 @@
 pub mod Coding
 mod Following
 mod Paged
+mod Plain
 mod Walked

@@ -1,6 +1,8 @@
 ghost use Rattle.std.specs.Prelude.{◌≡◌, ◌++◌, ◌⊎◌, ℕ, List, Err, IfNone, IfOk, IfSome, OnOk, OnErr};
+ghost use Rattle.std.specs.Cow.{cow_slice_items};
 ghost use Rattle.base64.specs.Engines.{url_safe_no_pad};
 ghost use Rattle.base64.specs.GeneralPurpose.{encode_of, IsBytes};
+ghost use Rattle.percent_encoding.specs.Percent.{percent_decode};
 ghost use Rattle.aas_page.specs.Laws.{SegmentsStandForOne};
 ghost use Rattle.aas_page.specs.Segment.{IsBase64Url, IsCursor, IsIdentifierCode, IsIdentifierText, StandsFor};
 ghost use Rattle.aas_page.specs.declared.segment.SegmentFault.TheVariants.{BadIdentifier};
@@ -9,8 +11,10 @@ use aas_lexical::is_identifier;
 use aas_model::{NoMemory, Text};
 use base64::DecodeAllocError;
 use base64::engine::general_purpose::{URL_SAFE, URL_SAFE_NO_PAD};
+use memchr::memchr;
 use percent_encoding::percent_decode;
 use std::alloc::Global;
+use std::borrow::CowSlice;
 use thiserror::Error;
 
 /// Why a segment is read as no identifier.
@@ -29,14 +33,23 @@ pub fn id_from_segment(alloc: Global, segment: &[u8]) -> Result<Text, SegmentFau
     ensures ok { IfOk result (λ id. StandsFor segment.now id) }
     ensures bad { result ≡ Err BadIdentifier → (id : List ℕ) → ¬ StandsFor segment.now id }
 {
-    let mut coded = Vec::new(alloc);
-    if percent_decode(segment).append_to(&mut coded).is_err() {
+    let Ok(coded) = percent_decoded(alloc, segment) else {
         return Err(SegmentFault::NoMemory);
-    }
+    };
     match id_from_base64url(alloc, &coded) {
         Ok(Some(id)) => Ok(id),
         Ok(None) => Err(SegmentFault::BadIdentifier),
         Err(NoMemory) => Err(SegmentFault::NoMemory),
+    }
+}
+
+/// The bytes for which a segment stands once it is percent-decoded, which are its own where it has no `%`.
+pub fn percent_decoded(alloc: Global, segment: &[u8]) -> Result<CowSlice<'_, u8>, NoMemory>
+    ensures { IfOk result (λ bytes. cow_slice_items bytes ≡ percent_decode segment.now) }
+{
+    match memchr(b'%', segment) {
+        Some(_) => Ok(percent_decode(segment).into_cow(alloc)?),
+        None => Ok(CowSlice::Borrowed(segment)),
     }
 }
 

@@ -1,4 +1,5 @@
 mod Coded
+mod Ends
 mod Long
 mod Methods
 mod Numbers

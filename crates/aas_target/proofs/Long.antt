@@ -1,10 +1,10 @@
 -- No resource has a path of more segments than the longest: where there are more or fewer texts than segments, they don't fit.
-use Rattle.std.proofs.Common.{◌≡◌, ◌≢◌, map, IsSome, Some, ℕ, ◌<◌, ◌≤◌, suc, true, false, cond, ◌==◌, List, [], ◌∷◌, None, option_map, length, drop, refl, ap, arith, lit≤}
+use Rattle.std.proofs.Common.{◌≡◌, ◌≢◌, ℕ, ◌<◌, ◌≤◌, suc, true, false, cond, ◌==◌, List, [], ◌∷◌, None, option_map, length, drop, refl, ap, arith, lit≤}
 use Rattle.form_urlencoded.specs.Form.{split}
 use Rattle.aas_target.specs.declared.found.TheConstants.{MOST_SEGMENTS}
 use Rattle.aas_target.specs.declared.routes.Resource.{Resource}
 use Rattle.aas_target.specs.declared.routes.Resource.TheVariants.{Shells}
-use Rattle.aas_target.specs.Routes.{Segment, Texts, row_of, fits, no_texts, with_text, texts_of, first_with, first_within_shell, other_resources, submodel_resources, resource_with, resource_at}
+use Rattle.aas_target.specs.Routes.{Segment, Texts, row_of, fits, with_text, texts_of, first_with, first_within_shell, other_resources, submodel_resources, resource_with, resource_at}
 
 pub texts_of_others : (segments : List Segment) (texts : List (List ℕ)) → length segments ≢ length texts → None ≡ texts_of segments texts
 texts_of_others [] [] differ = absurd (differ refl)
@@ -14,18 +14,6 @@ texts_of_others (segment ∷ segments) (text ∷ texts) differ =
     let none : None ≡ texts_of segments texts = texts_of_others segments texts (λ same. differ (ap suc same)) in
     elim (fits segment text) as (λ b. None ≡ cond b (option_map {T = Texts} (with_text segment text) (texts_of segments texts)) None)
     [ true ↦ ap (option_map {T = Texts} (with_text segment text)) none | false ↦ refl ]
-
-pub no_segments_left : {A B : Type 0} (f : A → Segment) (g : B → List ℕ) (ss : List A) (ts : List B)
-    → IsSome (texts_of (map f ss) (map g ts)) → length ss < 1 → texts_of (map f ss) (map g ts) ≡ Some no_texts
-no_segments_left f g [] [] is few = refl
-no_segments_left f g [] (t ∷ ts) is few = cc
-no_segments_left f g (s ∷ ss) ts is few = absurd (omega (arith, few))
-
-pub no_texts_left : {A B : Type 0} (f : A → Segment) (g : B → List ℕ) (ss : List A) (ts : List B)
-    → IsSome (texts_of (map f ss) (map g ts)) → length ts < 1 → texts_of (map f ss) (map g ts) ≡ Some no_texts
-no_texts_left f g [] [] is few = refl
-no_texts_left f g (s ∷ ss) [] is few = cc
-no_texts_left f g ss (t ∷ ts) is few = absurd (omega (arith, few))
 
 -- not through a shell
 few_segments : (resource : Resource) → length (row_of resource).segments ≤ 5

@@ -16,6 +16,7 @@ use Rattle.aas_reference.specs.Trees.{references}
 use Rattle.aas_target.specs.Query.{Setting, settings_of}
 use Rattle.aas_target.specs.Values.{IsLimit, IsPlaceCursor, IsTreeCode, extent_named, level_named}
 use Rattle.aas_target.specs.declared.given.Given.{Given}
+use Rattle.aas_target.specs.declared.given.Shown.{Shown}
 use Rattle.aas_target.specs.declared.parameter.Parameter.{Parameter}
 use Rattle.aas_target.specs.declared.parameter.Parameter.TheVariants as parameter
 
@@ -78,6 +79,10 @@ level_of g = unwrap_or g.level Deep
 
 abbrev pub extent_of : Given → Extent
 extent_of g = unwrap_or g.extent WithoutBlobValue
+
+-- how much is shown
+abbrev pub shown_of : Given → Shown
+shown_of g = record { level = level_of g; extent = extent_of g }
 
 abbrev pub limit_of : Given → ℕ
 limit_of g = unwrap_or g.limit 100

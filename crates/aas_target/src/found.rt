@@ -8,6 +8,7 @@ ghost use Rattle.aas_target.specs.Seen.{found_of, segment_of, texts_of as texts_
 use crate::method::Method;
 use crate::routes::{OTHER_RESOURCES, Resource, SUBMODEL_RESOURCES, Segment};
 use arrayvec::ArrayVec;
+use memchr::memchr;
 
 /// How many segments the path of a resource has at most, as `shells/ID/submodels/ID/submodel-elements/PATH/$value`.
 const MOST_SEGMENTS: usize = 7;
@@ -77,7 +78,7 @@ pub fn path_and_query(target: &[u8]) -> (&[u8], &[u8])
     ensures path { result.0.now ≡ path_in target.now }
     ensures query { result.1.now ≡ query_in target.now }
 {
-    match target.iter().position(|byte| *byte == b'?') {
+    match memchr(b'?', target) {
         Some(place) => (&target[..place], &target[place + 1..]),
         None => (target, &[]),
     }
@@ -127,6 +128,7 @@ fn resource_with<'a>(texts: &[&'a [u8]]) -> Option<Found<'a>>
 }
 
 /// The first of some resources whose path has segments with these texts.
+#[inline(never)]
 fn first_with<'a>(resources: &[Resource], texts: &[&'a [u8]]) -> Option<Found<'a>>
     ensures { option_map found_of result ≡ first_with resources.now (map (λ text. text.now) texts.now) }
 {
@@ -167,32 +169,32 @@ fn have(segments: &[Segment], texts: &[&[u8]]) -> bool
     if segments.len() != texts.len() {
         return false;
     }
-    let ([segment, segments @ ..], [text, texts @ ..]) = (segments, texts) else {
-        return true;
-    };
-    segment.fits(text) && have(segments, texts)
+    // Paths that begin alike differ at their ends.
+    for index in (0..segments.len()).rev() {
+        if !segments[index].fits(texts[index]) {
+            return false;
+        }
+    }
+    true
 }
 
 /// The parameters among the texts of a path, which has these segments.
-#[tactic(auto, using(crate::proofs::Long::no_segments_left, crate::proofs::Long::no_texts_left))]
 fn texts_of<'a>(segments: &[Segment], texts: &[&'a [u8]]) -> Texts<'a>
     requires { IsSome (texts_of (map segment_of segments.now) (map (λ text. text.now) texts.now)) }
     ensures { Some (texts_seen result) ≡ texts_of (map segment_of segments.now) (map (λ text. text.now) texts.now) }
 {
-    let [segment, segments @ ..] = segments else {
-        return Texts::none();
-    };
-    let [text, texts @ ..] = texts else {
-        return Texts::none();
-    };
-    texts_of(segments, texts).with(*segment, text)
+    let mut found = Texts::none();
+    for index in (0..segments.len()).rev() {
+        found = found.with(segments[index], texts[index]);
+    }
+    found
 }
 
 /// The bytes before the first separator, and those behind it, if there is one.
 fn cut(bytes: &[u8], separator: u8) -> (&[u8], Option<&[u8]>)
     ensures { split separator bytes.now ≡ result.0.now ∷ option_map_or (λ rest. split separator rest.now) result.1 [] }
 {
-    match bytes.iter().position(|byte| *byte == separator) {
+    match memchr(separator, bytes) {
         Some(place) => (&bytes[..place], Some(&bytes[place + 1..])),
         None => (bytes, None),
     }

@@ -1,5 +1,6 @@
 // What a query gives.
 ghost use Rattle.std.specs.Prelude.{◌≡◌, ◌≢◌, Some, None, Err, OnErr, OnOk};
+ghost use Rattle.aas_target.specs.Given.{nothing_given};
 ghost use Rattle.aas_target.specs.declared.values.ValueFault.TheVariants.{Bad};
 
 use crate::parameter::Parameter;
@@ -27,9 +28,30 @@ pub struct Given {
     pub extent: Option<Extent>,
 }
 
+/// How much is shown of what is told.
+#[derive(Clone, Copy)]
+pub struct Shown {
+    pub level: Level,
+    pub extent: Extent,
+}
+
+impl Shown {
+    ghost use Rattle.aas_target.specs.Given.{shown_of};
+
+    /// All levels, and no values of Blobs.
+    pub(crate) fn by_default() -> Shown
+        ensures { result ≡ shown_of nothing_given }
+    {
+        Shown {
+            level: Level::Deep,
+            extent: Extent::WithoutBlobValue,
+        }
+    }
+}
+
 impl Given {
     ghost use Rattle.std.specs.Prelude.{ℕ};
-    ghost use Rattle.aas_target.specs.Given.{Takes, extent_of, filter_of, level_of, limit_of, nothing_given, selection_of, span_of};
+    ghost use Rattle.aas_target.specs.Given.{Takes, extent_of, filter_of, level_of, limit_of, selection_of, shown_of, span_of};
     ghost use Rattle.aas_target.specs.declared.given.Given.{Given};
 
     pub(crate) fn nothing(alloc: Global) -> Given
@@ -74,18 +96,15 @@ impl Given {
         }
     }
 
-    /// How far down is shown; by default all levels.
-    pub fn level(&self) -> Level
-        ensures { result ≡ level_of self.now }
+    /// How far down is shown, and whether the values of Blobs are.
+    pub fn shown(&self) -> Shown
+        ensures { result ≡ shown_of self.now }
     {
-        self.level.unwrap_or(Level::Deep)
-    }
-
-    /// Whether the values of Blobs are shown; by default they aren't.
-    pub fn extent(&self) -> Extent
-        ensures { result ≡ extent_of self.now }
-    {
-        self.extent.unwrap_or(Extent::WithoutBlobValue)
+        let default = Shown::by_default();
+        Shown {
+            level: self.level.unwrap_or(default.level),
+            extent: self.extent.unwrap_or(default.extent),
+        }
     }
 
     fn limit(&self) -> u32

@@ -15,9 +15,9 @@ mod routes;
 mod values;
 
 pub use found::{Found, Texts, path_and_query, resource_at};
-pub use given::Given;
+pub use given::{Given, Shown};
 pub use laws::queries_say_one;
 pub use method::{Method, allow_text, method_among};
 pub use parameter::Parameter;
-pub use query::{QueryFault, read_query};
+pub use query::{QueryFault, read_query, read_shown};
 pub use routes::Resource;

@@ -1,12 +1,13 @@
 // Queries, read setting by setting.
 ghost use Rattle.std.specs.Prelude.{◌≡◌, Err, IfOk, OnOk};
-ghost use Rattle.aas_target.specs.Given.{Gives, IsBadIn};
+ghost use Rattle.aas_target.specs.Given.{Gives, IsBadIn, shown_of};
 ghost use Rattle.aas_target.specs.Pairs.{IsRefused, TakesIfListed};
 ghost use Rattle.aas_target.specs.Query.{parameter_among, setting_of};
+ghost use Rattle.aas_target.specs.declared.given.Given.{Given};
 ghost use Rattle.aas_target.specs.declared.parameter.Parameter.{Parameter};
 ghost use Rattle.aas_target.specs.declared.query.QueryFault.TheVariants.{BadQuery};
 
-use crate::given::Given;
+use crate::given::{Given, Shown};
 use crate::parameter::Parameter;
 use crate::values::ValueFault;
 use form_urlencoded::{decode, raw_pairs};
@@ -48,6 +49,30 @@ pub fn read_query(alloc: Global, query: &[u8], listed: &[Parameter]) -> Result<G
         take_pair(alloc, listed, &mut given, name, value)?;
     }
     Ok(given)
+}
+
+/// How much is shown by what the query gives of the parameters that a resource lists. Most queries are empty, and give nothing.
+///
+/// # Errors
+///
+/// As [`read_query`].
+pub fn read_shown(alloc: Global, query: &[u8], listed: &[Parameter]) -> Result<Shown, QueryFault>
+    ensures ok { IfOk result (λ shown. (given : Given) × Gives listed.now query.now given × (shown ≡ shown_of given)) }
+    ensures bad { (parameter : Parameter) → result ≡ Err (BadQuery parameter) → IsBadIn listed.now query.now parameter }
+{
+    if query.is_empty() {
+        return Ok(Shown::by_default());
+    }
+    shown_by(alloc, query, listed)
+}
+
+#[inline(never)]
+fn shown_by(alloc: Global, query: &[u8], listed: &[Parameter]) -> Result<Shown, QueryFault>
+    ensures ok { IfOk result (λ shown. (given : Given) × Gives listed.now query.now given × (shown ≡ shown_of given)) }
+    ensures bad { (parameter : Parameter) → result ≡ Err (BadQuery parameter) → IsBadIn listed.now query.now parameter }
+{
+    let given = read_query(alloc, query, listed)?;
+    Ok(given.shown())
 }
 
 /// Takes one pair of a query, which is passed over if its parameter isn't listed.
