@@ -44,7 +44,7 @@ fn submodel_changed(command: &Command) -> Option<&Text>
     ensures { option_copied result ≡ submodel_changed command.now }
 {
     match command {
-        Command::ReplaceSubmodel { document } => Some(&document.head.id),
+        Command::ReplaceSubmodel { document } => Some(&document.get().head.id),
         Command::InsertElement { submodel, .. }
         | Command::ReplaceElement { submodel, .. }
         | Command::DeleteElement { submodel, .. }

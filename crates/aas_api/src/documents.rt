@@ -1,20 +1,22 @@
 // The documents of the three interfaces, and what is asked of them.
-ghost use Rattle.std.specs.Prelude.{◌≡◌, ◌∷◌, [], bytes_eq, Ok};
+ghost use Rattle.std.specs.Prelude.{◌≡◌, ◌∷◌, [], bytes_eq, IfOk, Ok};
 ghost use Rattle.aas_json_table.specs.TooDeep.{limits};
 ghost use Rattle.aas_json_spelling.specs.Reads.{ReadsBytes};
+ghost use Rattle.aas_target.specs.Given.{shown_of};
 ghost use Rattle.aas_target.specs.Routes.{IsOneOf};
+ghost use Rattle.aas_target.specs.declared.given.Given as declared;
 ghost use Rattle.aas_target.specs.declared.method.Method.TheVariants.{Get, Post, Put, Delete};
 ghost use Rattle.aas_api.specs.Asked.{AsksCollection, AsksDocument, ByBody, ById, IsCommand, OrNoMemory, Shows, if_same};
 ghost use Rattle.aas_api.specs.Interfaces.{Interface, concept_interface, shell_interface, submodel_interface};
 ghost use Rattle.aas_api.specs.declared.ask.Ask.TheVariants.{Act};
 
 use crate::ask::Ask;
-use crate::segments::{given_by, identifier};
+use crate::segments::{given_by, identifier, shown_by};
 use aas_command::{Command, Refusal};
 use aas_json_read::{read_concept, read_shell, read_submodel};
-use aas_model::{Concept, ReadFault, Shell, Submodel, Text};
+use aas_model::{Boxed, Concept, NoMemory, ReadFault, Shell, Submodel, Text};
 use aas_question::Question;
-use aas_target::{Given, Method, Resource};
+use aas_target::{Given, Method, Resource, Shown};
 use std::alloc::Global;
 
 /// A document that an interface of the repository holds, and the commands and the questions of that interface
@@ -29,22 +31,22 @@ pub(crate) trait Document: Drop + Sized {
     fn id(&self) -> &Text
         ensures { result.now ≡ interface.id_of self.now };
 
-    fn create(self) -> Command
-        ensures { result ≡ interface.create self };
+    fn create(self, alloc: Global) -> Result<Command, NoMemory>
+        ensures { IfOk result (λ command. command ≡ interface.create self) };
 
-    fn replace(self) -> Command
-        ensures { result ≡ interface.replace self };
+    fn replace(self, alloc: Global) -> Result<Command, NoMemory>
+        ensures { IfOk result (λ command. command ≡ interface.replace self) };
 
     fn delete(id: Text) -> Command
         ensures { result ≡ interface.delete id };
 
     /// What a GET of all documents asks, by what the query gives.
-    fn list(given: Given) -> Question
-        ensures { result ≡ interface.list given };
+    fn list(alloc: Global, given: Given) -> Result<Question, NoMemory>
+        ensures { IfOk result (λ question. question ≡ interface.list given) };
 
     /// What a GET of the document asks.
-    fn get(id: Text, given: &Given) -> Question
-        ensures { result ≡ interface.get id given.now };
+    fn get(id: Text, shown: Shown) -> Question
+        ensures { (given : declared.Given) → shown ≡ shown_of given → result ≡ interface.get id given };
 }
 
 impl Document for Shell {
@@ -58,25 +60,29 @@ impl Document for Shell {
         &self.head.id
     }
 
-    fn create(self) -> Command {
-        Command::CreateShell { document: self }
+    fn create(self, alloc: Global) -> Result<Command, NoMemory> {
+        Ok(Command::CreateShell {
+            document: Boxed::new(alloc, self)?,
+        })
     }
 
-    fn replace(self) -> Command {
-        Command::ReplaceShell { document: self }
+    fn replace(self, alloc: Global) -> Result<Command, NoMemory> {
+        Ok(Command::ReplaceShell {
+            document: Boxed::new(alloc, self)?,
+        })
     }
 
     fn delete(id: Text) -> Command {
         Command::DeleteShell { id }
     }
 
-    fn list(given: Given) -> Question {
-        Question::Shells {
-            selection: given.into_selection(),
-        }
+    fn list(alloc: Global, given: Given) -> Result<Question, NoMemory> {
+        Ok(Question::Shells {
+            selection: Boxed::new(alloc, given.into_selection())?,
+        })
     }
 
-    fn get(id: Text, _given: &Given) -> Question {
+    fn get(id: Text, _shown: Shown) -> Question {
         Question::Shell { id }
     }
 }
@@ -92,31 +98,36 @@ impl Document for Submodel {
         &self.head.id
     }
 
-    fn create(self) -> Command {
-        Command::CreateSubmodel { document: self }
+    fn create(self, alloc: Global) -> Result<Command, NoMemory> {
+        Ok(Command::CreateSubmodel {
+            document: Boxed::new(alloc, self)?,
+        })
     }
 
-    fn replace(self) -> Command {
-        Command::ReplaceSubmodel { document: self }
+    fn replace(self, alloc: Global) -> Result<Command, NoMemory> {
+        Ok(Command::ReplaceSubmodel {
+            document: Boxed::new(alloc, self)?,
+        })
     }
 
     fn delete(id: Text) -> Command {
         Command::DeleteSubmodel { id }
     }
 
-    fn list(given: Given) -> Question {
-        Question::Submodels {
-            level: given.level(),
-            extent: given.extent(),
-            selection: given.into_selection(),
-        }
+    fn list(alloc: Global, given: Given) -> Result<Question, NoMemory> {
+        let shown = given.shown();
+        Ok(Question::Submodels {
+            level: shown.level,
+            extent: shown.extent,
+            selection: Boxed::new(alloc, given.into_selection())?,
+        })
     }
 
-    fn get(id: Text, given: &Given) -> Question {
+    fn get(id: Text, shown: Shown) -> Question {
         Question::Submodel {
             id,
-            level: given.level(),
-            extent: given.extent(),
+            level: shown.level,
+            extent: shown.extent,
         }
     }
 }
@@ -132,25 +143,29 @@ impl Document for Concept {
         &self.head.id
     }
 
-    fn create(self) -> Command {
-        Command::CreateConcept { document: self }
+    fn create(self, alloc: Global) -> Result<Command, NoMemory> {
+        Ok(Command::CreateConcept {
+            document: Boxed::new(alloc, self)?,
+        })
     }
 
-    fn replace(self) -> Command {
-        Command::ReplaceConcept { document: self }
+    fn replace(self, alloc: Global) -> Result<Command, NoMemory> {
+        Ok(Command::ReplaceConcept {
+            document: Boxed::new(alloc, self)?,
+        })
     }
 
     fn delete(id: Text) -> Command {
         Command::DeleteConcept { id }
     }
 
-    fn list(given: Given) -> Question {
-        Question::Concepts {
-            selection: given.into_selection(),
-        }
+    fn list(alloc: Global, given: Given) -> Result<Question, NoMemory> {
+        Ok(Question::Concepts {
+            selection: Boxed::new(alloc, given.into_selection())?,
+        })
     }
 
-    fn get(id: Text, _given: &Given) -> Question {
+    fn get(id: Text, _shown: Shown) -> Question {
         Question::Concept { id }
     }
 }
@@ -200,7 +215,7 @@ fn list<D: Document>(alloc: Global, resource: Resource, query: &[u8]) -> Result<
 {
     let given = given_by(alloc, resource, query)?;
     Ok(Ask::Answer {
-        question: D::list(given),
+        question: D::list(alloc, given)?,
     })
 }
 
@@ -209,7 +224,7 @@ fn create<D: Document>(alloc: Global, body: &[u8]) -> Result<Ask, Refusal>
 {
     let document = D::read(alloc, body)?;
     Ok(Ask::Act {
-        command: document.create(),
+        command: document.create(alloc)?,
     })
 }
 
@@ -222,9 +237,9 @@ fn get<D: Document>(
     ensures { OrNoMemory (ById segment.now (λ id. Shows resource query.now (D.interface.get id))) result }
 {
     let id = identifier(alloc, segment)?;
-    let given = given_by(alloc, resource, query)?;
+    let shown = shown_by(alloc, resource, query)?;
     Ok(Ask::Answer {
-        question: D::get(id, &given),
+        question: D::get(id, shown),
     })
 }
 
@@ -238,7 +253,7 @@ fn replace<D: Document>(alloc: Global, segment: &[u8], body: &[u8]) -> Result<As
         return Err(Refusal::IdMismatch);
     }
     Ok(Ask::Act {
-        command: document.replace(),
+        command: document.replace(alloc)?,
     })
 }
 

@@ -12,10 +12,10 @@ ghost use Rattle.aas_target.specs.declared.routes.Resource.TheVariants as resour
 ghost use Rattle.aas_api.specs.Asked.{AsksElement, AsksElements, AtElement, ById, Inserts, IsCommand, IsQuestion, OrNoMemory, Replaces, Shows, has_last, if_same, root};
 
 use crate::ask::Ask;
-use crate::segments::{element_path, given_by, identifier};
+use crate::segments::{element_path, given_by, identifier, shown_by};
 use aas_command::{Command, Refusal};
 use aas_json_read::read_element;
-use aas_model::{Element, Many, Path, PathStep, Text};
+use aas_model::{Boxed, Element, Many, Path, PathStep, Text};
 use aas_question::Question;
 use aas_target::{Method, Resource, Texts};
 use std::alloc::Global;
@@ -129,12 +129,12 @@ pub(crate) fn ask_element_paths(
 {
     let id = identifier(alloc, texts.id)?;
     let path = element_path(alloc, texts.path)?;
-    let given = given_by(alloc, Resource::ElementPaths, query)?;
+    let shown = shown_by(alloc, Resource::ElementPaths, query)?;
     Ok(Ask::Answer {
         question: Question::ElementPaths {
             id,
             path,
-            level: given.level(),
+            level: shown.level,
         },
     })
 }
@@ -147,12 +147,13 @@ fn list_elements(alloc: Global, submodel: &[u8], query: &[u8]) -> Result<Ask, Re
 {
     let id = identifier(alloc, submodel)?;
     let given = given_by(alloc, Resource::Elements, query)?;
+    let shown = given.shown();
     Ok(Ask::Answer {
         question: Question::Elements {
             id,
             span: given.span(),
-            level: given.level(),
-            extent: given.extent(),
+            level: shown.level,
+            extent: shown.extent,
         },
     })
 }
@@ -174,13 +175,13 @@ fn get_element(alloc: Global, texts: Texts<'_>, query: &[u8]) -> Result<Ask, Ref
 {
     let id = identifier(alloc, texts.id)?;
     let path = element_path(alloc, texts.path)?;
-    let given = given_by(alloc, Resource::Element, query)?;
+    let shown = shown_by(alloc, Resource::Element, query)?;
     Ok(Ask::Answer {
         question: Question::Element {
             id,
             path,
-            level: given.level(),
-            extent: given.extent(),
+            level: shown.level,
+            extent: shown.extent,
         },
     })
 }
@@ -220,7 +221,7 @@ fn insert(alloc: Global, submodel: Text, path: Path, body: &[u8]) -> Result<Ask,
             command: Command::InsertElement {
                 submodel,
                 path,
-                element,
+                element: Boxed::new(alloc, element)?,
             },
         }),
         Err(fault) => Err(fault.into()),
@@ -232,17 +233,17 @@ fn replace(alloc: Global, submodel: Text, path: Path, body: &[u8]) -> Result<Ask
     ensures { OrNoMemory (Replaces submodel path body.now) result }
 {
     match read_element(alloc, body, level(path.steps.len())) {
-        Ok(element) => if_same(submodel, path, element),
+        Ok(element) => if_same(submodel, path, Boxed::new(alloc, element)?),
         Err(fault) => Err(fault.into()),
     }
 }
 
 /// Puts the element in the place of that to which the path leads, if it has the name with which the path ends.
 #[tactic(auto, using(crate::proofs::LastSteps::last_is))]
-fn if_same(submodel: Text, path: Path, element: Element) -> Result<Ask, Refusal>
+fn if_same(submodel: Text, path: Path, element: Boxed<Element>) -> Result<Ask, Refusal>
     ensures { result ≡ if_same (has_last (last_or None path.steps) element) (ReplaceElement submodel path element) }
 {
-    if !has_last(path.steps.as_slice().last(), &element) {
+    if !has_last(path.steps.as_slice().last(), element.get()) {
         return Err(Refusal::IdMismatch);
     }
     Ok(Ask::Act {

@@ -5,17 +5,17 @@ ghost use Rattle.percent_encoding.specs.Percent.{percent_decode};
 ghost use Rattle.aas_path.specs.PathText.{IsNoPath, IsPath};
 ghost use Rattle.aas_command.specs.declared.refusal.Refusal.TheVariants.{BadIdentifier, BadPath, BadQuery, NoMemory};
 ghost use Rattle.aas_page.specs.Segment.{StandsFor};
-ghost use Rattle.aas_target.specs.Given.{Gives, IsBadIn};
+ghost use Rattle.aas_target.specs.Given.{Gives, IsBadIn, shown_of};
 ghost use Rattle.aas_target.specs.Query.{parameter_name};
 ghost use Rattle.aas_target.specs.Routes.{parameters_of};
+ghost use Rattle.aas_target.specs.declared.given.Given.{Given};
 ghost use Rattle.aas_target.specs.declared.parameter.Parameter.{Parameter};
 
 use aas_command::Refusal;
 use aas_model::{Path, Text};
-use aas_page::{SegmentFault, id_from_segment};
+use aas_page::{SegmentFault, id_from_segment, percent_decoded};
 use aas_path::parse_path;
-use aas_target::{Given, Parameter, QueryFault, Resource, read_query};
-use percent_encoding::percent_decode;
+use aas_target::{Given, Parameter, QueryFault, Resource, Shown, read_query, read_shown};
 use std::alloc::Global;
 
 /// The identifier for which a segment stands.
@@ -37,8 +37,7 @@ pub(crate) fn element_path(alloc: Global, segment: &[u8]) -> Result<Path, Refusa
     ensures err { IfErr result (λ refusal. (refusal ≡ NoMemory)
         ⊎ ((at : ℕ) × IsNoPath (percent_decode segment.now) at × (refusal ≡ BadPath at))) }
 {
-    let mut text = Vec::new(alloc);
-    percent_decode(segment).append_to(&mut text)?;
+    let text = percent_decoded(alloc, segment)?;
     match parse_path(alloc, &text) {
         Ok(path) => Ok(path),
         Err(fault) => Err(fault.into()),
@@ -53,6 +52,19 @@ pub(crate) fn given_by(alloc: Global, resource: Resource, query: &[u8]) -> Resul
 {
     match read_query(alloc, query, resource.parameters()) {
         Ok(given) => Ok(given),
+        Err(QueryFault::BadQuery { parameter }) => Err(bad_query(alloc, parameter)),
+        Err(QueryFault::NoMemory) => Err(Refusal::NoMemory),
+    }
+}
+
+/// How much is shown by what a query gives of the parameters that the resource lists.
+pub(crate) fn shown_by(alloc: Global, resource: Resource, query: &[u8]) -> Result<Shown, Refusal>
+    ensures ok { IfOk result (λ shown. (given : Given) × Gives (parameters_of resource) query.now given × (shown ≡ shown_of given)) }
+    ensures err { IfErr result (λ refusal. (refusal ≡ NoMemory) ⊎ ((parameter : Parameter)
+        × IsBadIn (parameters_of resource) query.now parameter × (refusal ≡ BadQuery (chars (parameter_name parameter))))) }
+{
+    match read_shown(alloc, query, resource.parameters()) {
+        Ok(shown) => Ok(shown),
         Err(QueryFault::BadQuery { parameter }) => Err(bad_query(alloc, parameter)),
         Err(QueryFault::NoMemory) => Err(Refusal::NoMemory),
     }

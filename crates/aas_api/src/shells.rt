@@ -18,7 +18,7 @@ use crate::segments::{given_by, identifier};
 use aas_command::{Command, Refusal};
 use aas_json_input::read_value;
 use aas_json_read::read_asset_information;
-use aas_model::{ReadFault, Reference};
+use aas_model::{Boxed, ReadFault, Reference};
 use aas_question::Question;
 use aas_reference::read_reference;
 use aas_target::{Method, Resource};
@@ -31,7 +31,7 @@ pub(crate) fn ask_shells_reference(alloc: Global, query: &[u8]) -> Result<Ask, R
     let given = given_by(alloc, Resource::ShellsReference, query)?;
     Ok(Ask::Answer {
         question: Question::ShellsReference {
-            selection: given.into_selection(),
+            selection: Boxed::new(alloc, given.into_selection())?,
         },
     })
 }
@@ -109,7 +109,10 @@ fn set_asset(alloc: Global, shell: &[u8], body: &[u8]) -> Result<Ask, Refusal>
     let shell = identifier(alloc, shell)?;
     match read_asset_information(alloc, body) {
         Ok(asset) => Ok(Ask::Act {
-            command: Command::SetAsset { shell, asset },
+            command: Command::SetAsset {
+                shell,
+                asset: Boxed::new(alloc, asset)?,
+            },
         }),
         Err(fault) => Err(fault.into()),
     }

@@ -5,8 +5,9 @@ ghost use Rattle.aas_target.specs.declared.routes.Resource.TheVariants as resour
 ghost use Rattle.aas_api.specs.Asked.{ById, IsQuestion, OrNoMemory, Shows};
 
 use crate::ask::Ask;
-use crate::segments::{given_by, identifier};
+use crate::segments::{given_by, identifier, shown_by};
 use aas_command::Refusal;
+use aas_model::Boxed;
 use aas_question::Question;
 use aas_target::Resource;
 use std::alloc::Global;
@@ -18,7 +19,7 @@ pub(crate) fn ask_submodels_metadata(alloc: Global, query: &[u8]) -> Result<Ask,
     let given = given_by(alloc, Resource::SubmodelsMetadata, query)?;
     Ok(Ask::Answer {
         question: Question::SubmodelsMetadata {
-            selection: given.into_selection(),
+            selection: Boxed::new(alloc, given.into_selection())?,
         },
     })
 }
@@ -29,11 +30,12 @@ pub(crate) fn ask_submodels_value(alloc: Global, query: &[u8]) -> Result<Ask, Re
         (λ given. question.SubmodelsValue (selection_of given) (level_of given) (extent_of given))) result }
 {
     let given = given_by(alloc, Resource::SubmodelsValue, query)?;
+    let shown = given.shown();
     Ok(Ask::Answer {
         question: Question::SubmodelsValue {
-            level: given.level(),
-            extent: given.extent(),
-            selection: given.into_selection(),
+            level: shown.level,
+            extent: shown.extent,
+            selection: Boxed::new(alloc, given.into_selection())?,
         },
     })
 }
@@ -45,7 +47,7 @@ pub(crate) fn ask_submodels_reference(alloc: Global, query: &[u8]) -> Result<Ask
     let given = given_by(alloc, Resource::SubmodelsReference, query)?;
     Ok(Ask::Answer {
         question: Question::SubmodelsReference {
-            selection: given.into_selection(),
+            selection: Boxed::new(alloc, given.into_selection())?,
         },
     })
 }
@@ -80,11 +82,11 @@ pub(crate) fn ask_submodel_paths(
         (λ given. question.SubmodelPaths id (level_of given)))) result }
 {
     let id = identifier(alloc, segment)?;
-    let given = given_by(alloc, Resource::SubmodelPaths, query)?;
+    let shown = shown_by(alloc, Resource::SubmodelPaths, query)?;
     Ok(Ask::Answer {
         question: Question::SubmodelPaths {
             id,
-            level: given.level(),
+            level: shown.level,
         },
     })
 }

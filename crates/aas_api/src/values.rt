@@ -16,7 +16,7 @@ ghost use Rattle.aas_api.specs.Numbers.{broken_number};
 
 use crate::ask::Ask;
 use crate::numbers::broken_number;
-use crate::segments::{element_path, given_by, identifier};
+use crate::segments::{element_path, identifier, shown_by};
 use aas_command::{Command, Refusal, SentValue};
 use aas_json_input::read_value;
 use aas_json_table::pointer::pointer;
@@ -69,12 +69,12 @@ fn get_submodel_value(alloc: Global, submodel: &[u8], query: &[u8]) -> Result<As
         (λ given. question.SubmodelValue id (level_of given) (extent_of given)))) result }
 {
     let id = identifier(alloc, submodel)?;
-    let given = given_by(alloc, Resource::SubmodelValue, query)?;
+    let shown = shown_by(alloc, Resource::SubmodelValue, query)?;
     Ok(Ask::Answer {
         question: Question::SubmodelValue {
             id,
-            level: given.level(),
-            extent: given.extent(),
+            level: shown.level,
+            extent: shown.extent,
         },
     })
 }
@@ -85,13 +85,13 @@ fn get_element_value(alloc: Global, texts: Texts<'_>, query: &[u8]) -> Result<As
 {
     let id = identifier(alloc, texts.id)?;
     let path = element_path(alloc, texts.path)?;
-    let given = given_by(alloc, Resource::ElementValue, query)?;
+    let shown = shown_by(alloc, Resource::ElementValue, query)?;
     Ok(Ask::Answer {
         question: Question::ElementValue {
             id,
             path,
-            level: given.level(),
-            extent: given.extent(),
+            level: shown.level,
+            extent: shown.extent,
         },
     })
 }

@@ -12,10 +12,10 @@ use Rattle.aas_api.proofs.values.get_element_value.Goals as goal
 abbrev ask : List ℕ → Path → Given → Question
 ask id path given = question.ElementValue id path (level_of given) (extent_of given)
 
-pub returns-in_err-given : goal.returns-in_err-given
-returns-in_err-given c =
+pub returns-in_err-shown : goal.returns-in_err-shown
+returns-in_err-shown c =
     shown_at (texts_of c.args.texts) resource.ElementValue c.args.query.now ask c.in_ok-id.id c.in_ok-path.path c.in_ok-id.ensures.ok
-    c.in_ok-path.ensures.ok c.from_residual-in_err-given.result (search rules)
+    c.in_ok-path.ensures.ok c.from_residual-in_err-shown.result (search rules)
 
 pub returns : goal.returns
 returns c =
