@@ -1,3 +1,4 @@
+mod Fronts
 mod Giving
 mod Progress
 mod Receiving

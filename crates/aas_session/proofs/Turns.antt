@@ -1,8 +1,8 @@
 -- Turns one after another, and the replies and commands that they add.
-use Rattle.std.proofs.Common.{◌≡◌, inl, inr, ℕ, ◌-◌, Bool, true, false, List, [], ◌∷◌, ◌++◌, length, refl, sym, ap, ◌∙◌, subst, arith, append_assoc, Option, Some, None}
+use Rattle.std.proofs.Common.{◌≡◌, inl, inr, ℕ, ◌-◌, Bool, true, false, List, [], ◌∷◌, ◌++◌, refl, sym, ap, ◌∙◌, subst, append_assoc, Option, Some, None}
 use Rattle.std.specs.Io.KnownBytes.{append_known}
 use Rattle.std.specs.Prelude.{if◌then◌else◌}
-use Rattle.std.proofs.lemmas.List.{append-nil, take_all}
+use Rattle.std.proofs.lemmas.List.{append-nil}
 use Rattle.std.proofs.lemmas.Grind.{flat_map-append}
 use Rattle.aas_http.specs.FirstRequest.{Message, FirstRequest, Nothing, Bad, TooLarge, NotImplemented, Whole}
 use Rattle.aas_outside.specs.Link.{GivesFront}
@@ -34,29 +34,6 @@ pub gives_more : (old mid new : Option (List ℕ)) (turns : List Turn) (turn : T
 gives_more old mid new turns turn before is =
     is ∙ ap (λ (k : Option (List ℕ)). append_known k turn.reply) before ∙ append_known-more old (replies turns) turn.reply
     ∙ ap (λ (l : List ℕ). append_known old l) (sym (replies_more turns turn))
-
-last_of : (t : Turn) (turns : List Turn) → (first : List Turn) × (last : Turn) × (t ∷ turns ≡ first ++ last ∷ [])
-last_of t [] = ([], t, refl)
-last_of t (u ∷ turns) = let r = last_of u turns in (t ∷ r.0, r.1, ap (λ (l : List Turn). t ∷ l) r.2)
-
-whole_by : (old new : Option (List ℕ)) (turns first : List Turn) (last : Turn) → turns ≡ first ++ last ∷ [] → new ≡ append_known old (replies turns) → GivesTurns old new turns
-whole_by old new turns first last parts is = inr (
-  first,
-  last,
-  parts,
-  (
-    length last.reply,
-    omega arith,
-    is ∙ ap (λ (l : List Turn). append_known old (replies l)) parts ∙ ap (λ (l : List ℕ). append_known old l) (replies_more first last)
-        ∙ sym (append_known-more old (replies first) last.reply)
-        ∙ ap (λ (l : List ℕ). append_known (append_known old (replies first)) l) (sym (take_all (length last.reply) last.reply (omega arith))),
-  ),
-)
-
--- replies that were all given whole
-pub whole_turns : (old new : Option (List ℕ)) (turns : List Turn) → new ≡ append_known old (replies turns) → GivesTurns old new turns
-whole_turns old new [] is = inl (refl, is ∙ append_known-nil old)
-whole_turns old new (t ∷ turns) is = let r = last_of t turns in whole_by old new (t ∷ turns) r.0 r.1 r.2 is
 
 pub cut_turns : (old mid new : Option (List ℕ)) (turns : List Turn) (turn : Turn) → mid ≡ append_known old (replies turns) → GivesFront mid new turn.reply
     → GivesTurns old new (turns ++ turn ∷ [])

@@ -2,6 +2,7 @@ pub mod Answers
 pub mod Connections
 pub mod Intake
 pub mod Refusals
+pub mod Safe
 pub mod Served
 pub mod Session
 pub mod Steps

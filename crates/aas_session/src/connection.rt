@@ -1,18 +1,23 @@
 // One connection served.
-ghost use Rattle.std.specs.Prelude.{◌≡◌, ◌≢◌, ◌≤◌, ◌⊎◌, List, ℕ, false, Some, Err, IfOk};
+ghost use Rattle.std.specs.Prelude.{◌≡◌, ◌≢◌, ◌≤◌, ◌⊎◌, ◌↔◌, ◌++◌, List, ℕ, false, Some, Err, IfOk, IsTrue, OnOk, OnErr};
+ghost use Rattle.std.specs.Io.KnownBytes.{append_known};
 ghost use Rattle.aas_http.specs.Steps.{AwaitsHead, AwaitsBody, message_of};
+ghost use Rattle.aas_out.specs.Held.{held_by, HoldsNothing};
+ghost use Rattle.aas_out.specs.Told.{Grows};
 ghost use Rattle.aas_outside.specs.Faults.{HasCause, Rose};
+ghost use Rattle.aas_outside.specs.Link.{GivesFront};
 ghost use Rattle.aas_rule.specs.State.{IsSettledState, PassesTo, repository_of};
 ghost use Rattle.aas_session.specs.Intake.{ReceivesMore};
+ghost use Rattle.aas_session.specs.Safe.{IsSafe};
 ghost use Rattle.aas_session.specs.Served.{Served};
-ghost use Rattle.aas_session.specs.Steps.{ServesOne, Refuses};
+ghost use Rattle.aas_session.specs.Steps.{ServesOne, ClosesWith};
 
 use crate::given::Given;
 use crate::intake::Intake;
 use crate::machine::{Machine, Stop};
 use crate::refusals::{bad_request, not_implemented, out_of_memory, storage_fault, too_large};
 use aas_http::{Request, Step, is_blank, next_request, whole_length};
-use aas_out::{PieceBuffer, give_poured};
+use aas_out::{BufferOut, PieceBuffer, Pour};
 use aas_outside::{Failed, Link, give_all};
 
 /// The most requests on a connection.
@@ -33,6 +38,9 @@ pub enum Ended {
 
 /// Serves one connection from its first byte to its end: at most 1,000,000 requests. What the intake
 /// held before counts for nothing.
+///
+/// Replies to GETs that came together are given together. Each is given before more is taken from the
+/// link, and before a request is answered that may change something.
 ///
 /// Reading the input, telling its requests apart and the replies that refuse its bytes take no
 /// memory.
@@ -65,30 +73,31 @@ pub fn serve_connection<M: Machine, L: Link>(
 {
     intake.clear();
     let mut buffer = PieceBuffer::new();
+    let mut out = BufferOut::new(link, &mut buffer);
     let mut requests = REQUEST_LIMIT;
     'requests: loop {
         match next_request(intake.unread()) {
-            Step::More => match receive_more(intake, link) {
+            Step::More => match give_and_receive(intake, &mut out) {
                 Ok(true) => {}
                 Ok(false) => {
                     if is_blank(intake.unread()) {
                         return Ended::Closed;
                     }
-                    return refuse(link, bad_request());
+                    return close_with(&mut out, bad_request());
                 }
                 Err(Failed) => return Ended::LinkFault,
             },
-            Step::Bad => return refuse(link, bad_request()),
-            Step::TooLarge => return refuse(link, too_large()),
-            Step::NotImplemented => return refuse(link, not_implemented()),
+            Step::Bad => return close_with(&mut out, bad_request()),
+            Step::TooLarge => return close_with(&mut out, too_large()),
+            Step::NotImplemented => return close_with(&mut out, not_implemented()),
             Step::Request(request, size) => {
                 let close = request.close | (requests == 1);
-                match serve_one(machine, link, &mut buffer, &request, close) {
+                match serve_one(machine, &mut out, &request, close) {
                     Ok(()) => {}
                     Err(ended) => return ended,
                 }
                 if close {
-                    return Ended::Closed;
+                    return close_with(&mut out, b"");
                 }
                 requests -= 1;
                 intake.skip(size);
@@ -97,53 +106,79 @@ pub fn serve_connection<M: Machine, L: Link>(
     }
 }
 
-/// Receives more of a request that isn't whole: all of it where its length is known, else a piece.
-/// False where the input ended before.
-fn receive_more<L: Link>(intake: &mut Intake, link: &mut L) -> Result<bool, Failed>
+/// Gives what is held, and receives more of a request that isn't whole. False where the input ended
+/// before.
+fn give_and_receive<L: Link>(intake: &mut Intake, out: &mut BufferOut<L>) -> Result<bool, Failed>
     requires { AwaitsHead intake.old.unread ⊎ AwaitsBody intake.old.unread }
-    ensures received { IfOk result (λ more.
-        ReceivesMore intake.old.unread intake.new.unread (L.left link.old) (L.left link.new) more) }
-    ensures sent { L.sent link.new ≡ L.sent link.old }
-    ensures surroundings { L.surroundings link.new ≡ L.surroundings link.old }
-    ensures cause { HasCause (L.faults link.old) (L.faults link.new) result }
+    ensures same_reference { out.new.link.ghost_name ≡ out.old.link.ghost_name }
+    ensures received { IfOk result (λ more. ReceivesMore intake.old.unread intake.new.unread
+        (L.left out.old.link.now) (L.left out.new.link.now) more) }
+    ensures empty { OnOk result (HoldsNothing out.new) }
+    ensures put { append_known (L.sent out.new.link.now) (held_by out.new) ≡
+        append_known (L.sent out.old.link.now) (held_by out.old) }
+    ensures given { Grows (L.sent out.old.link.now) (L.sent out.new.link.now) }
+    ensures surroundings { L.surroundings out.new.link.now ≡ L.surroundings out.old.link.now }
+    ensures cause { HasCause (L.faults out.old.link.now) (L.faults out.new.link.now) result }
+{
+    out.flush()?;
+    receive_more(intake, out)
+}
+
+/// Receives more of a request that isn't whole: all of it where its length is known, else a piece.
+/// False where the input ended before. Nothing is held while it waits.
+fn receive_more<L: Link>(intake: &mut Intake, out: &mut BufferOut<L>) -> Result<bool, Failed>
+    requires unfinished { AwaitsHead intake.old.unread ⊎ AwaitsBody intake.old.unread }
+    requires empty { HoldsNothing out.old }
+    ensures same_reference { out.new.link.ghost_name ≡ out.old.link.ghost_name }
+    ensures received { IfOk result (λ more. ReceivesMore intake.old.unread intake.new.unread
+        (L.left out.old.link.now) (L.left out.new.link.now) more) }
+    ensures empty { HoldsNothing out.new }
+    ensures sent { L.sent out.new.link.now ≡ L.sent out.old.link.now }
+    ensures surroundings { L.surroundings out.new.link.now ≡ L.surroundings out.old.link.now }
+    ensures cause { HasCause (L.faults out.old.link.now) (L.faults out.new.link.now) result }
 {
     match whole_length(intake.unread()) {
-        Some(count) => intake.receive_until(link, count),
+        Some(count) => intake.receive_until(out.link, count),
         None => {
             let count = intake.unread().len() + 1;
-            intake.receive_until(link, count)
+            intake.receive_until(out.link, count)
         }
     }
 }
 
-/// Answers a request and gives the reply, which says whether the connection closes behind it. An
+/// Answers a request and puts the reply, which says whether the connection closes behind it. An
 /// `Err` says how the connection ended by it.
 fn serve_one<M: Machine, L: Link>(
     machine: &mut M,
-    link: &mut L,
-    buffer: &mut PieceBuffer,
+    out: &mut BufferOut<L>,
     request: &Request,
     close: bool,
 ) -> Result<(), Ended>
     requires { M.stopped machine.old ≡ false }
+    ensures same_reference { out.new.link.ghost_name ≡ out.old.link.ghost_name }
     ensures served { (records : List (List ℕ)) →
         IsSettledState M.stands_for (M.state machine.old) records →
         ServesOne (M.rule (M.room machine.old)) M.stands_for
         (repository_of (M.state machine.old) records) (message_of request.now) close
-        (M.state machine.old).moment (M.state machine.new) (L.sent link.old) (L.sent link.new)
-        (Rose (L.faults link.old) (L.faults link.new)) result }
+        (M.state machine.old) (M.state machine.new) (L.sent out.old.link.now) (held_by out.old)
+        (L.sent out.new.link.now) (held_by out.new)
+        (Rose (L.faults out.old.link.now) (L.faults out.new.link.now)) result }
     ensures room { M.room machine.new ≡ M.room machine.old }
     ensures past { PassesTo (M.state machine.old) (M.state machine.new) }
-    ensures surroundings { L.surroundings link.new ≡ L.surroundings link.old }
-    ensures left { L.left link.new ≡ L.left link.old }
+    ensures surroundings { L.surroundings out.new.link.now ≡ L.surroundings out.old.link.now }
+    ensures left { L.left out.new.link.now ≡ L.left out.old.link.now }
     ensures stopped { result ≢ Err Ended.KeeperFault → M.stopped machine.new ≡ false }
     ensures later_keeper { M.faults machine.old ≤ M.faults machine.new }
-    ensures later_link { L.faults link.old ≤ L.faults link.new }
+    ensures later_link { L.faults out.old.link.now ≤ L.faults out.new.link.now }
     ensures keeper_fault { result ≡ Err Ended.KeeperFault →
         Rose (M.faults machine.old) (M.faults machine.new) }
     ensures link_fault { result ≡ Err Ended.LinkFault →
-        Rose (L.faults link.old) (L.faults link.new) }
+        Rose (L.faults out.old.link.now) (L.faults out.new.link.now) }
 {
+    match give_before(out, request) {
+        Ok(()) => {}
+        Err(Failed) => return Err(Ended::LinkFault),
+    }
     match machine.answer(request) {
         Ok(mut answer) => {
             answer.reply.close = close;
@@ -151,33 +186,74 @@ fn serve_one<M: Machine, L: Link>(
                 machine: &*machine,
                 answer: &answer,
             };
-            match give_poured(&given, link, buffer) {
+            match given.pour(out) {
                 Ok(()) => Ok(()),
                 Err(Failed) => Err(Ended::LinkFault),
             }
         }
-        Err(Stop::NoMemory) => match give_all(link, out_of_memory()) {
+        Err(Stop::NoMemory) => match give_last(out, out_of_memory()) {
             Ok(()) => Err(Ended::NoMemory),
             Err(Failed) => Err(Ended::LinkFault),
         },
         Err(Stop::StorageFault) => {
             // The keeper's fault comes before the link's, so whether the reply was given doesn't count.
-            let _given = give_all(link, storage_fault());
+            let _given = give_all(out.link, storage_fault());
             Err(Ended::KeeperFault)
         }
     }
 }
 
-/// Gives the reply to bytes that are no request, or one that is left out, and ends the connection.
-fn refuse<L: Link>(link: &mut L, text: &[u8]) -> Ended
-    ensures refused { Refuses text.now (L.sent link.old) (L.sent link.new) result }
-    ensures surroundings { L.surroundings link.new ≡ L.surroundings link.old }
-    ensures left { L.left link.new ≡ L.left link.old }
-    ensures later { L.faults link.old ≤ L.faults link.new }
-    ensures fault { result ≡ Ended.LinkFault → Rose (L.faults link.old) (L.faults link.new) }
+/// Gives what is held, unless the request is safe.
+fn give_before<L: Link>(out: &mut BufferOut<L>, request: &Request) -> Result<(), Failed>
+    ensures same_reference { out.new.link.ghost_name ≡ out.old.link.ghost_name }
+    ensures empty { OnOk result (IsSafe (message_of request.now) ⊎ HoldsNothing out.new) }
+    ensures put { append_known (L.sent out.new.link.now) (held_by out.new) ≡
+        append_known (L.sent out.old.link.now) (held_by out.old) }
+    ensures given { Grows (L.sent out.old.link.now) (L.sent out.new.link.now) }
+    ensures surroundings { L.surroundings out.new.link.now ≡ L.surroundings out.old.link.now }
+    ensures left { L.left out.new.link.now ≡ L.left out.old.link.now }
+    ensures cause { HasCause (L.faults out.old.link.now) (L.faults out.new.link.now) result }
 {
-    match give_all(link, text) {
+    if is_safe(request) {
+        return Ok(());
+    }
+    out.flush()
+}
+
+/// Whether the request asks for nothing to be changed.
+fn is_safe(request: &Request) -> bool
+    ensures { IsTrue result ↔ IsSafe (message_of request.now) }
+{
+    request.method == "GET"
+}
+
+/// Gives what is held and a last text behind it, and closes the connection.
+fn close_with<L: Link>(out: &mut BufferOut<L>, text: &[u8]) -> Ended
+    ensures same_reference { out.new.link.ghost_name ≡ out.old.link.ghost_name }
+    ensures closed { ClosesWith text.now (L.sent out.old.link.now) (held_by out.old)
+        (L.sent out.new.link.now) result }
+    ensures surroundings { L.surroundings out.new.link.now ≡ L.surroundings out.old.link.now }
+    ensures later { L.faults out.old.link.now ≤ L.faults out.new.link.now }
+    ensures fault { result ≡ Ended.LinkFault →
+        Rose (L.faults out.old.link.now) (L.faults out.new.link.now) }
+{
+    match give_last(out, text) {
         Ok(()) => Ended::Closed,
         Err(Failed) => Ended::LinkFault,
     }
+}
+
+/// Gives what is held and a text behind it.
+fn give_last<L: Link>(out: &mut BufferOut<L>, text: &[u8]) -> Result<(), Failed>
+    ensures same_reference { out.new.link.ghost_name ≡ out.old.link.ghost_name }
+    ensures given { OnOk result (L.sent out.new.link.now ≡
+        append_known (L.sent out.old.link.now) (held_by out.old ++ text.now)) }
+    ensures front { OnErr result (GivesFront (L.sent out.old.link.now) (L.sent out.new.link.now)
+        (held_by out.old ++ text.now)) }
+    ensures surroundings { L.surroundings out.new.link.now ≡ L.surroundings out.old.link.now }
+    ensures left { L.left out.new.link.now ≡ L.left out.old.link.now }
+    ensures cause { HasCause (L.faults out.old.link.now) (L.faults out.new.link.now) result }
+{
+    out.flush()?;
+    give_all(out.link, text)
 }

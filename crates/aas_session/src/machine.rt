@@ -7,6 +7,7 @@ ghost use Rattle.aas_outside.specs.Faults.{Rose};
 ghost use Rattle.aas_rule.specs.Rule.{Room};
 ghost use Rattle.aas_rule.specs.State.{State, IsSettledState, PassesTo, repository_of};
 ghost use Rattle.aas_session.specs.Answers.{Answers};
+ghost use Rattle.aas_session.specs.Safe.{IsSafe, IsUnchanged};
 ghost use Rattle.aas_session.specs.Session.{HttpRule};
 ghost use Rattle.aas_session.specs.WholeReply.{IsMeasured, whole_replies};
 ghost use Rattle.aas_session.specs.declared.machine.Stop.TheVariants.{StorageFault};
@@ -81,7 +82,11 @@ pub trait Machine {
         ensures past { PassesTo (state self.old) (state self.new) }
         ensures stopped { result ≢ Err StorageFault → stopped self.new ≡ false }
         ensures later { faults self.old ≤ faults self.new }
-        ensures fault { result ≡ Err StorageFault → Rose (faults self.old) (faults self.new) };
+        ensures fault { result ≡ Err StorageFault → Rose (faults self.old) (faults self.new) }
+
+        // A safe request changes nothing, and the keeper isn't asked.
+        ensures safe { IsSafe (message_of request.now) →
+            IsUnchanged (state self.old) (state self.new) × (result ≢ Err StorageFault) };
 
     /// Puts what is poured. It takes no memory.
     fn pour<O: Out>(&self, plan: &Self::Plan, out: &mut O) -> Result<(), Failed>
