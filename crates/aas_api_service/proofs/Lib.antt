@@ -1,4 +1,6 @@
+pub mod Asking
 pub mod OneOutcome
 pub mod Outcomes
+pub mod Safe
 pub mod Sessions
 pub mod WellFormed

@@ -1,5 +1,5 @@
 -- What is asked for is well formed, since a tree that is read is whole.
-use Rattle.std.proofs.Common.{◌≡◌, inl, inr, ℕ, ◌+◌, List, length, Bool, true, false, Option, Some, None, Result, Ok, Err, refl, sym, subst, ap}
+use Rattle.std.proofs.Common.{◌≡◌, inl, inr, ℕ, ◌+◌, List, length, Bool, true, false, Option, Some, None, Ok, Err, refl, sym, subst}
 use Rattle.std.specs.Prelude.{bytes_eq, if◌then◌else◌}
 use Rattle.std.specs.List.{last_or}
 use Rattle.serde_json.specs.Data.{Data}
@@ -21,27 +21,24 @@ use Rattle.aas_command.specs.Commands.{IsPlace, IsSendable, IsWellFormed}
 use Rattle.aas_command.proofs.Sendable.{read_sendable}
 use Rattle.aas_command.specs.declared.command.Command.{Command}
 use Rattle.aas_command.specs.declared.command.Command.TheVariants.{SetAsset, AddReference, DropReference, InsertElement, ReplaceElement, DeleteElement, UpdateValue}
-use Rattle.aas_command.specs.declared.refusal.Refusal.{Refusal}
 use Rattle.aas_command.specs.declared.refusal.Refusal.TheVariants.{IdMismatch}
 use Rattle.aas_command.proofs.PathTexts.{is_place}
-use Rattle.aas_question.specs.declared.question.Question.{Question}
 use Rattle.aas_question.specs.declared.question.Question.TheVariants as question
 use Rattle.aas_http.specs.FirstRequest.{Message}
-use Rattle.aas_target.specs.Given.{extent_of, level_of, selection_of, span_of}
-use Rattle.aas_target.specs.Routes.{Found, Texts, method_among, methods_of, parameters_of, path_in, query_in, resource_at}
-use Rattle.aas_target.specs.declared.given.Given.{Given}
+use Rattle.aas_target.specs.Given.{extent_of, level_of, span_of}
+use Rattle.aas_target.specs.Routes.{Texts, query_in}
 use Rattle.aas_target.specs.declared.method.Method.{Method}
 use Rattle.aas_target.specs.declared.method.Method.TheVariants.{Get, Post, Put, Patch, Delete}
-use Rattle.aas_target.specs.declared.parameter.Parameter.{Parameter}
 use Rattle.aas_target.specs.declared.routes.Resource.{Resource}
-use Rattle.aas_target.specs.declared.routes.Resource.TheVariants.{Shells, ShellsReference, Shell, ShellReference, AssetInformation, ReferencesOf, ReferencesTo, Submodels, SubmodelsMetadata, SubmodelsValue, SubmodelsReference, Submodel, SubmodelMetadata, SubmodelValue, SubmodelReference, SubmodelPaths, Elements, ElementsMetadata, ElementsReference, Element, ElementMetadata, ElementValue, ElementReference, ElementPaths, Concepts, Concept}
+use Rattle.aas_target.specs.declared.routes.Resource.TheVariants.{Shells, Shell, AssetInformation, ReferencesOf, ReferencesTo, Submodels, Submodel, SubmodelValue, Elements, Element, ElementValue, Concepts, Concept}
 use Rattle.aas_api.proofs.BrokenNumbers.{unbroken}
-use Rattle.aas_api.specs.Asked.{Asked, AsksAsset, AsksCollection, AsksDocument, AsksElement, AsksElements, AsksElementValue, AsksReferences, AsksResource, AsksSubmodelValue, AtElement, ByBody, ById, ByPath, ByQuery, ByRoute, BySent, Called, Inserts, IsAsked, IsByMethod, IsBySent, IsCall, IsCommand, IsQuestion, Replaces, Shows, Through, UnlessBroken, Updates, as_call, has_last, if_same, root}
+use Rattle.aas_api.specs.Asked.{Asked, AsksAsset, AsksCollection, AsksDocument, AsksElement, AsksElements, AsksElementValue, AsksReferences, AsksResource, AsksSubmodelValue, ByBody, ById, BySent, Inserts, IsAsked, IsBySent, IsCommand, Replaces, UnlessBroken, Updates, has_last, if_same, root}
 use Rattle.aas_api.specs.Interfaces.{Interface, concept_interface, shell_interface, submodel_interface}
 use Rattle.aas_api.specs.Numbers.{broken_number}
 use Rattle.aas_api.specs.declared.ask.Ask.{Ask}
 use Rattle.aas_api.specs.declared.ask.Ask.TheVariants.{Act, Answer}
-use Rattle.aas_api.specs.declared.ask.Call.{Call}
+use Rattle.aas_api_service.proofs.Asking.{Implies, at_element, by_id, by_request}
+use Rattle.aas_api_service.proofs.Safe.{by_get, shown, shown_at, shows, told}
 use Rattle.aas_api_service.specs.Laws.{AsksWellFormed}
 use Rattle.aas_api_service.specs.WellFormed.{IsWellFormedAsk}
 
@@ -114,10 +111,7 @@ takes_value id path v place is = (place, is)
 module _ (c : Command) where
   -- where it is asked so, it is well formed
   abbrev Keeps : (Asked → Type 0) → Type 0
-  Keeps Asks = Asks (Ok (Act c)) → IsWellFormed c
-
-  keeps_question : (q : Question) → Keeps (IsQuestion q)
-  keeps_question q is = absurd (cc)
+  Keeps Asks = Implies IsWellFormed c Asks
 
   keeps_command : (d : Command) → IsWellFormed d → Keeps (IsCommand d)
   keeps_command d well is = along d c (sym is) well
@@ -145,43 +139,11 @@ module _ (c : Command) where
       → Keeps (BySent body asks)
   by_sent body asks = by_read body (reading body) asks refl
 
-  by_id : (segment : List ℕ) (Asks : List ℕ → Asked → Type 0) → ((id : List ℕ) → Keeps (Asks id)) → Keeps (ById segment Asks)
-  by_id segment Asks each (inl (id, stands, asks)) = each id asks
-  by_id segment Asks each (inr (none, is)) = absurd (cc)
-
-  by_path : (segment : List ℕ) (Asks : Path → Asked → Type 0) → ((path : Path) → KeepsRule path.steps → Keeps (Asks path))
-      → Keeps (ByPath segment Asks)
-  by_path segment Asks each (inl (path, writes, asks)) = each path writes.1 asks
-  by_path segment Asks each (inr (at, none, is)) = absurd (cc)
-
-  -- a question is no command
-  shows : (resource : Resource) (query : List ℕ) (ask : Given → Question) → Keeps (Shows resource query ask)
-  shows resource query ask (inl (g, gives, is)) = absurd (cc)
-  shows resource query ask (inr (p, bad, is)) = absurd (cc)
-
-  told : (segment : List ℕ) (ask : List ℕ → Question) → Keeps (ById segment (λ id. IsQuestion (ask id)))
-  told segment ask = by_id segment (λ id. IsQuestion (ask id)) (λ id. keeps_question (ask id))
-
-  shown : (segment : List ℕ) (resource : Resource) (query : List ℕ) (ask : List ℕ → Given → Question)
-      → Keeps (ById segment (λ id. Shows resource query (ask id)))
-  shown segment resource query ask = by_id segment (λ id. Shows resource query (ask id)) (λ id. shows resource query (ask id))
-
-  at_element : (t : Texts) (Asks : List ℕ → Path → Asked → Type 0)
-      → ((id : List ℕ) (path : Path) → KeepsRule path.steps → Keeps (Asks id path)) → Keeps (AtElement t Asks)
-  at_element t Asks each = by_id t.id (λ id. ByPath t.path (Asks id)) (λ id. by_path t.path (Asks id) (each id))
-
-  told_at : (t : Texts) (ask : List ℕ → Path → Question) → Keeps (AtElement t (λ id p. IsQuestion (ask id p)))
-  told_at t ask = at_element t (λ id p. IsQuestion (ask id p)) (λ id p rule. keeps_question (ask id p))
-
-  shown_at : (t : Texts) (resource : Resource) (query : List ℕ) (ask : List ℕ → Path → Given → Question)
-      → Keeps (AtElement t (λ id p. Shows resource query (ask id p)))
-  shown_at t resource query ask = at_element t (λ id p. Shows resource query (ask id p)) (λ id p rule. shows resource query (ask id p))
-
   -- ---- methods
 
   on_collection : {D : Type 0} (i : Interface D) → TakesWhole i → (resource : Resource) (query body : List ℕ) (method : Method)
       → Keeps (AsksCollection i resource query body method)
-  on_collection i takes resource query body Get asks = shows resource query i.list asks
+  on_collection i takes resource query body Get asks = absurd (shows c resource query i.list asks)
   on_collection i takes resource query body Post asks =
       by_body i.documents limits body (λ d. Ok (Act (i.create d))) (λ d whole is. along (i.create d) c is (takes.create d whole)) asks
   on_collection i takes resource query body Put asks = absurd asks
@@ -190,20 +152,20 @@ module _ (c : Command) where
 
   on_document : {D : Type 0} (i : Interface D) → TakesWhole i → (resource : Resource) (segment query body : List ℕ) (method : Method)
       → Keeps (AsksDocument i resource segment query body method)
-  on_document i takes resource segment query body Get asks = shown segment resource query i.get asks
+  on_document i takes resource segment query body Get asks = absurd (shown c segment resource query i.get asks)
   on_document i takes resource segment query body Put asks =
-      by_id segment (λ id. ByBody i.documents limits body (λ d. if_same (bytes_eq id (i.id_of d)) (i.replace d)))
+      by_id IsWellFormed c segment (λ id. ByBody i.documents limits body (λ d. if_same (bytes_eq id (i.id_of d)) (i.replace d)))
       (λ id. by_body i.documents limits body (λ d. if_same (bytes_eq id (i.id_of d)) (i.replace d))
       (λ d whole is. by_same (bytes_eq id (i.id_of d)) (i.replace d) c is (takes.replace d whole))) asks
   on_document i takes resource segment query body Delete asks =
-      by_id segment (λ id. IsCommand (i.delete id)) (λ id. keeps_command (i.delete id) (takes.delete id)) asks
+      by_id IsWellFormed c segment (λ id. IsCommand (i.delete id)) (λ id. keeps_command (i.delete id) (takes.delete id)) asks
   on_document i takes resource segment query body Post asks = absurd asks
   on_document i takes resource segment query body Patch asks = absurd asks
 
   on_asset : (segment body : List ℕ) (method : Method) → Keeps (AsksAsset segment body method)
-  on_asset segment body Get asks = told segment question.Asset asks
+  on_asset segment body Get asks = absurd (told c segment question.Asset asks)
   on_asset segment body Put asks =
-      by_id segment (λ id. ByBody asset_informations limits body (λ d. Ok (Act (SetAsset id d))))
+      by_id IsWellFormed c segment (λ id. ByBody asset_informations limits body (λ d. Ok (Act (SetAsset id d))))
       (λ id. by_body asset_informations limits body (λ d. Ok (Act (SetAsset id d)))
       (λ d whole is. along (SetAsset id d) c is (takes_asset id d whole))) asks
   on_asset segment body Post asks = absurd asks
@@ -211,9 +173,9 @@ module _ (c : Command) where
   on_asset segment body Delete asks = absurd asks
 
   on_references : (segment query body : List ℕ) (method : Method) → Keeps (AsksReferences segment query body method)
-  on_references segment query body Get asks = shown segment ReferencesOf query (λ id g. question.ReferencesOf id (span_of g)) asks
+  on_references segment query body Get asks = absurd (shown c segment ReferencesOf query (λ id g. question.ReferencesOf id (span_of g)) asks)
   on_references segment query body Post asks =
-      by_id segment (λ id. ByBody references limits body (λ r. Ok (Act (AddReference id r))))
+      by_id IsWellFormed c segment (λ id. ByBody references limits body (λ r. Ok (Act (AddReference id r))))
       (λ id. by_body references limits body (λ r. Ok (Act (AddReference id r)))
       (λ r whole is. along (AddReference id r) c is (takes_reference id r whole))) asks
   on_references segment query body Put asks = absurd asks
@@ -222,7 +184,7 @@ module _ (c : Command) where
 
   drops : (segment shell : List ℕ) → Keeps (ById segment (λ submodel. IsCommand (DropReference shell submodel)))
   drops segment shell =
-      by_id segment (λ submodel. IsCommand (DropReference shell submodel))
+      by_id IsWellFormed c segment (λ submodel. IsCommand (DropReference shell submodel))
       (λ submodel. keeps_command (DropReference shell submodel) (takes_drop shell submodel))
 
   inserts : (id : List ℕ) (path : Path) (body : List ℕ) → IsPlace path.steps → Keeps (Inserts id path body)
@@ -242,34 +204,34 @@ module _ (c : Command) where
 
   on_elements : (segment query body : List ℕ) (method : Method) → Keeps (AsksElements segment query body method)
   on_elements segment query body Get asks =
-      shown segment Elements query (λ id g. question.Elements id (span_of g) (level_of g) (extent_of g)) asks
-  on_elements segment query body Post asks = by_id segment (λ id. Inserts id root body) (λ id. inserts id root body tt) asks
+      absurd (shown c segment Elements query (λ id g. question.Elements id (span_of g) (level_of g) (extent_of g)) asks)
+  on_elements segment query body Post asks = by_id IsWellFormed c segment (λ id. Inserts id root body) (λ id. inserts id root body tt) asks
   on_elements segment query body Put asks = absurd asks
   on_elements segment query body Patch asks = absurd asks
   on_elements segment query body Delete asks = absurd asks
 
   on_element : (t : Texts) (query body : List ℕ) (method : Method) → Keeps (AsksElement t query body method)
-  on_element t query body Get asks = shown_at t Element query (λ id p g. question.Element id p (level_of g) (extent_of g)) asks
+  on_element t query body Get asks = absurd (shown_at c t Element query (λ id p g. question.Element id p (level_of g) (extent_of g)) asks)
   on_element t query body Post asks =
-      at_element t (λ id p. Inserts id p body) (λ id p rule. inserts id p body (is_place p.steps rule)) asks
-  on_element t query body Put asks = at_element t (λ id p. Replaces id p body) (λ id p rule. replaces id p body rule) asks
+      at_element IsWellFormed c t (λ id p. Inserts id p body) (λ id p rule. inserts id p body (is_place p.steps rule)) asks
+  on_element t query body Put asks = at_element IsWellFormed c t (λ id p. Replaces id p body) (λ id p rule. replaces id p body rule) asks
   on_element t query body Delete asks =
-      at_element t (λ id p. IsCommand (DeleteElement id p)) (λ id p rule. keeps_command (DeleteElement id p) (takes_removal id p rule)) asks
+      at_element IsWellFormed c t (λ id p. IsCommand (DeleteElement id p)) (λ id p rule. keeps_command (DeleteElement id p) (takes_removal id p rule)) asks
   on_element t query body Patch asks = absurd asks
 
   on_submodel_value : (segment query body : List ℕ) (method : Method) → Keeps (AsksSubmodelValue segment query body method)
   on_submodel_value segment query body Get asks =
-      shown segment SubmodelValue query (λ id g. question.SubmodelValue id (level_of g) (extent_of g)) asks
-  on_submodel_value segment query body Patch asks = by_id segment (λ id. Updates id root body) (λ id. updates id root body tt) asks
+      absurd (shown c segment SubmodelValue query (λ id g. question.SubmodelValue id (level_of g) (extent_of g)) asks)
+  on_submodel_value segment query body Patch asks = by_id IsWellFormed c segment (λ id. Updates id root body) (λ id. updates id root body tt) asks
   on_submodel_value segment query body Post asks = absurd asks
   on_submodel_value segment query body Put asks = absurd asks
   on_submodel_value segment query body Delete asks = absurd asks
 
   on_element_value : (t : Texts) (query body : List ℕ) (method : Method) → Keeps (AsksElementValue t query body method)
   on_element_value t query body Get asks =
-      shown_at t ElementValue query (λ id p g. question.ElementValue id p (level_of g) (extent_of g)) asks
+      absurd (shown_at c t ElementValue query (λ id p g. question.ElementValue id p (level_of g) (extent_of g)) asks)
   on_element_value t query body Patch asks =
-      at_element t (λ id p. Updates id p body) (λ id p rule. updates id p body (is_place p.steps rule)) asks
+      at_element IsWellFormed c t (λ id p. Updates id p body) (λ id p rule. updates id p body (is_place p.steps rule)) asks
   on_element_value t query body Post asks = absurd asks
   on_element_value t query body Put asks = absurd asks
   on_element_value t query body Delete asks = absurd asks
@@ -279,74 +241,28 @@ module _ (c : Command) where
   on_resource : (resource : Resource) (t : Texts) (query body : List ℕ) (method : Method)
       → Keeps (AsksResource resource t query body method)
   on_resource Shells t query body = on_collection shell_interface takes_shells Shells query body
-  on_resource ShellsReference t query body = λ m. shows ShellsReference query (λ g. question.ShellsReference (selection_of g))
   on_resource Shell t query body = on_document shell_interface takes_shells Shell t.id query body
-  on_resource ShellReference t query body = λ m. told t.id question.ShellReference
   on_resource AssetInformation t query body = on_asset t.id body
   on_resource ReferencesOf t query body = on_references t.id query body
   on_resource ReferencesTo t query body =
-      λ m. by_id t.id (λ shell. ById t.submodel (λ submodel. IsCommand (DropReference shell submodel))) (drops t.submodel)
+      λ m. by_id IsWellFormed c t.id (λ shell. ById t.submodel (λ submodel. IsCommand (DropReference shell submodel))) (drops t.submodel)
   on_resource Submodels t query body = on_collection submodel_interface takes_submodels Submodels query body
-  on_resource SubmodelsMetadata t query body = λ m. shows SubmodelsMetadata query (λ g. question.SubmodelsMetadata (selection_of g))
-  on_resource SubmodelsValue t query body =
-      λ m. shows SubmodelsValue query (λ g. question.SubmodelsValue (selection_of g) (level_of g) (extent_of g))
-  on_resource SubmodelsReference t query body = λ m. shows SubmodelsReference query (λ g. question.SubmodelsReference (selection_of g))
   on_resource Submodel t query body = on_document submodel_interface takes_submodels Submodel t.id query body
-  on_resource SubmodelMetadata t query body = λ m. told t.id question.SubmodelMetadata
   on_resource SubmodelValue t query body = on_submodel_value t.id query body
-  on_resource SubmodelReference t query body = λ m. told t.id question.SubmodelReference
-  on_resource SubmodelPaths t query body = λ m. shown t.id SubmodelPaths query (λ id g. question.SubmodelPaths id (level_of g))
   on_resource Elements t query body = on_elements t.id query body
-  on_resource ElementsMetadata t query body = λ m. shown t.id ElementsMetadata query (λ id g. question.ElementsMetadata id (span_of g))
-  on_resource ElementsReference t query body = λ m. shown t.id ElementsReference query (λ id g. question.ElementsReference id (span_of g))
   on_resource Element t query body = on_element t query body
-  on_resource ElementMetadata t query body = λ m. told_at t question.ElementMetadata
   on_resource ElementValue t query body = on_element_value t query body
-  on_resource ElementReference t query body = λ m. told_at t question.ElementReference
-  on_resource ElementPaths t query body = λ m. shown_at t ElementPaths query (λ id p g. question.ElementPaths id p (level_of g))
   on_resource Concepts t query body = on_collection concept_interface takes_concepts Concepts query body
   on_resource Concept t query body = on_document concept_interface takes_concepts Concept t.id query body
+  -- the others have a GET alone
+  on_resource resource t query body = λ m asks. absurd (by_get c resource false (inl refl) t query body asks)
 
 -- ---- requests
 
-abbrev asked_in : Called → Option Ask
-asked_in (Ok call) = Some call.ask
-asked_in (Err why) = None
-
-module _ (through : Option (List ℕ)) (c : Command) where
-  -- where it is called so, it is well formed
-  abbrev KeepsCall : (Called → Type 0) → Type 0
-  KeepsCall Calls = Calls (Ok (record { through = through; ask = Act c })) → IsWellFormed c
-
-  is_call : (shell : Option (List ℕ)) (Asks : Asked → Type 0) → ((d : Command) → Keeps d Asks) → KeepsCall (IsCall shell Asks)
-  is_call shell Asks each (Ok (Act d), asks, is) =
-      let same_ask : Some (Act c) ≡ Some (Act d) = ap asked_in is in
-      let same : d ≡ c = cc in subst IsWellFormed same (each d asks)
-  is_call shell Asks each (Ok (Answer q), asks, is) =
-      let same_ask : Some (Act c) ≡ Some (Answer q) = ap asked_in is in absurd (cc)
-  is_call shell Asks each (Err why, asks, is) = absurd (cc)
-
-  by_shell : (segment : Option (List ℕ)) (Asks : Asked → Type 0) → ((d : Command) → Keeps d Asks) → KeepsCall (Through segment Asks)
-  by_shell None Asks each calls = is_call None Asks each calls
-  by_shell (Some segment) Asks each (inl (id, stands, calls)) = is_call (Some id) Asks each calls
-  by_shell (Some segment) Asks each (inr (none, is)) = absurd (cc)
-
-  by_method : (method : Option Method) (methods : List Method) (Calls : Method → Called → Type 0) → ((m : Method) → KeepsCall (Calls m))
-      → KeepsCall (IsByMethod method methods Calls)
-  by_method None methods Calls each is = absurd (cc)
-  by_method (Some method) methods Calls each calls = each method calls
-
-  by_route : (found : Option Found) (m : Message) → KeepsCall (ByRoute found m)
-  by_route None m is = absurd (cc)
-  by_route (Some found) m calls =
-      let AsksBy : Method → Asked → Type 0 = AsksResource found.resource found.texts (query_in m.target) m.body in
-      by_method (method_among m.method (methods_of found)) (methods_of found) (λ method. Through found.through (AsksBy method))
-      (λ method. by_shell found.through (AsksBy method)
-      (λ d. on_resource d found.resource found.texts (query_in m.target) m.body method)) calls
-
 pub asks_well_formed : AsksWellFormed
-unfolding IsAsked
-asks_well_formed m through c asked = by_route through c (resource_at (path_in m.target)) m asked
+asks_well_formed m through c =
+    by_request IsWellFormed through c m
+    (λ found method is d. on_resource d found.resource found.texts (query_in m.target) m.body method)
 
 pub asks_well : (m : Message) (through : Option (List ℕ)) (ask : Ask) → IsAsked m (Ok (record { through = through; ask = ask }))
     → IsWellFormedAsk ask

@@ -42,13 +42,18 @@ pub(crate) fn success(alloc: Global, command: &Command) -> Result<Reply, NoMemor
     ensures later { IfOk result (λ reply. reply.later ≡ 0) }
 {
     match command {
-        Command::CreateShell { document } => created(alloc, shell_text(alloc, document)?),
-        Command::CreateSubmodel { document } => created(alloc, submodel_text(alloc, document)?),
-        Command::CreateConcept { document } => created(alloc, concept_text(alloc, document)?),
+        Command::CreateShell { document } => created(alloc, shell_text(alloc, document.get())?),
+        Command::CreateSubmodel { document } => created(
+            alloc,
+            submodel_text(alloc, document.get())?,
+        ),
+        Command::CreateConcept { document } => created(alloc, concept_text(alloc, document.get())?),
         Command::AddReference { reference, .. } => {
             created(alloc, reference_text(alloc, reference)?)
         }
-        Command::InsertElement { element, .. } => { created(alloc, element_text(alloc, element)?) }
+        Command::InsertElement { element, .. } => {
+            created(alloc, element_text(alloc, element.get())?)
+        }
         _ => open_reply(alloc, 204, Many::new(alloc)),
     }
 }

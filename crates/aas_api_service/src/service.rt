@@ -7,6 +7,7 @@ ghost use Rattle.aas_http.specs.Steps.{message_of};
 ghost use Rattle.aas_outside.specs.Faults.{Rose};
 ghost use Rattle.aas_rule.specs.State.{IsSettledState, PassesTo, repository_of};
 ghost use Rattle.aas_answer.specs.Plans.{plan_text};
+ghost use Rattle.aas_question.specs.declared.question.Question.{Question};
 ghost use Rattle.aas_repo.specs.Held.{state_of};
 ghost use Rattle.aas_session.specs.Answers.{Answers};
 ghost use Rattle.aas_session.specs.WholeReply.{IsMeasured};
@@ -112,6 +113,7 @@ pub fn answer<S: Store, K: Keeper>(
     ensures stopped { result ≢ Err StorageFault → repo.new.stopped ≡ false }
     ensures later { K.faults repo.old.keeper ≤ K.faults repo.new.keeper }
     ensures fault { result ≡ Err StorageFault → Rose (K.faults repo.old.keeper) (K.faults repo.new.keeper) }
+    ensures unchanged { (q : Question) → call.ask ≡ Ask.Answer q → (repo.new ≡ repo.old) × (result ≢ Err StorageFault) }
 {
     match reach(repo, &call) {
         Ok(()) => answer_ask(alloc, repo, call.ask),
@@ -153,6 +155,7 @@ fn answer_ask<S: Store, K: Keeper>(
     ensures stopped { result ≢ Err StorageFault → repo.new.stopped ≡ false }
     ensures later { K.faults repo.old.keeper ≤ K.faults repo.new.keeper }
     ensures fault { result ≡ Err StorageFault → Rose (K.faults repo.old.keeper) (K.faults repo.new.keeper) }
+    ensures unchanged { (q : Question) → ask ≡ Ask.Answer q → (repo.new ≡ repo.old) × (result ≢ Err StorageFault) }
 {
     match ask {
         Ask::Act { command } => whole(act(alloc, repo, command)),

@@ -7,6 +7,7 @@ use Rattle.aas_session.specs.Answers.{Answers}
 use Rattle.aas_session.specs.declared.machine.Stop.{Stop}
 use Rattle.aas_api_service.specs.Turns.{Turns}
 use Rattle.aas_api_service.proofs.Outcomes.{answers_asked, answers_refused, asked_of}
+use Rattle.aas_api_service.proofs.Safe.{asks_question, same_unchanged}
 use Rattle.aas_api_service.proofs.WellFormed.{asks_well}
 use Rattle.aas_api_service.proofs.service.ServiceMachine.answer.Goals as goal
 
@@ -20,6 +21,14 @@ returns-in-Ok-clause-answered g c = λ records settled.
     let m = message_of c.args.request.now in
     answers_asked (g.K.Keeper.room_behind c.args.self.now.repo.keeper) g.K.Keeper.stands_for _ _ _ m c.in-Ok.call _
     (asked_of m c.in-Ok.call c.in-Ok.ensures) (c.answer.ensures.answered records settled)
+
+pub returns-in-Ok-clause-safe : goal.returns-in-Ok-clause-safe
+returns-in-Ok-clause-safe g c = λ safe.
+    let K = g.K.Keeper in
+    let m = message_of c.args.request.now in
+    let question = asks_question m c.in-Ok.call.through c.in-Ok.call.ask safe (asked_of m c.in-Ok.call c.in-Ok.ensures) in
+    let still = c.answer.ensures.unchanged question.0 question.1 in
+    (same_unchanged (state_of K.kept K.moment K.left_at) _ _ still.0, still.1)
 
 pub returns-in-Err-clause-answered : goal.returns-in-Err-clause-answered
 returns-in-Err-clause-answered g c = λ records settled.
