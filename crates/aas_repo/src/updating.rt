@@ -99,8 +99,8 @@ fn patch_for_element<S: Store>(
     ensures refusal { IfErr result (λ refusal. refusal ≢ NoMemoryLeft →
         IsRefused (S.documents store.now) (UpdateValue id.now path.now value.now) refusal) }
 {
-    let element = stored(alloc, store, id, path)?;
-    match prepare(alloc, element, value.as_value()) {
+    let mut element = stored(alloc, store, id, path)?;
+    match prepare(alloc, &mut element, value.as_value()) {
         Ok(patch) => Ok(patch),
         Err(fault) => Err(refusal_behind(path, fault)),
     }

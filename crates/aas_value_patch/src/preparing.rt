@@ -6,7 +6,7 @@ ghost use Rattle.aas_reference.specs.Rules.{first};
 ghost use Rattle.aas_path_trees.specs.Children.{kids_of};
 ghost use Rattle.aas_path_trees.specs.Patched.{Fits, kinds, kinds_of_all, patched, patched_submodel};
 ghost use Rattle.aas_value_update.specs.Laws.{IsInOrder};
-ghost use Rattle.aas_value_update.specs.Update.{IsElementUpdate, IsSubmodelUpdate, body, no_attributes};
+ghost use Rattle.aas_value_update.specs.Update.{IsElementUpdate, IsSubmodelUpdate, body};
 ghost use Rattle.aas_value_patch.specs.Prepared.{IsValueFault, fault_by};
 ghost use Rattle.aas_value_patch.specs.Swapped.{first_payload, with_first_payload};
 
@@ -78,17 +78,6 @@ fn fault_by(fault: Fault) -> ValueFault
     }
 }
 
-/// The element with the patch, of which a copy is used up.
-fn with_patch(element: Element, patch: &Patch) -> Result<Element, NoMemory>
-    requires { Fits (kinds element) patch.now.rows }
-    ensures { IfOk result (λ updated. updated ≡ (patched patch.now.rows element 0).0) }
-{
-    let patch = patch.copy()?;
-    let mut updated = element;
-    apply(&mut updated, patch);
-    Ok(updated)
-}
-
 /// The submodel with the patch, of which a copy is used up.
 fn with_patch_for_all(submodel: Submodel, patch: &Patch) -> Result<Submodel, NoMemory>
     requires { Fits (kinds_of_all submodel.kids) patch.now.rows }
@@ -138,41 +127,42 @@ fn first_fault_of_leaf(
     found
 }
 
-/// The first fault that the element has by itself with the patch, of which a copy is used up where there are children.
+/// The first fault that the element has by itself with the patch. One with children takes a copy of the patch for this, one
+/// without is as before.
 fn first_fault_with(
     alloc: Global,
-    element: Element,
+    element: &mut Element,
     patch: &mut Patch,
 ) -> Result<Option<Fault>, NoMemory>
-    requires { Fits (kinds element) patch.old.rows }
-    ensures found { IfOk result (λ found. found ≡ first (local_faults (patched patch.old.rows element 0).0)) }
+    requires { Fits (kinds element.old) patch.old.rows }
+    ensures found { IfOk result (λ found. found ≡ first (local_faults (patched patch.old.rows element.old 0).0)) }
     ensures same { patch.new ≡ patch.old }
 {
     if element.kids.is_empty() {
-        let mut leaf = element;
-        first_fault_of_leaf(alloc, &mut leaf, &mut patch.rows)
-    } else {
-        first_fault(alloc, with_patch(element, patch)?)
+        return first_fault_of_leaf(alloc, element, &mut patch.rows);
     }
+    apply(element, patch.copy()?);
+    local_fault(alloc, element)
 }
 
 /// The patch by which the element, at rank 0, takes a sent value: what the value leaves out stays, and the element keeps each
-/// rule that it can break wherever it stands. The element itself takes the patch for this, and is dropped.
+/// rule that it can break wherever it stands. The patch is tried on the element itself, so that nothing is promised of it
+/// afterwards.
 ///
 /// # Errors
 ///
 /// Exactly one of these holds, or there is a patch: `NoValueForm` for a Capability or an Operation; `Shape` at the first
 /// element in preorder whose own part of the value has the wrong shape; `Lexical` or `Constraint` for the first fault that the
 /// updated element has by itself. `NoMemory` may come at any time.
-pub fn prepare(alloc: Global, element: Element, value: &Value) -> Result<Patch, ValueFault>
-    requires in_order { IsInOrder element }
+pub fn prepare(alloc: Global, element: &mut Element, value: &Value) -> Result<Patch, ValueFault>
+    requires in_order { IsInOrder element.old }
     requires ordered { IsOrdered (view value.now) }
-    ensures fits { IfOk result (λ patch. Fits (kinds element) patch.rows) }
-    ensures update { IfOk result (λ patch. IsElementUpdate element (view value.now) (patched patch.rows element 0).0) }
-    ensures faultless { IfOk result (λ patch. local_faults (patched patch.rows element 0).0 ≡ []) }
-    ensures fault { IfErr result (λ fault. IsValueFault element (view value.now) fault) }
+    ensures fits { IfOk result (λ patch. Fits (kinds element.old) patch.rows) }
+    ensures update { IfOk result (λ patch. IsElementUpdate element.old (view value.now) (patched patch.rows element.old 0).0) }
+    ensures faultless { IfOk result (λ patch. local_faults (patched patch.rows element.old 0).0 ≡ []) }
+    ensures fault { IfErr result (λ fault. IsValueFault element.old (view value.now) fault) }
 {
-    let mut patch = patch_for(alloc, &element, value)?;
+    let mut patch = patch_for(alloc, element, value)?;
     match first_fault_with(alloc, element, &mut patch)? {
         None => Ok(patch),
         Some(fault) => Err(fault_by(fault)),

@@ -22,8 +22,8 @@ returns-in-Ok-clause-patch g c =
     element_patch d c.args.id.now c.args.path.now.steps c.args.value.now _ c.in_ok-element.element _ c.requires.valid c.requires.ordered
     c.in_ok-element.ensures.found c.as_value.ensures c.in-Ok.ensures.fits c.in-Ok.ensures.update c.in-Ok.ensures.faultless
 
-pub returns-in-Err-clause-refusal : goal.returns-in-Err-clause-refusal
-returns-in-Err-clause-refusal g c = λ other.
+pub returns-clause-refusal : goal.returns-clause-refusal
+returns-clause-refusal g c = λ other.
     let d = g.S.Store.documents c.args.store.now in
     let e = c.in_ok-element.element in
     refused_at d c.args.id.now c.args.path.now c.args.value.now _ e _ _

@@ -10,13 +10,13 @@ use Rattle.aas_value_patch.proofs.preparing.prepare.Goals as goal
 
 pub returns-in-None-clause-faultless : goal.returns-in-None-clause-faultless
 returns-in-None-clause-faultless c =
-    no_first (local_faults (patched c.first_fault_with.new.patch.rows c.args.element 0).0)
+    no_first (local_faults (patched c.first_fault_with.new.patch.rows c.args.element.now 0).0)
     (sym c.in-None.is ∙ c.in_ok-first_fault_with.ensures.found
-    ∙ ap (λ (p : Patch). first (local_faults (patched p.rows c.args.element 0).0)) (sym c.first_fault_with.ensures.same))
+    ∙ ap (λ (p : Patch). first (local_faults (patched p.rows c.args.element.now 0).0)) (sym c.first_fault_with.ensures.same))
 
 pub returns-in-Some-clause-fault : goal.returns-in-Some-clause-fault
 returns-in-Some-clause-fault c =
-    let u = (patched c.in_ok-patch.patch.rows c.args.element 0).0 in
-    subst (IsValueFault c.args.element (view c.args.value.now)) (sym c.fault_by.ensures)
-    (broken c.args.element u (view c.args.value.now) c.in-Some.fault c.in_ok-patch.ensures.update
+    let u = (patched c.in_ok-patch.patch.rows c.args.element.now 0).0 in
+    subst (IsValueFault c.args.element.now (view c.args.value.now)) (sym c.fault_by.ensures)
+    (broken c.args.element.now u (view c.args.value.now) c.in-Some.fault c.in_ok-patch.ensures.update
     (sym c.in-Some.is ∙ c.in_ok-first_fault_with.ensures.found))
