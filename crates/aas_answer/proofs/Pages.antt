@@ -23,11 +23,10 @@ use Rattle.aas_page.specs.declared.filter.Selection.{Selection}
 use Rattle.aas_page.specs.declared.filter.Span.{Span}
 use Rattle.aas_model.specs.declared.documents.Submodel.{Submodel}
 use Rattle.aas_form.specs.ReferenceTo.{shell_reference}
-use Rattle.aas_step.specs.Valid.{AreValid}
 use Rattle.aas_store.specs.Documents.{Documents, Identifier, Map, is_above, without_children}
 use Rattle.aas_store.proofs.Ordered.{found_at}
 use Rattle.aas_answer.specs.Answers.{documents_page, page_begin, page_text, places_page, reference_text}
-use Rattle.aas_answer.specs.Listed.{HasValidHead, collection_of, document_text, documents_in, submodel_text}
+use Rattle.aas_answer.specs.Listed.{collection_of, document_text, documents_in, submodel_text}
 use Rattle.aas_answer.specs.declared.forms.DocumentForm.{DocumentForm}
 use Rattle.aas_answer.specs.declared.forms.DocumentForm.TheVariants as document
 
@@ -211,12 +210,6 @@ pub head_there : (o : Option Submodel) (h : Submodel) → Some (without_children
     → (s : Submodel) × (o ≡ Some s) × (without_children h ≡ without_children s)
 head_there None h is = absurd (cc)
 head_there (Some s) h is = (s, refl, same_Some (without_children h) (without_children s) is)
-
-pub valid_head : (d : Documents) (id : Identifier) (h : Submodel) → AreValid d
-    → Some (without_children h) ≡ option_map without_children (fin.get d.submodels id) → HasValidHead h
-valid_head d id h valid is =
-    let there = head_there (fin.get d.submodels id) h is in
-    (there.0, (valid.submodels id there.0 there.1).valid, there.2)
 
 -- what doesn't look at the children is told of the head
 pub told_of_head : {A : Type 0} (tell : Submodel → A) (none : A) (o : Option Submodel) (h : Submodel)

@@ -1,10 +1,8 @@
 -- What pages tell of their entries, by the form in which they tell it (IDTA-01002-3-0, the content modifiers Normal, Metadata,
 -- Value and Reference).
-use Rattle.std.specs.Prelude.{◌≡◌, ℕ, List, []}
+use Rattle.std.specs.Prelude.{ℕ, List, []}
 use Rattle.std.specs.FinMap as map
 use Rattle.std.specs.Option.{option_map_or}
-use Rattle.aas_constraint_laws.specs.Valid.{IsValid}
-use Rattle.aas_constraint_rules.specs.Faults as faults
 use Rattle.aas_form.specs.MetadataForm.{metadata_form, submodel_metadata}
 use Rattle.aas_form.specs.ReferenceTo.{child_reference, shell_reference, submodel_reference}
 use Rattle.aas_json_mapping.specs.Trees.{elements, submodels}
@@ -14,7 +12,7 @@ use Rattle.aas_model.specs.declared.element.Element.{Element}
 use Rattle.aas_model_names.specs.declared.collection.Collection.{Collection}
 use Rattle.aas_model_names.specs.declared.collection.Collection.TheVariants.{Shells, Submodels}
 use Rattle.aas_page.specs.declared.filter.Selection.{Selection}
-use Rattle.aas_store.specs.Documents.{Documents, Identifier, without_children}
+use Rattle.aas_store.specs.Documents.{Documents, Identifier}
 use Rattle.aas_answer.specs.Answers.{Answer, element_shown, of_shells, of_submodels, reference_text, submodel_valued}
 use Rattle.aas_answer.specs.declared.forms.ChildForm.{ChildForm}
 use Rattle.aas_answer.specs.declared.forms.ChildForm.TheVariants as child
@@ -27,10 +25,6 @@ abbrev pub submodel_text : SubmodelForm → Submodel → List ℕ
 submodel_text submodel.Metadata s = canonical_text submodels (submodel_metadata s)
 submodel_text (submodel.Value level extent) s = submodel_valued level extent s
 submodel_text submodel.Reference s = reference_text (submodel_reference s)
-
--- it differs from a valid submodel at most in its children
-abbrev pub HasValidHead : Submodel → Type 0
-HasValidHead h = (s : Submodel) × IsValid (faults.submodel s) × (without_children h ≡ without_children s)
 
 -- of a child of a submodel
 abbrev pub child_text : ChildForm → Submodel → Element → List ℕ

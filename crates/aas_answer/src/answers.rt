@@ -7,8 +7,9 @@ ghost use Rattle.aas_json_spelling.specs.Spells.{canonical_text};
 ghost use Rattle.aas_answer.specs.Answers.{of_concept, of_shell, reference_text};
 
 use crate::texts::reference_text;
-use aas_command::{Absent, Refusal, asset_text, concept_text, shell_text};
+use aas_command::{Absent, Refusal};
 use aas_form::reference_of_shell;
+use aas_json_write::{asset_text, concept_text, shell_text};
 use aas_model::{Many, Text};
 use aas_store::Store;
 use std::alloc::Global;

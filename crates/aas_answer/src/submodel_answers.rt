@@ -12,18 +12,14 @@ ghost use Rattle.aas_json_mapping.specs.Trees.{submodels};
 ghost use Rattle.aas_json_spelling.specs.Spells.{canonical_text};
 ghost use Rattle.serde_json.specs.Written.{compact_text};
 ghost use Rattle.aas_value.specs.ValueForm.{submodel_value};
-ghost use Rattle.aas_step.specs.Valid.{AreValid};
 ghost use Rattle.aas_answer.specs.Answers.{lost, of_reference, of_submodel, paths_text, submodel_valued};
-ghost use Rattle.aas_answer.specs.Listed.{HasValidHead};
 
 use crate::lost::not_found;
 use crate::texts::{paths_text, reference_text};
 use aas_command::{Absent, Refusal};
-use aas_form::{
-    FormFault, cut, forms_can_be_written, metadata_of, paths_of_submodel, reference_of,
-};
+use aas_form::{FormFault, cut, metadata_of, paths_of_submodel, reference_of};
 use aas_json_members::Exact;
-use aas_json_write::{whole_trees_are_in_order, write_submodel};
+use aas_json_write::submodel_text;
 use aas_model::{Extent, Level, Many, NoMemory, Path, Submodel, Text};
 use aas_store::Store;
 use aas_value::value_of_submodel;
@@ -51,7 +47,6 @@ pub(crate) fn submodel_metadata_answer<S: Store>(
     store: &S,
     id: &Text,
 ) -> Result<Many<u8>, Refusal>
-    requires { AreValid (S.documents store.now) }
     ensures { (result ≡ Err refused.NoMemory) ⊎ (result ≡ of_submodel (S.documents store.now) id.now
         (λ s. Ok (canonical_text submodels (submodel_metadata s)))) }
 {
@@ -60,20 +55,15 @@ pub(crate) fn submodel_metadata_answer<S: Store>(
             what: Absent::Submodel,
         });
     };
-    let mut text = Vec::new(alloc);
-    append_metadata(alloc, head, &mut text)?;
-    Ok(Many::from(text))
+    Ok(Many::from(metadata_text(alloc, head)?))
 }
 
-/// Appends the text of the metadata of the submodel, for which its children don't count.
-fn append_metadata(alloc: Global, submodel: &Submodel, text: &mut Vec<u8>) -> Result<(), NoMemory>
-    requires { HasValidHead submodel.now }
-    ensures { OnOk result (text.new.items ≡ text.old.items ++ canonical_text submodels (submodel_metadata submodel.now)) }
+/// The text of the metadata of the submodel, for which its children don't count.
+fn metadata_text(alloc: Global, submodel: &Submodel) -> Result<Vec<u8>, NoMemory>
+    ensures { IfOk result (λ text. text.items ≡ canonical_text submodels (submodel_metadata submodel.now)) }
 {
-    whole_trees_are_in_order();
-    forms_can_be_written();
     let form = metadata_of(alloc, submodel)?;
-    write_submodel(alloc, &form, text)
+    submodel_text(alloc, &form)
 }
 
 /// The value form of the submodel of the identifier, at a level and to an extent.

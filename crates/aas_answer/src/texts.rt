@@ -17,14 +17,14 @@ use std::alloc::Global;
 pub(crate) fn reference_text(alloc: Global, reference: &Reference) -> Result<Many<u8>, NoMemory>
     ensures { IfOk result (λ text. text ≡ reference_text reference.now) }
 {
-    Ok(Many::from(aas_command::reference_text(alloc, reference)?))
+    Ok(Many::from(aas_json_write::reference_text(alloc, reference)?))
 }
 
 /// The canonical text of an element.
 pub(crate) fn element_text(alloc: Global, element: &Element) -> Result<Many<u8>, NoMemory>
     ensures { IfOk result (λ text. text ≡ canonical_text elements element.now) }
 {
-    Ok(Many::from(aas_command::element_text(alloc, element)?))
+    Ok(Many::from(aas_json_write::element_text(alloc, element)?))
 }
 
 /// The compact text of a JSON value.

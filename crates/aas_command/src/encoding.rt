@@ -1,5 +1,5 @@
 // Commands as payloads.
-ghost use Rattle.std.specs.Prelude.{◌≡◌, ◌++◌, [], ◌∷◌, IfErr, IfOk, MatchResult, OnOk};
+ghost use Rattle.std.specs.Prelude.{◌≡◌, ◌++◌, [], ◌∷◌, IfOk, MatchResult, OnOk};
 ghost use Rattle.std.specs.Str.{IsUtf8};
 ghost use Rattle.aas_command.specs.Commands.{IsPlace, IsWellFormed, bytes_of, field, payload_of, tagged};
 ghost use Rattle.aas_command.specs.Encoding.{HasFields, IsFaultOf, IsField};
@@ -10,11 +10,11 @@ ghost use Rattle.serde_json.specs.Written.{compact_text};
 ghost use Rattle.aas_path.specs.PathText.{path_text};
 ghost use Rattle.std.specs.Str.{encode_utf8_all};
 
-use crate::canonical::{
+use crate::{Command, SentValue};
+use aas_json_write::{
     asset_text, concept_text, element_text, environment_text, reference_text, shell_text,
     submodel_text,
 };
-use crate::{Command, SentValue};
 use aas_model::{Element, NoMemory, Path, Text};
 use aas_outside::Frame;
 use aas_path::print_path;

@@ -5,17 +5,12 @@
 
 #![tactic(auto)]
 
-mod canonical;
 mod command;
 mod encoding;
 mod refusal;
 mod sent_value;
 mod text;
 
-pub use canonical::{
-    asset_text, concept_text, element_text, environment_text, reference_text, shell_text,
-    submodel_text,
-};
 pub use command::Command;
 pub use encoding::{EncodeFault, encode};
 pub use refusal::{Absent, Refusal};

@@ -1,7 +1,7 @@
 -- The texts of a demo have their forms.
-use Rattle.std.proofs.Common.{◌≡◌, ◌≢◌, ℕ, ◌+◌, ◌*◌, ◌-◌, ◌%◌, ◌<◌, ◌≤◌, ◌^◌, ◌==◌, ◌||◌, ◌&&◌, Bool, true, false, cond, List, [], ◌∷◌, ◌++◌, length, drop, bytes_eq, decimal, refl, sym, ap, ◌∙◌, subst, arith, lit<, nat_le}
+use Rattle.std.proofs.Common.{◌≡◌, ℕ, ◌-◌, ◌<◌, ◌≤◌, ◌^◌, ◌==◌, ◌||◌, ◌&&◌, Bool, true, false, cond, List, [], ◌∷◌, length, drop, bytes_eq, decimal, refl, sym, ap, ◌∙◌, subst, arith, lit<, nat_le}
 use Rattle.std.specs.Prelude.{◌≤ℤ◌, neg_ℤ, pos}
-use Rattle.std.specs.Char.{digit_value, is_ascii_digit}
+use Rattle.std.specs.Char.{is_ascii_digit}
 use Rattle.std.specs.Int.{is_in_range}
 use Rattle.std.specs.List.{list_all}
 use Rattle.std.specs.Str.{encode_utf8_all}
@@ -18,7 +18,6 @@ use Rattle.aas_constraint_rules.specs.Decided.{has_form, is_name, is_string}
 use Rattle.aas_lexical.proofs.IntegersExact.{digit_in, numeral_integer}
 use Rattle.aas_lexical.specs.Names.{is_name_character, is_string_character, name}
 use Rattle.aas_lexical.specs.Numbers.{integer_value, signed_integer}
-use Rattle.aas_lexical.specs.Values.{HasForm}
 use Rattle.aas_model_names.specs.declared.value_type.ValueType.TheVariants.{Int}
 
 -- ---- digits

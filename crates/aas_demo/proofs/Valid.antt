@@ -1,5 +1,5 @@
 -- The submodel of a demo is valid.
-use Rattle.std.proofs.Common.{◌≡◌, ℕ, zero, suc, ◌+◌, ◌<◌, ◌≤◌, ◌^◌, ◌||◌, ◌&&◌, Bool, true, false, not, cond, List, [], ◌∷◌, ◌++◌, length, map, filter, filter_map, flat_map, bytes_eq, nat_le, decimal, codes, Some, None, refl, sym, ap, ap₂, ◌∙◌, subst, arith}
+use Rattle.std.proofs.Common.{◌≡◌, ℕ, zero, suc, ◌+◌, ◌<◌, ◌≤◌, ◌^◌, ◌||◌, ◌&&◌, Bool, true, false, not, cond, List, [], ◌∷◌, ◌++◌, length, map, filter, filter_map, flat_map, bytes_eq, nat_le, decimal, Some, None, refl, ap, ap₂, ◌∙◌, arith}
 use Rattle.std.specs.List.{AllByRecursion, list_all, range_with_len}
 use Rattle.std.proofs.lemmas.Bool.{and_from}
 use Rattle.std.proofs.lemmas.List.Elements.{filter_map-append}
@@ -11,7 +11,7 @@ use Rattle.aas_constraint_rules.specs.Faults.{broken, fault, faults_at}
 use Rattle.aas_constraint_rules.specs.Rules.{holds, name_of, rules}
 use Rattle.aas_constraint_rules.specs.Sites.{Own, Site, Trees, none, first, node, sites, sites_among, step_to, tree_of, trees}
 use Rattle.aas_constraint_rules.specs.Texts.{is_among}
-use Rattle.aas_json_mapping.proofs.Elements.{levels_at, parts_at, seen, seen_at}
+use Rattle.aas_json_mapping.proofs.Elements.{levels_at, parts_at, seen_at}
 use Rattle.aas_json_mapping.specs.Whole.{Placed, element_levels, has_whole_parts, is_member, is_placed, is_whole_element}
 use Rattle.aas_json_table.specs.TooDeep.{limits}
 use Rattle.aas_model.specs.Payload.{kind_of}
@@ -26,7 +26,7 @@ use Rattle.aas_path_trees.proofs.Patches.{kinds_out}
 use Rattle.aas_path_trees.specs.Patched.{kinds, kinds_of_all}
 use Rattle.aas_reference.specs.Rules.{Rule, failing}
 use Rattle.aas_demo.proofs.Forms.{int_has_form, int_is_string, name_is_name, name_is_short, name_is_string, names_differ}
-use Rattle.aas_demo.specs.Demo.{common_with, number_of, property_at, submodel_of}
+use Rattle.aas_demo.specs.Demo.{common_with, number_of, property_at}
 use Rattle.aas_demo.specs.Laws.{DemosAreValid, DemosHaveSoMany}
 
 -- ---- one property

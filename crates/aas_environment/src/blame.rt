@@ -1,5 +1,5 @@
 // For which document of a file its import is refused. Nothing of the file was kept, so it is read again.
-ghost use Rattle.std.specs.Prelude.{◌≡◌, ◌≢◌, ℕ, None, Some, IfOk};
+ghost use Rattle.std.specs.Prelude.{◌≡◌, ◌≢◌, None, Some, IfOk};
 ghost use Rattle.aas_model.specs.declared.documents.Environment as model;
 ghost use Rattle.aas_repo.specs.Faulty.{first_faulty_in};
 ghost use Rattle.aas_step.specs.Causes.{first_repeated_in};

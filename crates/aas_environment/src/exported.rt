@@ -1,6 +1,5 @@
 // What is exported.
 ghost use Rattle.std.specs.Prelude.{◌≡◌};
-ghost use Rattle.aas_out.specs.Told.{Puts};
 ghost use Rattle.aas_step.specs.Valid.{AreValid};
 ghost use Rattle.aas_environment.specs.Environments.{export_text};
 

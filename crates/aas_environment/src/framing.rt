@@ -1,5 +1,5 @@
 // The import of all documents of a store.
-ghost use Rattle.std.specs.Prelude.{◌≡◌, [], ◌∷◌, IfErr, IfOk, MatchResult, OnOk};
+ghost use Rattle.std.specs.Prelude.{◌≡◌, MatchResult, OnOk};
 ghost use Rattle.aas_command.specs.Commands.{payload_of};
 ghost use Rattle.aas_command.specs.Encoding.{HasFields, IsFaultOf};
 ghost use Rattle.aas_command.specs.declared.command.Command.TheVariants.{Import};

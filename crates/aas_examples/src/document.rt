@@ -1,6 +1,5 @@
-// Documents, and elements, as examples read and write them. What is done with one is generic, so that it is proved once for all of them.
-ghost use Rattle.std.specs.Prelude.{◌≡◌, Bool, true, IfOk};
-
+// Documents, and elements, as examples read and write them. What is done with one is generic, so that it is proved once for all
+// of them.
 use crate::text::{done, text, text_of};
 use aas_command::Refusal;
 use aas_json_input::read_value;
@@ -19,24 +18,14 @@ use std::alloc::Global;
 
 /// A document or element that is read from JSON and written as JSON.
 pub(crate) trait Document: Duplicate {
-    /// Whether it can be written: the names in its kept data are distinct and rise.
-    ghost in_order: { Self → Bool };
-
     /// The one that the JSON text spells; an element stands at level 1.
-    fn read(alloc: Global, json: &str) -> Result<Self, ReadFault>
-        ensures order { IfOk result (λ read. in_order read ≡ true) };
+    fn read(alloc: Global, json: &str) -> Result<Self, ReadFault>;
 
     /// Appends its canonical text.
-    fn write(&self, alloc: Global, out: &mut Vec<u8>) -> Result<(), NoMemory>
-        requires { in_order self.now ≡ true };
+    fn write(&self, alloc: Global, out: &mut Vec<u8>) -> Result<(), NoMemory>;
 }
 
 impl Document for Shell {
-    ghost use Rattle.aas_json_write.specs.Order.{shell_in_order};
-
-    ghost in_order = { shell_in_order };
-
-    #[tactic(auto, using(crate::proofs::Read::shell_read))]
     fn read(alloc: Global, json: &str) -> Result<Shell, ReadFault> {
         read_shell(alloc, json.as_bytes())
     }
@@ -47,11 +36,6 @@ impl Document for Shell {
 }
 
 impl Document for Submodel {
-    ghost use Rattle.aas_json_write.specs.Order.{submodel_in_order};
-
-    ghost in_order = { submodel_in_order };
-
-    #[tactic(auto, using(crate::proofs::Read::submodel_read))]
     fn read(alloc: Global, json: &str) -> Result<Submodel, ReadFault> {
         read_submodel(alloc, json.as_bytes())
     }
@@ -62,11 +46,6 @@ impl Document for Submodel {
 }
 
 impl Document for Concept {
-    ghost use Rattle.aas_json_write.specs.Order.{concept_in_order};
-
-    ghost in_order = { concept_in_order };
-
-    #[tactic(auto, using(crate::proofs::Read::concept_read))]
     fn read(alloc: Global, json: &str) -> Result<Concept, ReadFault> {
         read_concept(alloc, json.as_bytes())
     }
@@ -77,11 +56,6 @@ impl Document for Concept {
 }
 
 impl Document for Environment {
-    ghost use Rattle.aas_json_write.specs.Order.{environment_in_order};
-
-    ghost in_order = { environment_in_order };
-
-    #[tactic(auto, using(crate::proofs::Read::environment_read))]
     fn read(alloc: Global, json: &str) -> Result<Environment, ReadFault> {
         read_environment(alloc, json.as_bytes())
     }
@@ -92,11 +66,6 @@ impl Document for Environment {
 }
 
 impl Document for Element {
-    ghost use Rattle.aas_json_write.specs.Order.{element_in_order};
-
-    ghost in_order = { element_in_order };
-
-    #[tactic(auto, using(crate::proofs::Read::element_read))]
     fn read(alloc: Global, json: &str) -> Result<Element, ReadFault> {
         read_element(alloc, json.as_bytes(), 1)
     }
@@ -107,10 +76,6 @@ impl Document for Element {
 }
 
 impl Document for AssetInformation {
-    ghost use Rattle.std.specs.Prelude.{true};
-
-    ghost in_order = { λ _. true };
-
     fn read(alloc: Global, json: &str) -> Result<AssetInformation, ReadFault> {
         read_asset_information(alloc, json.as_bytes())
     }
@@ -126,9 +91,7 @@ pub(crate) fn written<D: Document>(alloc: Global, json: &str) -> Result<String, 
     as_sent(alloc, json, copy_written(alloc, &document)?)
 }
 
-fn copy_written<D: Document>(alloc: Global, document: &D) -> Result<Vec<u8>, NoMemory>
-    requires { D.in_order document.now ≡ true }
-{
+fn copy_written<D: Document>(alloc: Global, document: &D) -> Result<Vec<u8>, NoMemory> {
     let copy = document.copy()?;
     let mut out = Vec::new(alloc);
     copy.write(alloc, &mut out)?;

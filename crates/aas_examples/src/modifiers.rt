@@ -1,6 +1,4 @@
 // What is shown of documents by serialization and content modifiers.
-ghost use Rattle.std.specs.Prelude.{◌≡◌, true, IfOk};
-
 use crate::changes::missing;
 use crate::document::Document;
 use crate::text::text_of;
@@ -23,21 +21,14 @@ pub(crate) enum Modifier {
 
 /// What has forms that are written as it is written itself.
 pub(crate) trait Formed: Document {
-    fn metadata(&self, alloc: Global) -> Result<Self, NoMemory>
-        requires { Self.in_order self.now ≡ true }
-        ensures { IfOk result (λ form. Self.in_order form ≡ true) };
+    fn metadata(&self, alloc: Global) -> Result<Self, NoMemory>;
 
-    fn core(self) -> Self
-        requires { Self.in_order self ≡ true }
-        ensures { Self.in_order result ≡ true };
+    fn core(self) -> Self;
 
-    fn without_blobs(self) -> Self
-        requires { Self.in_order self ≡ true }
-        ensures { Self.in_order result ≡ true };
+    fn without_blobs(self) -> Self;
 }
 
 impl Formed for Element {
-    #[tactic(auto, using(aas_form::proofs::Orders::metadata_kept))]
     fn metadata(&self, alloc: Global) -> Result<Element, NoMemory> {
         Ok(metadata(alloc, self)?)
     }
@@ -52,7 +43,6 @@ impl Formed for Element {
 }
 
 impl Formed for Submodel {
-    #[tactic(auto, using(aas_form::proofs::Orders::submodel_metadata_kept))]
     fn metadata(&self, alloc: Global) -> Result<Submodel, NoMemory> {
         Ok(metadata_of(alloc, self)?)
     }
@@ -80,9 +70,7 @@ pub(crate) fn shown<D: Formed>(
     }
 }
 
-fn told<D: Document>(alloc: Global, document: &D) -> Result<String, Refusal>
-    requires { D.in_order document.now ≡ true }
-{
+fn told<D: Document>(alloc: Global, document: &D) -> Result<String, Refusal> {
     let mut out = Vec::new(alloc);
     document.write(alloc, &mut out)?;
     Ok(text_of(alloc, out)?)

@@ -1,5 +1,4 @@
 // Documents, and elements without their children, as they are put into a link piece by piece.
-ghost use Rattle.std.specs.Prelude.{◌≤◌};
 
 use crate::document::as_sent;
 use aas_command::Refusal;

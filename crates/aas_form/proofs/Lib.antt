@@ -1,6 +1,5 @@
 pub mod InPlace
 pub mod Keys
 pub mod NotFound
-pub mod Orders
 pub mod Places
 pub mod Stripped

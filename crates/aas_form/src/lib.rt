@@ -1,7 +1,8 @@
 //! Forms of elements and submodels (IDTA-01002-3-0, serialization modifiers): what is shown of one by its metadata, at a
 //! level, without the values of its Blobs, as a reference and as paths.
 //!
-//! A form is an element or a submodel again, which `aas_json_write` writes. The value form is put together by `aas_value`.
+//! A form is an element or a submodel again, which is written as one (`aas_json_write`). The value form is put together by
+//! `aas_value`.
 
 #![tactic(auto)]
 
@@ -15,7 +16,7 @@ mod reference_form;
 
 pub use blobs::{strip, strip_element};
 pub use form_fault::FormFault;
-pub use laws::{forms_can_be_written, references_are_there};
+pub use laws::references_are_there;
 pub use level::{cut, cut_element};
 pub use metadata_form::{metadata, metadata_of};
 pub use path_form::{paths, paths_of_element, paths_of_submodel};

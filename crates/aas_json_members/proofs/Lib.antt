@@ -1,4 +1,3 @@
-pub mod Built
 pub mod Floats
 pub mod Lists
 pub mod Lookup

@@ -20,5 +20,5 @@ pub use kept::kept_member;
 pub use members::{member, string_member, text_member, word_member};
 pub use object::Object;
 pub use parts::{Part, list_member, one_member};
-pub use values::{flag_value, optional_word, string_value, text_value, word_value};
-pub use written::{Texts, Written, list_value, optional_value};
+pub use values::{flag_value, string_value, text_value, word_value};
+pub use written::{Written, list_value, optional_value};

@@ -1,4 +1,4 @@
-ghost use Rattle.std.specs.Prelude.{◌≡◌, IfOk, option_map};
+ghost use Rattle.std.specs.Prelude.{◌≡◌, IfOk};
 ghost use Rattle.serde_json.specs.Data.{boolean, string};
 ghost use Rattle.aas_json_table.specs.Spelled.{text_of};
 ghost use Rattle.aas_json_members.specs.Exact.{data_of};
@@ -28,16 +28,6 @@ pub fn word_value<V: Named>(alloc: Global, value: V) -> Result<Exact, NoMemory>
     ensures { IfOk result (λ exact. data_of exact ≡ string (V.name_of value)) }
 {
     string_value(alloc, value.name())
-}
-
-/// The name of an optional value of an enumeration as a string.
-pub fn optional_word<V: Named>(alloc: Global, value: Option<V>) -> Result<Option<Exact>, NoMemory>
-    ensures { IfOk result (λ exact. option_map data_of exact ≡ option_map (λ v. string (V.name_of v)) value) }
-{
-    match value {
-        Some(value) => Ok(Some(word_value(alloc, value)?)),
-        None => Ok(None),
-    }
 }
 
 /// A truth value.

@@ -1,13 +1,12 @@
 ghost use Rattle.std.specs.Prelude.{◌≡◌, map, IfOk, option_map};
 ghost use Rattle.serde_json.specs.Data.{Data};
-ghost use Rattle.aas_json_table.specs.Spelled.{list_of, text_of};
+ghost use Rattle.aas_json_table.specs.Spelled.{list_of};
 ghost use Rattle.aas_json_members.specs.Array.{items_of};
 ghost use Rattle.aas_json_members.specs.Exact.{data_of};
 
 use crate::array::Array;
 use crate::exact::Exact;
-use crate::values::text_value;
-use aas_model::{NoMemory, Text};
+use aas_model::NoMemory;
 use std::alloc::Global;
 
 /// A sort of things that are each written as one JSON value.
@@ -20,19 +19,6 @@ pub trait Written {
     /// The value that spells `tree`.
     fn value(alloc: Global, tree: &Self::Tree) -> Result<Exact, NoMemory>
         ensures { IfOk result (λ exact. data_of exact ≡ spell tree.now) };
-}
-
-/// Texts, each written as a string.
-pub struct Texts;
-
-impl Written for Texts {
-    type Tree = Text;
-
-    ghost spell = { text_of };
-
-    fn value(alloc: Global, text: &Text) -> Result<Exact, NoMemory> {
-        text_value(alloc, text)
-    }
 }
 
 /// The value that spells what may be absent.

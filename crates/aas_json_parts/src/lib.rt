@@ -1,6 +1,8 @@
-//! The parts of documents and elements: how each is read out of JSON and written as JSON (IDTA-01001-3-0, JSON mapping).
+//! The parts of documents and elements: how each is read out of JSON (IDTA-01001-3-0, JSON mapping), and how a specific asset
+//! identifier is written.
 //!
-//! References stand in `aas_reference`, documents and elements in `aas_json_read` and `aas_json_write`.
+//! References stand in `aas_reference`, documents and elements in `aas_json_read`; how the texts of all of them are put is said
+//! in `aas_members_text`.
 
 #![tactic(auto)]
 

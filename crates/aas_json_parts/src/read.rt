@@ -1,8 +1,8 @@
 ghost use Rattle.std.specs.Prelude.{◌≡◌, IfOk, Some, option_map};
-ghost use Rattle.serde_json.specs.View.{view, members_view};
-ghost use Rattle.aas_json_table.specs.Canonical.{canonical, canonical_member, canonical_object};
+ghost use Rattle.serde_json.specs.View.{members_view};
+ghost use Rattle.aas_json_table.specs.Canonical.{canonical_member, canonical_object};
 ghost use Rattle.aas_json_table.specs.Rows.{sorted};
-ghost use Rattle.aas_json_table.specs.Table.{one, parts, lang_text, extension, qualifier, specific_asset_id, administration, asset_information, resource};
+ghost use Rattle.aas_json_table.specs.Table.{parts, lang_text, extension, qualifier, specific_asset_id, administration, asset_information, resource};
 ghost use Rattle.aas_json_mapping.specs.Parts.{spell_lang_text, spell_extension, spell_qualifier, spell_specific_asset_id, spell_administration, spell_asset_information, spell_resource};
 
 use crate::semantics::semantics_in;

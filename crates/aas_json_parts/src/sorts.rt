@@ -1,20 +1,20 @@
-/// Texts in a language, as they are read and written.
+/// Texts in a language.
 pub struct LangTexts;
 
-/// Extensions, as they are read and written.
+/// Extensions.
 pub struct Extensions;
 
-/// Qualifiers, as they are read and written.
+/// Qualifiers.
 pub struct Qualifiers;
 
-/// Specific asset identifiers, as they are read and written.
+/// Specific asset identifiers.
 pub struct SpecificAssetIds;
 
-/// Administrative information, as it is read.
+/// Administrative information.
 pub struct Administrations;
 
-/// Information about assets, as it is read and written.
+/// Information about assets.
 pub struct AssetInformations;
 
-/// Resources, as they are read and written.
+/// Resources.
 pub struct Resources;

@@ -15,8 +15,7 @@ use crate::pen::{
     begin_object, end_object, put_list, put_one, put_optional, put_optional_word, put_string,
     put_word,
 };
-use crate::poured::Poured;
-use aas_json_members::Texts;
+use crate::poured::{Poured, Texts};
 use aas_json_parts::{
     Administrations, AssetInformations, Extensions, LangTexts, Qualifiers, Resources,
     SpecificAssetIds,

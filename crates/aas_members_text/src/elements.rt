@@ -15,7 +15,7 @@ use crate::own::{
     put_direction, put_entity_type, put_first, put_list_type, put_second, put_value,
 };
 use crate::pen::{put_list, put_optional, put_optional_str, put_word};
-use aas_json_members::Texts;
+use crate::poured::Texts;
 use aas_json_parts::{Extensions, LangTexts, Qualifiers};
 use aas_model::Payload;
 use aas_out::{Out, Pouring};

@@ -1,5 +1,5 @@
 // Kept data, as it is.
-ghost use Rattle.std.specs.Prelude.{◌≡◌, ◌∷◌, [], false, map};
+ghost use Rattle.std.specs.Prelude.{false, map};
 ghost use Rattle.serde_json.specs.Data.{no_items, no_members};
 ghost use Rattle.serde_json.specs.Written.{compact_text, items_text, members_text};
 ghost use Rattle.aas_json_members.specs.Kept.{pairs_onto};

@@ -29,4 +29,4 @@ pub use laws::{
 };
 pub use members::{Members, Pen, Show};
 pub use pen::{begin_object, end_object, put_list};
-pub use poured::{Poured, comma_of};
+pub use poured::{Poured, Texts, comma_of};

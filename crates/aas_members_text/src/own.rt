@@ -8,7 +8,7 @@ ghost use Rattle.aas_members_text.specs.Puts.{PutsFields, own_fields};
 use crate::key;
 use crate::members::Pen;
 use crate::pen::{put_list, put_optional, put_optional_flag, put_optional_word, put_word};
-use aas_json_members::Texts;
+use crate::poured::Texts;
 use aas_json_parts::{LangTexts, SpecificAssetIds};
 use aas_model::{Payload, Text};
 use aas_out::Out;

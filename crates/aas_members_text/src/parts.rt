@@ -9,8 +9,7 @@ use crate::members::Pen;
 use crate::pen::{
     begin_object, end_object, put_list, put_one, put_optional, put_optional_word, put_word,
 };
-use crate::poured::Poured;
-use aas_json_members::Texts;
+use crate::poured::{Poured, Texts};
 use aas_json_parts::{Extensions, LangTexts, Qualifiers, SpecificAssetIds};
 use aas_model::{Extension, LangText, Qualifier, Semantics, SpecificAssetId};
 use aas_out::{Out, Pouring};

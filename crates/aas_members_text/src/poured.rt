@@ -1,11 +1,10 @@
-ghost use Rattle.std.specs.Prelude.{◌≡◌, ◌∷◌, [], false, map};
+ghost use Rattle.std.specs.Prelude.{◌≡◌, false, map};
 ghost use Rattle.serde_json.specs.Data.{Data, no_items};
 ghost use Rattle.serde_json.specs.Written.{comma_if, compact_text, items_text};
 ghost use Rattle.aas_json_table.specs.Spelled.{onto, text_of};
 ghost use Rattle.aas_out.specs.Adds.{Adds};
 
 use crate::quoted::add_quoted;
-use aas_json_members::Texts;
 use aas_model::Text;
 use aas_out::{Out, Pouring, add};
 
@@ -20,6 +19,9 @@ pub trait Poured {
     fn pour<O: Out>(so_far: Pouring, tree: &Self::Tree, out: &mut O) -> Pouring
         ensures { Adds so_far result (O.told out.old) (O.told out.new) (compact_text (spell tree.now)) };
 }
+
+/// Texts, each put as a string.
+pub struct Texts;
 
 impl Poured for Texts {
     type Tree = Text;

@@ -1,5 +1,5 @@
 // References and their keys.
-ghost use Rattle.std.specs.Prelude.{◌≡◌, ◌∷◌, [], codes, option_map};
+ghost use Rattle.std.specs.Prelude.{◌∷◌, [], codes, option_map};
 ghost use Rattle.serde_json.specs.Written.{compact_text};
 ghost use Rattle.aas_members_text.specs.Puts.{PutsFields};
 ghost use Rattle.aas_out.specs.Adds.{Adds};
@@ -8,8 +8,7 @@ ghost use Rattle.aas_reference.specs.Spelling.{spell_key, spell_reference};
 use crate::key;
 use crate::members::Pen;
 use crate::pen::{add_key, begin_object, end_object, put_list, put_one, put_word};
-use crate::poured::Poured;
-use aas_json_members::Texts;
+use crate::poured::{Poured, Texts};
 use aas_model::{Boxed, Key, Reference};
 use aas_out::{Out, Pouring};
 use aas_reference::{Keys, References};

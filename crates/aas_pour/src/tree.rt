@@ -7,7 +7,6 @@ ghost use Rattle.aas_members_text.specs.Members.{field_text, fields_text, has_st
 ghost use Rattle.aas_members_text.specs.Script.{is_any, listed_text};
 ghost use Rattle.aas_out.specs.Adds.{Adds};
 ghost use Rattle.aas_pour.specs.Trees.{all_shown, child_text, texts_at};
-ghost use Rattle.aas_rows.specs.Rows.{line_at};
 ghost use Rattle.aas_rows.specs.Views.{line_of};
 
 use crate::stops::{closing_of, has_stop, opening_of, put_name, role_fits};

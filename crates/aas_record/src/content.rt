@@ -15,13 +15,14 @@ ghost use Rattle.aas_model.specs.declared.read_fault.ReadFault.TheVariants as re
 ghost use Rattle.aas_reference.specs.Trees.{references};
 ghost use Rattle.aas_record.specs.FieldTypes.{IsCanonical, IsCompact};
 
-use aas_command::{
-    SentValue, asset_text, concept_text, element_text, environment_text, reference_text,
-    shell_text, submodel_text,
-};
+use aas_command::SentValue;
 use aas_json_input::read_value;
 use aas_json_read::{
     read_asset_information, read_concept, read_element, read_environment, read_shell, read_submodel,
+};
+use aas_json_write::{
+    asset_text, concept_text, element_text, environment_text, reference_text, shell_text,
+    submodel_text,
 };
 use aas_model::{
     AssetInformation, Boxed, Concept, Element, Environment, Many, NoMemory, Path, ReadFault,

@@ -38,7 +38,7 @@ use Rattle.aas_server.specs.Importing.{IsFaultAnswer, demo_input}
 
 -- ---- it spells what it is the text of
 
-pub whole_demo : DemosAreValid → (count : ℕ) → count ≤ 2 ^ 32 → is_whole_environment limits (environment_of count) ≡ true
+whole_demo : DemosAreValid → (count : ℕ) → count ≤ 2 ^ 32 → is_whole_environment limits (environment_of count) ≡ true
 whole_demo valid count small = ap (λ b. (true && (b && true)) && true) (valid count small).whole
 
 pub demo_spelled : DemosAreValid → IsMapped environments IsShapedEnvironment → (count : ℕ) → count ≤ 2 ^ 32 → IsUtf8 (demo_input count)

@@ -15,6 +15,7 @@ ghost use Rattle.aas_server.specs.Ends.{console_of, disk_of};
 ghost use Rattle.aas_server.specs.Importing.{ImportsDemo, ImportsInput, IsFaultAnswer, IsPutIn, IsTooLong, counts_text, demo_input, demo_text, import_limit, refused_at};
 ghost use Rattle.aas_server.specs.Status.{exit_code};
 ghost use Rattle.aas_server.specs.Unsaid.{MayBeUnsaid};
+ghost use Rattle.aas_store.specs.Documents.{empty};
 
 use crate::command_line::CommandLine;
 use crate::commands::Ran;
@@ -28,13 +29,13 @@ use aas_demo::{demos_are_valid, demos_have_so_many, environment_of, sum_of};
 use aas_environment::{ImportFault, import as import_bytes};
 use aas_journal::{Journal, NotOpened, have_one_list};
 use aas_json_mapping::environments_are_mapped;
-use aas_json_write::{whole_trees_are_in_order, write_environment};
+use aas_json_write::environment_text;
 use aas_model::{NoMemory, Text};
 use aas_outside::{Keeper, Link};
 use aas_outside_disk::Disk;
 use aas_repo::{Counts, Repo};
 use aas_repo_replay::{accepted_commands_replay, payloads_replay_to_one_state};
-use aas_sheet::SheetStore;
+use aas_store::Store;
 use arrayvec::ArrayString;
 use itoa::Buffer;
 use std::alloc::Global;
@@ -46,10 +47,16 @@ const IMPORT_LIMIT: usize = 268_435_456;
 type Success = ArrayString<128>;
 
 /// The repository that a journal keeps.
-type OnDisk<D> = Repo<SheetStore, Journal<D>>;
+type OnDisk<S, D> = Repo<S, Journal<D>>;
 
 /// Imports the environment that the console has.
-pub(crate) fn import<C: Link, D: Disk>(alloc: Global, console: &mut C, disk: D) -> Ran<D>
+pub(crate) fn import<S: Store + Drop, C: Link, D: Disk>(
+    alloc: Global,
+    store: S,
+    console: &mut C,
+    disk: D,
+) -> Ran<D>
+    requires empty { S.documents store ≡ empty }
     ensures does { ImportsInput result.status
         (console_of C.left C.sent C.faults console.old) (console_of C.left C.sent C.faults console.new)
         (disk_of D.seen D.moment D.left_at D.faults disk) (disk_of D.seen D.moment D.left_at D.faults result.disk) }
@@ -60,7 +67,7 @@ pub(crate) fn import<C: Link, D: Disk>(alloc: Global, console: &mut C, disk: D) 
     have_one_list();
     payloads_replay_to_one_state();
     accepted_commands_replay();
-    match open(alloc, disk) {
+    match open(alloc, store, disk) {
         Ok(mut repo) => {
             let status = import_input(alloc, console, &mut repo);
             Ran {
@@ -76,8 +83,15 @@ pub(crate) fn import<C: Link, D: Disk>(alloc: Global, console: &mut C, disk: D) 
 }
 
 /// Imports the environment with so many properties.
-pub(crate) fn demo<C: Link, D: Disk>(alloc: Global, console: &mut C, count: u32, disk: D) -> Ran<D>
-    requires { IsCount most_properties count }
+pub(crate) fn demo<S: Store + Drop, C: Link, D: Disk>(
+    alloc: Global,
+    store: S,
+    console: &mut C,
+    count: u32,
+    disk: D,
+) -> Ran<D>
+    requires empty { S.documents store ≡ empty }
+    requires few { IsCount most_properties count }
     ensures does { ImportsDemo count result.status
         (console_of C.left C.sent C.faults console.old) (console_of C.left C.sent C.faults console.new)
         (disk_of D.seen D.moment D.left_at D.faults disk) (disk_of D.seen D.moment D.left_at D.faults result.disk) }
@@ -88,7 +102,7 @@ pub(crate) fn demo<C: Link, D: Disk>(alloc: Global, console: &mut C, count: u32,
     have_one_list();
     payloads_replay_to_one_state();
     accepted_commands_replay();
-    match open(alloc, disk) {
+    match open(alloc, store, disk) {
         Ok(mut repo) => {
             let status = import_demo(alloc, console, count, &mut repo);
             Ran {
@@ -104,7 +118,11 @@ pub(crate) fn demo<C: Link, D: Disk>(alloc: Global, console: &mut C, count: u32,
 }
 
 /// Imports all that the console has, and says what came of it.
-fn import_input<C: Link, D: Disk>(alloc: Global, console: &mut C, repo: &mut OnDisk<D>) -> Status
+fn import_input<S: Store, C: Link, D: Disk>(
+    alloc: Global,
+    console: &mut C,
+    repo: &mut OnDisk<S, D>,
+) -> Status
     requires { repo.old.stopped ≡ false }
     ensures does { (Says (IsTooLong (C.left console.old)) (exit_code result)
         (console_of C.left C.sent C.faults console.old) (console_of C.left C.sent C.faults console.new) × (repo.new ≡ repo.old))
@@ -143,11 +161,11 @@ fn import_input<C: Link, D: Disk>(alloc: Global, console: &mut C, repo: &mut OnD
 }
 
 /// Imports the environment with so many properties, and says what came of it.
-fn import_demo<C: Link, D: Disk>(
+fn import_demo<S: Store, C: Link, D: Disk>(
     alloc: Global,
     console: &mut C,
     count: u32,
-    repo: &mut OnDisk<D>,
+    repo: &mut OnDisk<S, D>,
 ) -> Status
     requires going { repo.old.stopped ≡ false }
     requires few { IsCount most_properties count }
@@ -189,11 +207,8 @@ fn demo_text(alloc: Global, count: u32) -> Result<Vec<u8>, NoMemory>
 {
     demos_are_valid();
     environments_are_mapped();
-    whole_trees_are_in_order();
     let environment = environment_of(alloc, count)?;
-    let mut text = Vec::new(alloc);
-    write_environment(alloc, &environment, &mut text)?;
-    Ok(text)
+    environment_text(alloc, &environment)
 }
 
 /// The line that says how many documents were imported.

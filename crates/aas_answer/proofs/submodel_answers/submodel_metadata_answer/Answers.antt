@@ -1,4 +1,4 @@
-use Rattle.std.proofs.Common.{◌++◌, List, ℕ, Ok, Err, inr, ap, ◌∙◌}
+use Rattle.std.proofs.Common.{List, ℕ, Ok, Err, inr, ap, ◌∙◌}
 use Rattle.std.specs.FinMap as map
 use Rattle.aas_command.specs.declared.refusal.Absent.TheVariants as absent
 use Rattle.aas_command.specs.declared.refusal.Refusal.TheVariants.{NotFound}
@@ -6,16 +6,13 @@ use Rattle.aas_form.specs.MetadataForm.{submodel_metadata}
 use Rattle.aas_json_mapping.specs.Trees.{submodels}
 use Rattle.aas_json_spelling.specs.Spells.{canonical_text}
 use Rattle.aas_model.specs.declared.documents.Submodel.{Submodel}
-use Rattle.aas_answer.proofs.Pages.{told_of_head, valid_head}
+use Rattle.aas_answer.proofs.Pages.{told_of_head}
 use Rattle.aas_answer.proofs.submodel_answers.submodel_metadata_answer.Goals as goal
 use Rattle.aas_answer.specs.Answers.{Answer}
 use Rattle.std.specs.Option.{option_map_or}
 
 tell : Submodel → Answer
 tell s = Ok (canonical_text submodels (submodel_metadata s))
-
-pub append_metadata-requires : goal.append_metadata-requires
-append_metadata-requires g c = valid_head (g.S.Store.documents c.args.store.now) c.as_str.result.now c.in-Some.head.now c.requires c.in-Some.ensures
 
 pub returns : goal.returns
 unfolding tell
@@ -24,7 +21,6 @@ returns g c =
     let none = Err (NotFound absent.Submodel) in
     inr
     (ap (λ t. Ok t)
-    (c.from.ensures ∙ c.in_ok-append_metadata.ensures
-    ∙ ap (λ t. t ++ canonical_text submodels (submodel_metadata c.in-Some.head.now)) c.new-text.ensures.items)
+    (c.from.ensures ∙ c.in_ok-metadata_text.ensures)
     ∙ told_of_head tell none (map.get m c.as_str.result.now) c.in-Some.head.now c.in-Some.ensures
     ∙ ap (λ (id : List ℕ). option_map_or tell (map.get m id) none) c.as_str.ensures.bytes)

@@ -1,4 +1,4 @@
-use Rattle.std.proofs.Common.{◌≡◌, inl, inr, sym, subst, arith}
+use Rattle.std.proofs.Common.{◌≡◌, inl, sym, subst, arith}
 use Rattle.aas_journal.specs.Shown.{disk_of as disk_in, kept_by}
 use Rattle.aas_outside.proofs.Turns.{passes_on}
 use Rattle.aas_server.specs.Ends.{IsUnwritten, console_of, disk_of}

@@ -1,7 +1,6 @@
-use Rattle.std.proofs.Common.{◌≡◌, ◌∙◌, ℕ, ◌+◌, List, [], ◌++◌, codes, decimal, length, ap, arith}
+use Rattle.std.proofs.Common.{◌≡◌, ◌∙◌, ℕ, ◌+◌, List, [], ◌++◌, codes, decimal, ap, arith}
 use Rattle.std.proofs.lemmas.Grind.{common_steps}
 use Rattle.aas_server.specs.Answer.{line}
-use Rattle.aas_server.specs.Importing.{demo_input}
 use Rattle.aas_server.proofs.importing.demo_line.Goals as goal
 
 lines : (a b c d e f g h count sum size n s k : List ℕ) → count ≡ n → sum ≡ s → size ≡ k → a ≡ [] → b ≡ a ++ codes "elements " → c ≡ b ++ count

@@ -1,5 +1,4 @@
-use Rattle.std.proofs.Common.{◌≡◌, ◌∙◌, ℕ, List, subst}
-use Rattle.aas_server.specs.Answer.{Says, refused}
+use Rattle.std.proofs.Common.{◌≡◌, ◌∙◌}
 use Rattle.aas_server.specs.Ends.{console_of}
 use Rattle.aas_server.specs.Importing.{refused_at}
 use Rattle.aas_server.specs.Status.{exit_code}

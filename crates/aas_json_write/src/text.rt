@@ -1,4 +1,4 @@
-// Canonical texts of whole documents, environments, elements and references.
+// Canonical texts of documents, environments, elements and references, each by itself.
 ghost use Rattle.std.specs.Prelude.{◌≡◌, IfOk};
 ghost use Rattle.std.specs.Str.{IsUtf8};
 ghost use Rattle.serde_json.specs.Written.{compact_text};

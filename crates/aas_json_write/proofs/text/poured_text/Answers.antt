@@ -1,7 +1,7 @@
 use Rattle.std.proofs.Common.{◌≡◌}
 use Rattle.serde_json.specs.Written.{compact_text}
 use Rattle.aas_out.proofs.TextPoured.{text_poured}
-use Rattle.aas_command.proofs.canonical.poured_text.Goals as goal
+use Rattle.aas_json_write.proofs.text.poured_text.Goals as goal
 
 pub returns-in-Ok-clause-text : goal.returns-in-Ok-clause-text
 returns-in-Ok-clause-text g c =

@@ -1,4 +1,0 @@
-pub mod Order
-pub mod Ordered
-pub mod Rows
-pub mod Variables
