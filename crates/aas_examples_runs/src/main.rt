@@ -2,9 +2,8 @@
 //! what the console gets and what it is given, with tabs between them; the last two are JSON strings. Further columns
 //! say what its disk begins with, which of its calls fail and what the run leaves (`disk.rt`), which calls of the
 //! console fail (`runs.rt`), and that each front of the input is run too (`fronts.rt`). Each is run with its bytes in
-//! pieces of three sizes. Those of `pipe`, `import` and `export` that don't fail are also run over the other store
-//! (`trees.rt`). Lines that begin with `row_mut` are of rows that a store lends (`rows.rt`). Printed are the examples
-//! that give something else, and how many there are in all.
+//! pieces of three sizes, and over both stores. Lines that begin with `row_mut` are of rows that a store lends
+//! (`rows.rt`). Printed are the examples that give something else, and how many there are in all.
 //!
 //! No definition and no rule stands here.
 
@@ -18,17 +17,16 @@ mod fronts;
 mod not_run;
 mod rows;
 mod runs;
-mod trees;
 
 use crate::example::Example;
 use crate::not_run::NotRun;
-use crate::runs::Runs;
+use crate::runs::{Kind, Runs};
 use std::alloc::Global;
 use std::io::{self, BufRead, BufReader};
 
 fn main(rt: HostRuntime) -> io::Result<()> {
     let alloc = rt.alloc();
-    let Ok(mut runs) = runs_in_pieces(alloc) else {
+    let Ok(mut runs) = all_runs(alloc) else {
         return println!(rt; "no memory");
     };
     let mut count = 0u64;
@@ -50,12 +48,16 @@ fn main(rt: HostRuntime) -> io::Result<()> {
     Ok(())
 }
 
-/// Runs in pieces of three sizes.
-fn runs_in_pieces(alloc: Global) -> Result<Vec<Runs>, NotRun> {
+/// The largest of the pieces.
+const LARGEST: u64 = 4096;
+
+/// Runs over tables in pieces of three sizes, and over trees in the largest.
+fn all_runs(alloc: Global) -> Result<Vec<Runs>, NotRun> {
     let mut runs = Vec::new(alloc);
-    for piece in [1, 7, 4096] {
-        runs.push(Runs::new(alloc, piece)?)?;
+    for piece in [1, 7, LARGEST] {
+        runs.push(Runs::new(alloc, Kind::Tables, piece)?)?;
     }
+    runs.push(Runs::new(alloc, Kind::Trees, LARGEST)?)?;
     Ok(runs)
 }
 
@@ -65,14 +67,10 @@ fn failure(alloc: Global, line: &str, runs: &mut [Runs]) -> Result<Option<String
     if rows::is_of_row(&example) {
         return rows::failure(alloc, &example);
     }
-    let over_trees = match runs.first() {
-        Some(in_pieces) => trees::failure(alloc, &example, &in_pieces.left)?,
-        None => None,
-    };
-    for in_pieces in runs.iter_mut() {
-        if let Some(given) = in_pieces.failure(alloc, &example)? {
+    for one in runs.iter_mut() {
+        if let Some(given) = one.failure(alloc, &example)? {
             return Ok(Some(given));
         }
     }
-    Ok(over_trees)
+    Ok(None)
 }

@@ -12,20 +12,31 @@ use crate::not_run::NotRun;
 use aas_model::NoMemory;
 use aas_outside::{MemLink, MemWire};
 use aas_outside_disk::MemDisk;
-use aas_server::{Ran, run};
+use aas_server::{Ran, run, run_over};
+use aas_store::TreeStore;
 use std::alloc::Global;
 
-/// Runs whose console moves its bytes in pieces of one size.
+/// The store that holds the documents of a run.
+#[derive(Clone, Copy)]
+pub(crate) enum Kind {
+    /// That of tables, which the program has.
+    Tables,
+    Trees,
+}
+
+/// Runs over a store of one kind, whose console moves its bytes in pieces of one size.
 #[derive(Drop)]
 pub(crate) struct Runs {
+    kind: Kind,
     piece: u64,
     /// The disk as the last run left it that doesn't itself begin after a crash.
-    pub left: MemDisk,
+    left: MemDisk,
 }
 
 impl Runs {
-    pub(crate) fn new(alloc: Global, piece: u64) -> Result<Runs, NoMemory> {
+    pub(crate) fn new(alloc: Global, kind: Kind, piece: u64) -> Result<Runs, NoMemory> {
         Ok(Runs {
+            kind,
             piece,
             left: initialised(alloc)?,
         })
@@ -40,15 +51,15 @@ impl Runs {
         for front in fronts(alloc, example)? {
             let (console, ran) = self.ran(alloc, example, &front.input)?;
             if ran.status != 0 || *console.sent() != *front.console {
-                let given = told(alloc, ran.status, console.sent())?;
+                let given = self.told(alloc, ran.status, console.sent())?;
                 let count = front.input.len();
                 return Ok(Some(format!(in alloc; "of {count} bytes, {given}")?));
             }
         }
         let (console, ran) = self.ran(alloc, example, &example.input)?;
-        let given = difference(alloc, example, ran.status, console.sent(), &ran.disk);
+        let given = self.difference(alloc, example, &console, &ran)?;
         self.leave(example, ran.disk);
-        given
+        Ok(given)
     }
 
     /// A run of the example with this input, and its console.
@@ -60,7 +71,7 @@ impl Runs {
     ) -> Result<(MemLink, Ran<MemDisk>), NotRun> {
         let mut console = self.console(alloc, example, input)?;
         let disk = beginning(alloc, example.columns, &self.left)?;
-        let ran = ran_on(alloc, example, &mut console, disk)?;
+        let ran = ran_on(alloc, self.kind, example, &mut console, disk)?;
         Ok((console, ran))
     }
 
@@ -76,6 +87,29 @@ impl Runs {
         Ok(MemLink::new(alloc, input, (piece as usize).max(1), room, &lost)?)
     }
 
+    /// What the run gives, where that isn't what is expected.
+    fn difference(
+        &self,
+        alloc: Global,
+        example: &Example<'_>,
+        console: &MemLink,
+        ran: &Ran<MemDisk>,
+    ) -> Result<Option<String>, NotRun> {
+        if ran.status == example.status && is_expected(example, console.sent())? {
+            return unexpected(alloc, example.columns, &ran.disk);
+        }
+        Ok(Some(self.told(alloc, ran.status, console.sent())?))
+    }
+
+    fn told(&self, alloc: Global, status: u8, console: &[u8]) -> Result<String, NotRun> {
+        let store = match self.kind {
+            Kind::Tables => "tables",
+            Kind::Trees => "trees",
+        };
+        let text = str::from_utf8(console).unwrap_or("not UTF-8");
+        Ok(format!(in alloc; "over {store}, status {status}, {text}")?)
+    }
+
     fn leave(&mut self, example: &Example<'_>, disk: MemDisk) {
         if !is_after_crash(example.columns) {
             self.left = disk;
@@ -85,25 +119,20 @@ impl Runs {
 
 fn ran_on(
     alloc: Global,
+    kind: Kind,
     example: &Example<'_>,
     console: &mut MemLink,
     disk: MemDisk,
 ) -> Result<Ran<MemDisk>, NotRun> {
     let mut wire = MemWire::new(alloc, 1, 0, &[])?;
-    Ok(run(alloc, &example.words, console, &mut wire, disk))
-}
-
-fn difference(
-    alloc: Global,
-    example: &Example<'_>,
-    status: u8,
-    console: &[u8],
-    disk: &MemDisk,
-) -> Result<Option<String>, NotRun> {
-    if status == example.status && is_expected(example, console)? {
-        return unexpected(alloc, example.columns, disk);
+    let words = &example.words;
+    match kind {
+        Kind::Tables => Ok(run(alloc, words, console, &mut wire, disk)),
+        Kind::Trees => {
+            let store = TreeStore::new(alloc);
+            Ok(run_over(alloc, store, words, console, &mut wire, disk))
+        }
     }
-    Ok(Some(told(alloc, status, console)?))
 }
 
 /// Whether the console gets what the line says, or so much of it.
@@ -115,9 +144,4 @@ fn is_expected(example: &Example<'_>, console: &[u8]) -> Result<bool, NotRun> {
             Ok(number_of(least)? <= console.len() as u64 && whole.starts_with(console))
         }
     }
-}
-
-fn told(alloc: Global, status: u8, console: &[u8]) -> Result<String, NotRun> {
-    let text = str::from_utf8(console).unwrap_or("not UTF-8");
-    Ok(format!(in alloc; "status {status}, {text}")?)
 }

@@ -1,5 +1,5 @@
 -- What serving the repository that was opened on a disk comes to.
-use Rattle.std.proofs.Common.{◌≡◌, ◌≤◌, ℕ, List, [], ◌∷◌, Option, Some, sym, subst, ◌∙◌, arith, lit<}
+use Rattle.std.proofs.Common.{◌≡◌, ◌≤◌, ℕ, List, [], ◌∷◌, Some, sym, subst, ◌∙◌, arith, lit<}
 use Rattle.std.specs.Prelude.{Contains, IfSome}
 use Rattle.aas_journal.specs.Bank.{IsBankImage}
 use Rattle.aas_journal.specs.Kept.{has_room_behind}

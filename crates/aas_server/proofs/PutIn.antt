@@ -14,7 +14,6 @@ use Rattle.aas_journal.specs.Kept.{has_room_behind}
 use Rattle.aas_journal.specs.Laws.{HaveOneList}
 use Rattle.aas_json_spelling.specs.Reading.{reading}
 use Rattle.aas_model.specs.declared.documents.Environment.{Environment}
-use Rattle.aas_model.specs.declared.read_fault.ReadFault.{ReadFault}
 use Rattle.aas_outside.specs.Faults.{Rose}
 use Rattle.aas_outside.specs.Moments.{Passes}
 use Rattle.aas_outside_disk.specs.Disk.{AddsNone, Meanwhile}
@@ -38,9 +37,6 @@ use Rattle.aas_server.proofs.Since.{faulted_since, held_since}
 use Rattle.aas_server.proofs.Standing.{image_stands, kept_opens, stood_before}
 
 -- ---- a file that is read is that of a command that is well formed
-
-read_or_not : (e : Environment) (f : ReadFault) → Ok e ≡ Err f → ⊥
-read_or_not e f is = cc
 
 spelled_well : (e : Environment) (bytes : List ℕ) → Spell bytes e → IsWellFormed (Import e)
 unfolding IsWellFormed

@@ -5,7 +5,7 @@ ghost use Rattle.aas_journal.specs.Shown.{disk_of as disk_in};
 ghost use Rattle.aas_outside.specs.Moments.{IsSettled, Passes};
 ghost use Rattle.aas_repo_replay.specs.Replay.{Replays};
 ghost use Rattle.aas_step.specs.Valid.{AreValid};
-ghost use Rattle.aas_store.specs.Documents.{Documents};
+ghost use Rattle.aas_store.specs.Documents.{Documents, empty};
 ghost use Rattle.aas_server.specs.Answer.{Says, done};
 ghost use Rattle.aas_server.specs.Checkpointing.{Checkpoints, IsOneRecord, OpensMeanwhile, checkpoint_size, whole_payload};
 ghost use Rattle.aas_server.specs.CommandLine.{statuses_of};
@@ -78,7 +78,13 @@ impl From<CheckpointFault> for Unmade {
 
 /// Puts one record, the import of all documents, in the place of those in the journal. All that takes memory comes before the
 /// disk is written.
-pub(crate) fn checkpoint<C: Link, D: Disk>(alloc: Global, console: &mut C, disk: D) -> Ran<D>
+pub(crate) fn checkpoint<S: Store + Drop, C: Link, D: Disk>(
+    alloc: Global,
+    store: S,
+    console: &mut C,
+    disk: D,
+) -> Ran<D>
+    requires empty { S.documents store ≡ empty }
     ensures does { Checkpoints result.status
         (console_of C.left C.sent C.faults console.old) (console_of C.left C.sent C.faults console.new)
         (disk_of D.seen D.moment D.left_at D.faults disk) (disk_of D.seen D.moment D.left_at D.faults result.disk) }
@@ -88,7 +94,7 @@ pub(crate) fn checkpoint<C: Link, D: Disk>(alloc: Global, console: &mut C, disk:
 {
     have_one_list();
     payloads_replay_to_one_state();
-    match open(alloc, disk) {
+    match open(alloc, store, disk) {
         Ok(repo) => {
             let prepared = prepare(alloc, repo.store());
             let mut journal = repo.into_keeper();

@@ -9,6 +9,7 @@ ghost use Rattle.aas_server.specs.Init.{Inits};
 ghost use Rattle.aas_server.specs.Status.{exit_code};
 ghost use Rattle.aas_server.specs.Stop.{IfRefused};
 ghost use Rattle.aas_server.specs.ValueAnswer.{IsValueAnswer};
+ghost use Rattle.aas_store.specs.Documents.{empty};
 
 use crate::checkpointing::checkpoint;
 use crate::command_line::{CommandLine, command_of};
@@ -24,6 +25,8 @@ use aas_journal::{InitFault, init_journal};
 use aas_model::{Many, Text};
 use aas_outside::{Link, Wire};
 use aas_outside_disk::Disk;
+use aas_sheet::SheetStore;
+use aas_store::Store;
 use std::alloc::Global;
 
 /// The most bytes that the input of `value` may have.
@@ -43,8 +46,30 @@ pub fn run<C: Link, W: Wire, D: Disk>(
     words: &Many<Text>,
     console: &mut C,
     wire: &mut W,
+    disk: D,
+) -> Ran<D>
+    ensures does { ForAsked words.now (λ asked. Does (disk_of D.seen D.moment D.left_at D.faults) asked result.status
+        (console_of C.left C.sent C.faults console.old) (console_of C.left C.sent C.faults console.new)
+        (wire_of W.left W.sent W.faults W.surroundings wire.old) (wire_of W.left W.sent W.faults W.surroundings wire.new)
+        disk result.disk) }
+    ensures statuses { ForAsked words.now (λ asked. Contains (statuses_of asked) result.status) }
+    // The disk's time goes on, what a stop may have left before stays, and its count of faults never falls.
+    ensures past { Passes (D.moment disk) (D.left_at disk) (D.moment result.disk) (D.left_at result.disk) }
+    ensures later { D.faults disk ≤ D.faults result.disk }
+{
+    run_over(alloc, SheetStore::new(alloc), words, console, wire, disk)
+}
+
+/// The same over a store of any kind, which has no documents before; `run` is over tables.
+pub fn run_over<S: Store + Drop, C: Link, W: Wire, D: Disk>(
+    alloc: Global,
+    store: S,
+    words: &Many<Text>,
+    console: &mut C,
+    wire: &mut W,
     mut disk: D,
 ) -> Ran<D>
+    requires empty { S.documents store ≡ empty }
     ensures does { ForAsked words.now (λ asked. Does (disk_of D.seen D.moment D.left_at D.faults) asked result.status
         (console_of C.left C.sent C.faults console.old) (console_of C.left C.sent C.faults console.new)
         (wire_of W.left W.sent W.faults W.surroundings wire.old) (wire_of W.left W.sent W.faults W.surroundings wire.new)
@@ -63,14 +88,16 @@ pub fn run<C: Link, W: Wire, D: Disk>(
             status: init(console, &mut disk).exit_code(),
             disk,
         },
-        Some(CommandLine::Pipe) => pipe(alloc, console, disk),
-        Some(CommandLine::Check) => tell::<DanglingReferences, C, D>(alloc, console, disk),
-        Some(CommandLine::Export) => tell::<Export, C, D>(alloc, console, disk),
-        Some(CommandLine::Import) => import(alloc, console, disk),
-        Some(CommandLine::Demo { count }) => demo(alloc, console, count, disk),
-        Some(CommandLine::Checkpoint) => checkpoint(alloc, console, disk),
+        Some(CommandLine::Pipe) => pipe(alloc, store, console, disk),
+        Some(CommandLine::Check) => tell::<DanglingReferences, S, C, D>(
+            alloc, store, console, disk,
+        ),
+        Some(CommandLine::Export) => tell::<Export, S, C, D>(alloc, store, console, disk),
+        Some(CommandLine::Import) => import(alloc, store, console, disk),
+        Some(CommandLine::Demo { count }) => demo(alloc, store, console, count, disk),
+        Some(CommandLine::Checkpoint) => checkpoint(alloc, store, console, disk),
         Some(CommandLine::Serve { count }) => {
-            serve(alloc, address(words), console, wire, count, disk)
+            serve(alloc, store, address(words), console, wire, count, disk)
         }
         None => Ran {
             status: no_command(console).exit_code(),

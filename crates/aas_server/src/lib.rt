@@ -18,7 +18,7 @@ mod stop;
 mod telling;
 mod value;
 
-pub use commands::{Ran, run};
+pub use commands::{Ran, run, run_over};
 pub use laws::{files_open_one_way, sessions_replay};
 pub use status::Status;
 

@@ -1,5 +1,5 @@
 // How the repository on a disk is opened.
-ghost use Rattle.std.specs.Prelude.{◌≡◌, ◌≢◌, ◌≤◌, ℕ, List, false, IfErr, IfOk, IfSome, MatchResult};
+ghost use Rattle.std.specs.Prelude.{◌≡◌, ◌≤◌, ℕ, List, false, IfErr, IfOk, IfSome, MatchResult};
 ghost use Rattle.aas_journal.specs.Bank.{IsBankImage};
 ghost use Rattle.aas_journal.specs.Reads.{OnlyReads};
 ghost use Rattle.aas_journal.specs.Shown.{disk_of};
@@ -11,17 +11,24 @@ ghost use Rattle.aas_repo_replay.specs.Replay.{Replays};
 ghost use Rattle.aas_rule.specs.State.{IsSettledState, repository_of};
 ghost use Rattle.aas_server.specs.Causes.{IsCause, IsCauseIn};
 ghost use Rattle.aas_server.specs.Opening.{Opens, begun};
+ghost use Rattle.aas_store.specs.Documents.{empty};
 
 use aas_journal::{Journal, NotOpened, open_journal};
 use aas_outside::Keeper;
 use aas_outside_disk::Disk;
 use aas_repo::Repo;
 use aas_repo_replay::replay;
-use aas_sheet::SheetStore;
+use aas_store::Store;
 use std::alloc::Global;
 
-/// The repository that the journal on a disk replays to, or why there is none. The disk is only read.
-pub fn open<D: Disk>(alloc: Global, disk: D) -> Result<Repo<SheetStore, Journal<D>>, NotOpened<D>>
+/// The repository that the journal on a disk replays to, in a store that has no documents before, or why there is none. The
+/// disk is only read.
+pub fn open<S: Store + Drop, D: Disk>(
+    alloc: Global,
+    store: S,
+    disk: D,
+) -> Result<Repo<S, Journal<D>>, NotOpened<D>>
+    requires empty { S.documents store ≡ empty }
     ensures begun { IfOk result (λ repo. IfSome (D.seen disk) (λ files. (payloads : List (List ℕ)) ×
         Opens files (begun (repository_of (state_of ⟦<Journal<D> as Keeper>⟧.kept ⟦<Journal<D> as Keeper>⟧.moment
         ⟦<Journal<D> as Keeper>⟧.left_at repo) payloads)) ×
@@ -37,17 +44,19 @@ pub fn open<D: Disk>(alloc: Global, disk: D) -> Result<Repo<SheetStore, Journal<
         (λ it. OnlyReads D.seen D.moment D.left_at disk it.disk) }
 {
     match open_journal(disk) {
-        Ok(journal) => replayed(alloc, journal),
+        Ok(journal) => replayed(alloc, store, journal),
         Err(it) => Err(it),
     }
 }
 
 /// The repository that a journal replays to, or why there is none.
-fn replayed<D: Disk>(
+fn replayed<S: Store + Drop, D: Disk>(
     alloc: Global,
+    mut store: S,
     mut journal: Journal<D>,
-) -> Result<Repo<SheetStore, Journal<D>>, NotOpened<D>>
-    requires { IfSome (D.seen (disk_of journal)) (λ _. (payloads : List (List ℕ)) ×
+) -> Result<Repo<S, Journal<D>>, NotOpened<D>>
+    requires empty { S.documents store ≡ empty }
+    requires told { IfSome (D.seen (disk_of journal)) (λ _. (payloads : List (List ℕ)) ×
         ⟦<Journal<D> as Keeper>⟧.kept journal payloads) }
     ensures replays { IfOk result (λ repo. (payloads : List (List ℕ)) →
         IsSettled IsBankImage (⟦<Journal<D> as Keeper>⟧.kept journal) (⟦<Journal<D> as Keeper>⟧.moment journal)
@@ -64,7 +73,6 @@ fn replayed<D: Disk>(
         (λ repo. OnlyReads D.seen D.moment D.left_at (disk_of journal) (disk_of repo.keeper))
         (λ it. OnlyReads D.seen D.moment D.left_at (disk_of journal) it.disk) }
 {
-    let mut store = SheetStore::new(alloc);
     match replay(alloc, &mut store, &mut journal) {
         Ok(()) => Ok(Repo::new(alloc, store, journal)),
         Err(fault) => Err(NotOpened {

@@ -1,5 +1,5 @@
 // The repository on a disk, and what it is served with.
-ghost use Rattle.std.specs.Prelude.{◌≡◌, ◌≢◌, ◌≤◌, ℕ, List, false, IfErr, IfOk, IfSome, MatchResult};
+ghost use Rattle.std.specs.Prelude.{◌≡◌, ◌≤◌, ℕ, List, false, IfErr, IfOk, IfSome, MatchResult};
 ghost use Rattle.aas_journal.specs.Bank.{IsBankImage};
 ghost use Rattle.aas_journal.specs.Reads.{OnlyReads};
 ghost use Rattle.aas_journal.specs.Shown.{disk_of};
@@ -10,6 +10,7 @@ ghost use Rattle.aas_rule.specs.State.{IsSettledState, repository_of};
 ghost use Rattle.aas_step.specs.Valid.{AreValid};
 ghost use Rattle.aas_server.specs.Causes.{IsCause};
 ghost use Rattle.aas_server.specs.Opening.{Opens, begun};
+ghost use Rattle.aas_store.specs.Documents.{empty};
 
 use crate::opening::open;
 use aas_api_service::Service;
@@ -18,19 +19,21 @@ use aas_model::NoMemory;
 use aas_outside::Keeper;
 use aas_outside_disk::Disk;
 use aas_session::Intake;
-use aas_sheet::SheetStore;
+use aas_store::Store;
 use std::alloc::Global;
 
 /// The repository on a disk, and the storage for a request.
 #[derive(Drop)]
-pub struct Server<D: Disk> {
-    pub service: Service<SheetStore, Journal<D>>,
+pub struct Server<S: Store, D: Disk> {
+    pub service: Service<S, Journal<D>>,
     pub intake: Intake,
 }
 
-impl<D: Disk> Server<D> {
-    /// Opens the repository on the disk, or tells why there is none. The disk is only read.
-    pub fn open(alloc: Global, disk: D) -> Result<Server<D>, NotOpened<D>>
+impl<S: Store + Drop, D: Disk> Server<S, D> {
+    /// Opens the repository on the disk, in a store that has no documents before, or tells why there is none. The disk is only
+    /// read.
+    pub fn open(alloc: Global, store: S, disk: D) -> Result<Server<S, D>, NotOpened<D>>
+        requires empty { S.documents store ≡ empty }
         ensures begun { IfOk result (λ server. IfSome (D.seen disk) (λ files. (payloads : List (List ℕ)) ×
             Opens files (begun (repository_of (state_of ⟦<Journal<D> as Keeper>⟧.kept ⟦<Journal<D> as Keeper>⟧.moment
             ⟦<Journal<D> as Keeper>⟧.left_at server.service.repo) payloads)) ×
@@ -46,7 +49,7 @@ impl<D: Disk> Server<D> {
             (λ it. OnlyReads D.seen D.moment D.left_at disk it.disk) }
     {
         match Intake::new(alloc) {
-            Ok(intake) => match open(alloc, disk) {
+            Ok(intake) => match open(alloc, store, disk) {
                 Ok(repo) => Ok(Server {
                     service: Service::new(alloc, repo),
                     intake,

@@ -8,6 +8,7 @@ ghost use Rattle.aas_server.specs.Ends.{console_of, disk_of, wire_of};
 ghost use Rattle.aas_server.specs.Pipe.{Pipes};
 ghost use Rattle.aas_server.specs.Serve.{Serves};
 ghost use Rattle.aas_server.specs.Status.{exit_code};
+ghost use Rattle.aas_store.specs.Documents.{empty};
 
 use crate::command_line::CommandLine;
 use crate::commands::Ran;
@@ -19,10 +20,17 @@ use aas_outside::{Failed, Link, Wire};
 use aas_outside_disk::Disk;
 use aas_repo_replay::{accepted_commands_replay, payloads_replay_to_one_state};
 use aas_session::{serve as serve_connections, serve_connection};
+use aas_store::Store;
 use std::alloc::Global;
 
 /// Serves the console as one connection, from the repository on the disk.
-pub fn pipe<C: Link, D: Disk>(alloc: Global, console: &mut C, disk: D) -> Ran<D>
+pub fn pipe<S: Store + Drop, C: Link, D: Disk>(
+    alloc: Global,
+    store: S,
+    console: &mut C,
+    disk: D,
+) -> Ran<D>
+    requires empty { S.documents store ≡ empty }
     ensures does { Pipes result.status
         (console_of C.left C.sent C.faults console.old) (console_of C.left C.sent C.faults console.new)
         (disk_of D.seen D.moment D.left_at D.faults disk) (disk_of D.seen D.moment D.left_at D.faults result.disk) }
@@ -33,7 +41,7 @@ pub fn pipe<C: Link, D: Disk>(alloc: Global, console: &mut C, disk: D) -> Ran<D>
     have_one_list();
     payloads_replay_to_one_state();
     accepted_commands_replay();
-    match Server::open(alloc, disk) {
+    match Server::open(alloc, store, disk) {
         Ok(mut server) => {
             let ended = serve_connection(&mut server.service, console, &mut server.intake);
             Ran {
@@ -49,14 +57,16 @@ pub fn pipe<C: Link, D: Disk>(alloc: Global, console: &mut C, disk: D) -> Ran<D>
 }
 
 /// Serves so many connections of the wire, from the repository on the disk.
-pub fn serve<C: Link, W: Wire, D: Disk>(
+pub fn serve<S: Store + Drop, C: Link, W: Wire, D: Disk>(
     alloc: Global,
+    store: S,
     address: &str,
     console: &mut C,
     wire: &mut W,
     count: u32,
     disk: D,
 ) -> Ran<D>
+    requires empty { S.documents store ≡ empty }
     ensures does { Serves count result.status
         (console_of C.left C.sent C.faults console.old) (console_of C.left C.sent C.faults console.new)
         (wire_of W.left W.sent W.faults W.surroundings wire.old) (wire_of W.left W.sent W.faults W.surroundings wire.new)
@@ -68,7 +78,7 @@ pub fn serve<C: Link, W: Wire, D: Disk>(
     have_one_list();
     payloads_replay_to_one_state();
     accepted_commands_replay();
-    match Server::open(alloc, disk) {
+    match Server::open(alloc, store, disk) {
         Ok(mut server) => match wire.listen(address) {
             Ok(()) => {
                 let ended = serve_connections(&mut server.service, wire, &mut server.intake, count);

@@ -1,7 +1,7 @@
 // The commands that tell something of the documents on a disk.
 ghost use Rattle.std.specs.Prelude.{◌≡◌, ◌≤◌, List, ℕ, [], ◌∷◌, Contains};
 ghost use Rattle.aas_outside.specs.Moments.{Passes};
-ghost use Rattle.aas_store.specs.Documents.{Documents};
+ghost use Rattle.aas_store.specs.Documents.{Documents, empty};
 ghost use Rattle.aas_environment.specs.Environments.{export_text};
 ghost use Rattle.aas_server.specs.Answer.{Answer, Says, done, exported};
 ghost use Rattle.aas_server.specs.CheckText.{check_text};
@@ -90,7 +90,13 @@ impl Report for Export {
 }
 
 /// Gives the answer about the documents on the disk to the console.
-pub(crate) fn tell<R: Report, C: Link, D: Disk>(alloc: Global, console: &mut C, disk: D) -> Ran<D>
+pub(crate) fn tell<R: Report, S: Store + Drop, C: Link, D: Disk>(
+    alloc: Global,
+    store: S,
+    console: &mut C,
+    disk: D,
+) -> Ran<D>
+    requires empty { S.documents store ≡ empty }
     ensures does { Tells R.answer result.status
         (console_of C.left C.sent C.faults console.old) (console_of C.left C.sent C.faults console.new)
         (disk_of D.seen D.moment D.left_at D.faults disk) (disk_of D.seen D.moment D.left_at D.faults result.disk) }
@@ -100,7 +106,7 @@ pub(crate) fn tell<R: Report, C: Link, D: Disk>(alloc: Global, console: &mut C, 
 {
     have_one_list();
     payloads_replay_to_one_state();
-    match open(alloc, disk) {
+    match open(alloc, store, disk) {
         Ok(repo) => {
             let status = R::give(alloc, &repo, console);
             Ran {

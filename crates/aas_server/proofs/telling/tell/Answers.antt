@@ -41,3 +41,6 @@ returns-in-Err-clause-does g c =
 
 pub returns-in-Err-clause-statuses : goal.returns-in-Err-clause-statuses
 returns-in-Err-clause-statuses g c = rw c.exit_code-in-Err.ensures (telling_status g.R.Report.others (exit_code c.say_why.result) c.say_why.ensures.statuses)
+
+pub returns-in-Ok-clause-statuses : goal.returns-in-Ok-clause-statuses
+returns-in-Ok-clause-statuses g c = rw c.exit_code.ensures c.give-status.ensures.statuses
