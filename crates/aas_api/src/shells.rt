@@ -1,5 +1,5 @@
 // What is asked of shells beside the documents themselves. The segments are those of identifiers.
-ghost use Rattle.std.specs.Prelude.{◌≡◌, ◌∷◌, [], Ok};
+ghost use Rattle.std.specs.Prelude.{◌∷◌, [], Ok};
 ghost use Rattle.aas_json_table.specs.TooDeep.{limits};
 ghost use Rattle.aas_json_spelling.specs.Reads.{ReadsBytes};
 ghost use Rattle.aas_json_mapping.specs.Trees.{asset_informations};

@@ -61,7 +61,6 @@ use Rattle.aas_api_service.specs.Replies.{messages, refusal_reply}
 use Rattle.aas_api.specs.Submodels.{submodel_of}
 use Rattle.aas_api.specs.declared.ask.Ask.{Ask}
 use Rattle.aas_api.specs.declared.ask.Ask.TheVariants.{Act, Answer}
-use Rattle.aas_api.specs.declared.ask.Call.{Call}
 use Rattle.aas_api_service.specs.Laws.{OneOutcome}
 use Rattle.aas_api_service.specs.Turns.{AskComesTo, CallComesTo, CalledComesTo, ComesUnless, Turns, outcome_of, unchanged, unreached}
 

@@ -20,7 +20,6 @@ use Rattle.aas_session.specs.declared.machine.Stop.TheVariants as stop
 use Rattle.aas_api.specs.Asked.{IsAsked, OrNoMemory}
 use Rattle.aas_api_service.specs.Replies.{refusal_reply}
 use Rattle.aas_api.specs.Submodels.{submodel_of}
-use Rattle.aas_api.specs.declared.ask.Ask.{Ask}
 use Rattle.aas_api.specs.declared.ask.Ask.TheVariants.{Act, Answer}
 use Rattle.aas_api.specs.declared.ask.Call.{Call}
 use Rattle.aas_api_service.specs.Finished.{Finishes, IsRefused, IsReply}

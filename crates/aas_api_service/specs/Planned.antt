@@ -1,5 +1,5 @@
 -- When something is poured behind a reply's body. This profile's own rule.
-use Rattle.std.specs.Prelude.{◌≡◌, ◌↔◌, ℕ, Bool, true, false, List, [], IsSome}
+use Rattle.std.specs.Prelude.{◌≡◌, ◌↔◌, Bool, true, false, [], IsSome}
 use Rattle.aas_answer.specs.Plans.{is_planned}
 use Rattle.aas_answer.specs.declared.plans.Plan.{Plan}
 use Rattle.aas_api.specs.declared.ask.Ask.{Ask}

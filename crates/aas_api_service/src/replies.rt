@@ -8,10 +8,9 @@ ghost use Rattle.aas_api_service.specs.Finished.{Finishes, IsRefused, IsReply};
 ghost use Rattle.aas_api_service.specs.Turns.{answer_reply, reply_with, success_reply};
 
 use crate::refusals::refused;
-use aas_command::{
-    Command, Refusal, concept_text, element_text, reference_text, shell_text, submodel_text,
-};
+use aas_command::{Command, Refusal};
 use aas_http::Reply;
+use aas_json_write::{concept_text, element_text, reference_text, shell_text, submodel_text};
 use aas_model::{Many, NoMemory, Text};
 use aas_repo::Done;
 use aas_session::Stop;

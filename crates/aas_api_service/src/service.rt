@@ -1,9 +1,8 @@
 // The repository behind its interface.
-ghost use Rattle.std.specs.Prelude.{◌≡◌, ◌≢◌, ◌≤◌, ◌⊎◌, ℕ, List, false, None, Some, Err, IfOk, IsSome, MatchResult};
+ghost use Rattle.std.specs.Prelude.{◌≡◌, ◌≢◌, ◌≤◌, ℕ, List, false, None, Some, Err, IfOk, IsSome, MatchResult};
 ghost use Rattle.aas_api.specs.declared.ask.Ask.TheVariants.{Act};
 ghost use Rattle.aas_command.specs.Commands.{IsWellFormed};
 ghost use Rattle.aas_http.specs.ReplyText.{phrase};
-ghost use Rattle.aas_http.specs.Steps.{message_of};
 ghost use Rattle.aas_outside.specs.Faults.{Rose};
 ghost use Rattle.aas_rule.specs.State.{IsSettledState, PassesTo, repository_of};
 ghost use Rattle.aas_answer.specs.Plans.{plan_text};

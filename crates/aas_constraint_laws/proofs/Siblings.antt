@@ -18,7 +18,7 @@ use Rattle.aas_constraint_rules.specs.Decided.{is_id_short}
 use Rattle.aas_constraint_rules.specs.Faults.{fault, broken, faults_at, document_faults, submodel_rules, is_template, sites_of, submodel, HasNoFault}
 use Rattle.aas_constraint_rules.specs.Rules.{holds, name_of, is_repeat, name_is_new, is_named, variable_is_new, stands_in_operation, rules}
 use Rattle.aas_constraint_rules.specs.Sites as site
-use Rattle.aas_constraint_rules.specs.Sites.{Own, own_of, Site, Tree, node, root, under, step_to, stands_in_list, sites, sites_among, trees, tree_over, tree_of}
+use Rattle.aas_constraint_rules.specs.Sites.{Own, own_of, Site, root, under, step_to, stands_in_list, sites, sites_among, trees, tree_of}
 use Rattle.aas_constraint_rules.specs.Texts.{is_among}
 use Rattle.aas_path_trees.specs.Children.{kids_of, id_short_of, is_list_payload}
 use Rattle.aas_path_trees.specs.Laws.{HasOnePath}

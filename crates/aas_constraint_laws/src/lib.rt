@@ -6,7 +6,6 @@
 
 #![tactic(auto)]
 
-ghost use Rattle.std.specs.Prelude.{IsTrue};
 ghost use Rattle.serde_json.specs.Data.{Data};
 ghost use Rattle.aas_json_table.specs.TooDeep.{limits};
 ghost use Rattle.aas_json_spelling.specs.Spells.{Spells};

@@ -1,4 +1,4 @@
-ghost use Rattle.std.specs.Prelude.{◌≡◌, [], ◌∷◌, flat_map};
+ghost use Rattle.std.specs.Prelude.{◌≡◌, [], ◌∷◌};
 ghost use Rattle.aas_constraint_rules.specs.Attributes.{payload_references, common_references, head_references};
 ghost use Rattle.aas_constraint_rules.specs.Texts.{as_list};
 ghost use Rattle.aas_constraint_parts.specs.References.{references_fault};

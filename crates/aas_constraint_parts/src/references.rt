@@ -1,10 +1,9 @@
-ghost use Rattle.std.specs.Prelude.{◌≡◌, ◌++◌, [], ◌∷◌, List, flat_map};
+ghost use Rattle.std.specs.Prelude.{◌≡◌, List, flat_map};
 ghost use Rattle.aas_model.specs.declared.reference.Reference.{Reference};
 ghost use Rattle.std.specs.List.{list_all};
 ghost use Rattle.aas_constraint_rules.specs.Decided.{is_identifier, is_string};
 ghost use Rattle.aas_constraint_rules.specs.Lexical.{reference_has_form};
 ghost use Rattle.aas_constraint_rules.specs.Rules.{reference_is_string};
-ghost use Rattle.aas_constraint_rules.specs.Attributes.{payload_references};
 ghost use Rattle.aas_constraint_rules.specs.Texts.{as_list};
 ghost use Rattle.aas_constraint_parts.specs.References.{reference_fault, references_fault};
 

@@ -1,6 +1,6 @@
 ghost use Rattle.std.specs.Prelude.{◌≡◌, ◌&&◌, ◌++◌, IfOk};
 ghost use Rattle.std.specs.List.{list_all};
-ghost use Rattle.aas_constraint_rules.specs.Attributes.{head_texts, seen_of_concept, seen_of_shell, seen_of_submodel, texts_of_languages};
+ghost use Rattle.aas_constraint_rules.specs.Attributes.{seen_of_concept, seen_of_shell, seen_of_submodel, texts_of_languages};
 ghost use Rattle.aas_constraint_rules.specs.Decided.{is_language, is_string};
 ghost use Rattle.aas_constraint_rules.specs.Faults.{asset_is_named, concept_rules, equals, global_ids_agree, head_is_versioned, is_global_name, is_template, revision_has_version, shell_rules, submodel_rules};
 ghost use Rattle.aas_constraint_rules.specs.Rules.{semantics_have_main, texts_are_strings};

@@ -1,8 +1,8 @@
 // What the fields of a head say of its body.
-ghost use Rattle.std.specs.Prelude.{◌≡◌, ◌≤◌, ◌<◌, ℕ, All, List, length, map, Option, codes, nat_lt};
+ghost use Rattle.std.specs.Prelude.{◌≡◌, ◌<◌, All, length, map, Option, codes, nat_lt};
 ghost use Rattle.httparse.specs.Spans.{IsHeaderWithin, header_bytes};
 ghost use Rattle.http1.specs.Fields.{values_named, known_fields};
-ghost use Rattle.aas_http.specs.BodyLength.{body_length, length_value};
+ghost use Rattle.aas_http.specs.BodyLength.{body_length};
 ghost use Rattle.aas_http.specs.NotImplemented.{is_not_implemented};
 ghost use Rattle.aas_http.specs.OnlyValue.{IsOnlyValue, number_of};
 

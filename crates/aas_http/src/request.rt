@@ -1,5 +1,5 @@
 // The first request of what was received.
-ghost use Rattle.std.specs.Prelude.{◌≡◌, ◌↔◌, length, IsTrue};
+ghost use Rattle.std.specs.Prelude.{◌≡◌, ◌↔◌, IsTrue};
 ghost use Rattle.std.specs.List.{list_all};
 ghost use Rattle.aas_http.specs.FirstRequest.{IsBlank, ends_line};
 ghost use Rattle.aas_http.specs.Found.{IsFound};

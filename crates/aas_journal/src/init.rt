@@ -1,5 +1,5 @@
 // How a journal is made.
-ghost use Rattle.std.specs.Prelude.{◌≡◌, ◌≤◌, ◌↔◌, [], List, ℕ, Err, IfOk, IfSome, IsTrue, OnOk, Some};
+ghost use Rattle.std.specs.Prelude.{◌≡◌, ◌≤◌, ◌↔◌, [], Err, IfOk, IfSome, IsTrue, OnOk, Some};
 ghost use Rattle.aas_journal.specs.Bank.{IsBankImage};
 ghost use Rattle.aas_journal.specs.Causes.{AreEmpty};
 ghost use Rattle.aas_journal.specs.Reads.{OnlyReads, initial_files};

@@ -1,5 +1,5 @@
 // Records in the chosen file of a disk.
-ghost use Rattle.std.specs.Prelude.{◌≡◌, ◌<◌, length};
+ghost use Rattle.std.specs.Prelude.{◌<◌, length};
 ghost use Rattle.std.specs.Option.{ForSome};
 ghost use Rattle.aas_outside_disk.specs.Files.{file};
 

@@ -1,13 +1,11 @@
 // How payloads are read from a journal.
 ghost use Rattle.std.specs.Prelude.{◌≡◌, ◌<◌, ◌≤◌, ◌+◌, ◌⊎◌, ◌++◌, List, ℕ, Err, IfErr, IfOk, IfSome};
 ghost use Rattle.std.specs.Prelude.{OnErr, OnOk, drop, length, take};
-ghost use Rattle.aas_journal.specs.Bank.{IsBankImage};
 ghost use Rattle.aas_journal.specs.Given.{GivesNext, IsGateOf};
 ghost use Rattle.aas_journal.specs.Reads.{OnlyReads};
 ghost use Rattle.aas_journal.specs.Shown.{disk_of};
 ghost use Rattle.aas_journal.specs.declared.fault.OpenFault.TheVariants.{Failed as DiskFailed, NoMemory};
 ghost use Rattle.aas_outside.specs.Faults.{Rose};
-ghost use Rattle.aas_outside.specs.Moments.{IsSettled};
 ghost use Rattle.aas_outside_disk.specs.Files.{file};
 
 use crate::walk::{HEAD_BYTES, length_in};

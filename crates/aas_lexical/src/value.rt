@@ -1,4 +1,4 @@
-ghost use Rattle.std.specs.Prelude.{◌≡◌, ◌↔◌, ℤ, IsTrue, IfSome, IfNone, bytes_eq};
+ghost use Rattle.std.specs.Prelude.{◌≡◌, ◌↔◌, IsTrue, IfSome, IfNone, bytes_eq};
 ghost use Rattle.aas_lexical.specs.Values as form;
 ghost use Rattle.aas_lexical.specs.Natives.{is_boolean, is_numeric, is_written, truth_of, whole_of, native_of, IsNative};
 ghost use Rattle.aas_lexical.specs.declared.natives.Native.{Native};

@@ -1,6 +1,6 @@
 // An end that counts.
 ghost use Rattle.std.specs.Prelude.{◌≡◌, ◌^◌, nat_lt, Some, None, if◌then◌else◌, IsOk};
-ghost use Rattle.aas_out.specs.Told.{Told, Puts, counted};
+ghost use Rattle.aas_out.specs.Told.{Puts, counted};
 
 use crate::Out;
 use aas_outside::Failed;

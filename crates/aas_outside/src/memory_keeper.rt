@@ -1,5 +1,5 @@
 // A keeper in memory, for tests: its payloads, and the calls that fail.
-ghost use Rattle.std.specs.Prelude.{◌≡◌, ◌<◌, ◌≤◌, ◌+◌, ◌^◌, ◌↔◌, ◌++◌, [], ◌∷◌, List, ℕ, IfOk, OnOk, IsErr, IsTrue, MatchResult, length};
+ghost use Rattle.std.specs.Prelude.{◌≡◌, ◌<◌, ◌≤◌, ◌+◌, ◌↔◌, ◌++◌, [], ◌∷◌, List, ℕ, IfOk, OnOk, IsErr, IsTrue, MatchResult, length};
 ghost use Rattle.aas_outside.specs.Faults.{HasCause};
 ghost use Rattle.aas_outside.specs.MemCalls.{IsNextFailing};
 ghost use Rattle.aas_outside.specs.MemKeeper.{has_room_behind, is_all, clock, kept_at, IsKeepCall};

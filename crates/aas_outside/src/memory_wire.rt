@@ -1,6 +1,6 @@
 // A wire in memory, for tests: its inputs, what was sent on each connection, and the calls that fail.
 ghost use Rattle.std.specs.Prelude.{◌≡◌, ◌<◌, ◌≤◌, ◌-◌, ◌⊎◌, ◌↔◌, ◌++◌, [], ◌∷◌, None, Some, length, min, IfOk, OnOk, OnErr, IsErr, MatchResult, slice_get};
-ghost use Rattle.std.specs.Option.{option_copied, option_map};
+ghost use Rattle.std.specs.Option.{option_map};
 ghost use Rattle.aas_outside.specs.Faults.{HasCause};
 ghost use Rattle.aas_outside.specs.Link.{Takes, Gives};
 ghost use Rattle.aas_outside.specs.MemCalls.{IsNextFailing};

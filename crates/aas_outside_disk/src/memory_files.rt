@@ -13,7 +13,7 @@ pub struct MemFiles {
 }
 
 impl MemFiles {
-    ghost use Rattle.std.specs.Prelude.{◌≡◌, ◌+◌, ◌≤◌, IfOk, length};
+    ghost use Rattle.std.specs.Prelude.{◌≡◌, ◌+◌, ◌≤◌, length};
     ghost use Rattle.aas_outside_disk.specs.MemFile.{after_file_sync, after_file_write};
     ghost use Rattle.aas_outside_disk.specs.MemFiles.{mem_file, with_mem_file};
 

@@ -1,5 +1,5 @@
 -- What a test says.
-use Rattle.std.proofs.Common.{◌≡◌, Bool, true, false, ◌↔◌, IsTrue, sym, ◌∙◌}
+use Rattle.std.proofs.Common.{◌≡◌, Bool, true, false, ◌↔◌, IsTrue}
 
 pub holds : {P : Type 0} (b : Bool) → b ≡ true → IsTrue b ↔ P → P
 holds b e says = says.0 e

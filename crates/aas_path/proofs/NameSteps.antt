@@ -1,15 +1,14 @@
 -- A step by name at the front of a text, behind its dot.
-use Rattle.std.proofs.Common.{◌≡◌, ℕ, zero, suc, ◌+◌, ◌-◌, ◌<◌, ◌≤◌, Bool, true, false, ◌⊎◌, ◌||◌, ◌&&◌, ◌==◌, List, [], ◌∷◌, ◌++◌, length, take, drop, get_or, refl, sym, ap, ◌∙◌, subst, inl, inr, lit≤, lit<, arith, length-append, append-nil, append_assoc, codes, decimal}
+use Rattle.std.proofs.Common.{◌≡◌, ℕ, zero, suc, ◌+◌, ◌-◌, ◌<◌, ◌≤◌, Bool, true, false, ◌⊎◌, ◌&&◌, List, [], ◌∷◌, ◌++◌, length, take, drop, get_or, refl, sym, ap, ◌∙◌, subst, inl, inr, lit≤, lit<, arith, append-nil, append_assoc, codes, decimal}
 use Rattle.std.proofs.Math.Numerals.{add-one}
-use Rattle.std.proofs.Math.Seq.{take-add}
 use Rattle.std.proofs.lemmas.Bool.Decides.{nat_tests}
 use Rattle.std.proofs.lemmas.List.{take-append-drop, take-take, take_rest, length-take-le, drop_more, take_more}
-use Rattle.std.specs.Char.{is_ascii_alphabetic, is_ascii_alphanumeric}
+use Rattle.std.specs.Char.{is_ascii_alphabetic}
 use Rattle.std.specs.List.{list_all}
 use Rattle.std.specs.Str.{encode_utf8_all}
 use Rattle.std.proofs.lemmas.Bool.{and_parts}
 use Rattle.aas_lemmas.proofs.Lists.{same_tails}
-use Rattle.aas_lexical_forms.specs.Form.{one, any, ◌▸◌}
+use Rattle.aas_lexical_forms.specs.Form.{one, any}
 use Rattle.aas_model.specs.declared.path.PathStep.{PathStep}
 use Rattle.aas_model.specs.declared.path.PathStep.TheVariants.{Name, Place}
 use Rattle.aas_path.specs.PathText.{step_text}
@@ -18,7 +17,6 @@ use Rattle.aas_path.specs.StepText.{EndsStep, IsStep, IsNoStep}
 use Rattle.aas_path.proofs.RunsFound.{front_no_longer, same_front}
 use Rattle.aas_lexical.proofs.NamesAscii.{name_bytes}
 use Rattle.aas_lexical.specs.Names.{is_name_character, id_short}
-use Rattle.aas_path_trees.specs.PathRule.{StepKeepsRule}
 
 -- ---- the characters of names
 

@@ -1,5 +1,5 @@
 -- A walk in preorder that puts each payload in its place.
-use Rattle.std.proofs.Common.{◌≡◌, ℕ, suc, ◌+◌, ◌-◌, ◌<◌, ◌≤◌, Bool, true, false, ◌==◌, List, [], ◌∷◌, ◌++◌, length, take, drop, set, get_or, map, refl, sym, ap, ◌∙◌, subst, append_assoc, length-drop, arith, if◌then◌else◌}
+use Rattle.std.proofs.Common.{◌≡◌, ℕ, suc, ◌+◌, ◌-◌, ◌<◌, ◌≤◌, Bool, true, false, ◌==◌, List, [], ◌∷◌, ◌++◌, length, take, drop, set, get_or, refl, sym, ap, ◌∙◌, subst, append_assoc, arith, if◌then◌else◌}
 use Rattle.std.proofs.Math.Seq.{take-suc-set, drop-cons, take-append_seam}
 use Rattle.std.proofs.Math.Numerals.{add-one}
 use Rattle.std.proofs.lemmas.Bool.Decides.{Decides-eqb}
@@ -7,11 +7,11 @@ use Rattle.std.proofs.lemmas.List.{drop-set-lt, take_all, drop_all, append-nil}
 use Rattle.aas_model.specs.declared.element.Element.{Element, Element-F, out-Element, roll-Element}
 use Rattle.aas_model.specs.declared.patch.PatchRow.{PatchRow}
 use Rattle.aas_model.specs.declared.payload.Payload.{Payload}
-use Rattle.aas_path.specs.Gaps.{first_rank, gap}
-use Rattle.aas_path.specs.Walk.{Left, at_start, behind, one_less, taken, IsNext, Stands, Patches, PatchesAll}
+use Rattle.aas_path.specs.Gaps.{gap}
+use Rattle.aas_path.specs.Walk.{Left, behind, one_less, taken, IsNext, Stands, Patches, PatchesAll}
 use Rattle.aas_model_text.specs.Many.{filled}
 use Rattle.aas_path_trees.specs.Children.{kids_of}
-use Rattle.aas_path_trees.specs.Patched.{RiseFrom, Rise, payload_at, patched, patched_all}
+use Rattle.aas_path_trees.specs.Patched.{RiseFrom, payload_at, patched, patched_all}
 use Rattle.aas_path_trees.proofs.Patches.{patched_out}
 
 -- ---- one element

@@ -1,5 +1,5 @@
 ghost use Rattle.std.specs.Prelude.{◌≡◌, ◌<◌, ◌↔◌, [], ◌∷◌, ◌++◌, length, Some, None, Ok, Err, IfOk, IfErr, OnOk, OnErr, IfSome, MatchOption, true, false};
-ghost use Rattle.aas_path_trees.specs.ElementAt.{element_at, depth_found};
+ghost use Rattle.aas_path_trees.specs.ElementAt.{element_at};
 ghost use Rattle.aas_path_trees.specs.Edits.{fits_role, inserted, replaced, role_under, role_within, with_last};
 ghost use Rattle.aas_path_trees.specs.Children.{role_of, with_role};
 ghost use Rattle.aas_model.specs.declared.path.Missing.{Missing};

@@ -1,4 +1,4 @@
-ghost use Rattle.std.specs.Prelude.{◌≡◌, ◌+◌, ◌<◌, ◌≤◌, ◌^◌, ◌∷◌, ◌↔◌, length, take, drop, decimal, slice_get, ◌⊎◌, ℕ, List, Some, IsTrue, IfOk, IfErr, MatchResult};
+ghost use Rattle.std.specs.Prelude.{◌≡◌, ◌+◌, ◌<◌, ◌≤◌, ◌^◌, ◌∷◌, ◌↔◌, length, take, drop, decimal, ◌⊎◌, ℕ, List, Some, IsTrue, IfOk, IfErr, MatchResult};
 ghost use Rattle.aas_model.specs.declared.path.PathStep.{PathStep};
 ghost use Rattle.aas_path.specs.ParseFaults.{IsStepFault, IsPathFault, behind};
 ghost use Rattle.aas_path.specs.PathText.{IsPath};

@@ -1,6 +1,6 @@
 -- What an import comes to, by the causes that were tried.
 use Rattle.std.proofs.Common.{◌≡◌, ◌+◌, ℕ, zero, suc, Bool, true, false, List, [], ◌∷◌, ◌++◌, arith, Option, Some, None, refl, sym, ap, ap₂, ◌∙◌, subst}
-use Rattle.std.specs.Prelude.{◌&&◌, ◌==◌, ◌≢◌, All, not, flat_map, if◌then◌else◌, map, option_map}
+use Rattle.std.specs.Prelude.{◌&&◌, ◌==◌, ◌≢◌, All, not, flat_map, map, option_map}
 use Rattle.std.specs.BTreeMap.{is_at}
 use Rattle.std.specs.BTreeSet.{BTreeSet, insert_key}
 use Rattle.std.specs.Cmp.Lexicographic.{slice_cmp}

@@ -36,7 +36,6 @@ use Rattle.aas_step.specs.Valid.{AreValid}
 use Rattle.aas_store.specs.Documents.{Documents}
 use Rattle.aas_store.specs.Edited.{Holds, with_changed}
 use Rattle.aas_store.specs.Reads as reads
-use Rattle.aas_store.specs.Reads.{IsRowOf}
 use Rattle.aas_store.specs.Storable.{IsStorable}
 use Rattle.aas_repo.proofs.Accepted as accepted
 use Rattle.aas_repo.proofs.Accepted.{holds_at, holds_then}

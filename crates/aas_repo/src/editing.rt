@@ -1,6 +1,6 @@
 // Insertions and replacements that their place alone doesn't accept: the submodel is copied, changed, checked, and put in its
 // own place.
-ghost use Rattle.std.specs.Prelude.{◌≡◌, ◌≢◌, ◌⊎◌, ℕ, List, None, Some, true, OnOk, IfErr};
+ghost use Rattle.std.specs.Prelude.{◌≡◌, ◌≢◌, ℕ, List, None, Some, true, OnOk, IfErr};
 ghost use Rattle.aas_command.specs.Commands.{IsWellFormed};
 ghost use Rattle.aas_command.specs.declared.command.Command as commands;
 ghost use Rattle.aas_command.specs.declared.refusal.Refusal.TheVariants.{NoMemory as NoMemoryLeft, StorageFault};

@@ -1,12 +1,12 @@
 // An environment is imported: all its documents are put in, or none.
-ghost use Rattle.std.specs.Prelude.{◌≡◌, ◌∷◌, [], ◌++◌, ℕ, List, encode_utf8_all, flat_map, map, IfOk};
+ghost use Rattle.std.specs.Prelude.{◌≡◌, ◌∷◌, [], ◌++◌, ℕ, List, encode_utf8_all, map, IfOk};
 ghost use Rattle.aas_command.specs.declared.command.Command.TheVariants.{Import};
 ghost use Rattle.aas_command.specs.declared.refusal.Refusal.TheVariants.{Conflict};
 ghost use Rattle.aas_constraint_parts.specs.Repeats.{HasTexts};
 ghost use Rattle.aas_constraint_rules.specs.Texts.{is_among};
 ghost use Rattle.aas_json_mapping.specs.Trees.{environments};
 ghost use Rattle.aas_json_table.specs.TooDeep.{limits};
-ghost use Rattle.aas_step.specs.Causes.{document_causes, first_of, first_repeated, first_repeated_in, has_repeated, when};
+ghost use Rattle.aas_step.specs.Causes.{first_of, first_repeated, first_repeated_in, has_repeated, when};
 ghost use Rattle.aas_step.specs.Made.{documents_in, id_of};
 ghost use Rattle.aas_step.specs.Step.{later_causes};
 ghost use Rattle.aas_repo.specs.Decisions.{IsDecision};

@@ -1,6 +1,6 @@
 // A command is taken, before the keeper is called.
-ghost use Rattle.std.specs.Prelude.{◌≡◌, ◌^◌, ◌≤◌, ℕ, List, IsTrue, length, false};
-ghost use Rattle.aas_command.specs.Commands.{IsWellFormed, payload_of};
+ghost use Rattle.std.specs.Prelude.{false};
+ghost use Rattle.aas_command.specs.Commands.{IsWellFormed};
 ghost use Rattle.aas_repo.specs.Decisions.{IsDecision, IsTaken};
 ghost use Rattle.aas_step.specs.Valid.{AreValid};
 

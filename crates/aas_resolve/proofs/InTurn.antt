@@ -1,5 +1,5 @@
 -- The references of one thing, as the code goes through them.
-use Rattle.std.proofs.Common.{◌≡◌, List, [], ◌++◌, flat_map, refl, sym, ap, ◌∙◌, append_assoc}
+use Rattle.std.proofs.Common.{◌≡◌, List, [], ◌++◌, flat_map, sym, ap, ◌∙◌, append_assoc}
 use Rattle.std.proofs.lemmas.List.{append-nil}
 use Rattle.aas_constraint_rules.specs.Sites.{Own}
 use Rattle.aas_constraint_rules.specs.Texts.{as_list}

@@ -1,7 +1,6 @@
 -- The first lost keys of several references, one thing that holds references after another.
 use Rattle.std.proofs.Common.{◌≡◌, ℕ, ◌+◌, ◌<◌, List, [], ◌∷◌, ◌++◌, length, drop, get_or, flat_map, Result, Ok, Err, refl, sym, ap, ◌∙◌, append_assoc}
 use Rattle.std.specs.Prelude.{OnOk}
-use Rattle.std.proofs.lemmas.Grind.{flat_map-append}
 use Rattle.std.proofs.lemmas.List.Elements.{filter_map-append}
 use Rattle.aas_lemmas.proofs.Lists.{drop_at}
 use Rattle.aas_model.specs.declared.reference.Reference.{Reference}

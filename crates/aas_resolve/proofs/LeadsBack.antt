@@ -1,18 +1,16 @@
 -- The references that aas_form makes lead back.
-use Rattle.std.proofs.Common.{◌≡◌, ◌⊎◌, inl, inr, ℕ, zero, suc, ◌+◌, ◌<◌, ◌≤◌, ◌^◌, Bool, true, false, cond, nat_lt, List, [], ◌∷◌, ◌++◌, length, take, get_or, slice_get, Option, Some, None, option_map, option_and_then, Ok, refl, sym, ap, ap₂, ◌∙◌, subst, arith, decimal, add-zero, zero-add, length-append}
-use Rattle.std.specs.Prelude.{bytes_eq, is_some, unwrap_or, IfSome}
+use Rattle.std.proofs.Common.{◌≡◌, ℕ, zero, suc, ◌+◌, ◌<◌, ◌≤◌, ◌^◌, Bool, true, false, cond, nat_lt, List, [], ◌∷◌, ◌++◌, length, take, get_or, slice_get, Option, Some, None, option_map, option_and_then, Ok, refl, sym, ap, ◌∙◌, subst, arith, add-zero, zero-add, length-append}
+use Rattle.std.specs.Prelude.{is_some, unwrap_or, IfSome}
 use Rattle.std.specs.FinMap as map
-use Rattle.std.specs.List.{position}
 use Rattle.std.specs.Option.{option_map_or}
 use Rattle.std.specs.Str.{encode_utf8_all}
 use Rattle.std.proofs.lemmas.List.Quantifiers.{position-Some}
 use Rattle.std.proofs.lemmas.Option.{get_or_from_slice_get, slice_get_within, cond_some}
 use Rattle.std.proofs.lemmas.Slice.Eq.{bytes_eq-Decides}
 use Rattle.aas_lemmas.proofs.Lists.{get_front, get_behind}
-use Rattle.aas_form.specs.ReferenceTo.{element_key, key_type_of, key_value, keys_in, model_reference, reference_to, shell_reference, submodel_key}
+use Rattle.aas_form.specs.ReferenceTo.{element_key, key_type_of, key_value, keys_in, model_reference, submodel_key}
 use Rattle.aas_model.specs.Element.{kind_of}
 use Rattle.aas_model.specs.Payload as payload_kind
-use Rattle.aas_model.specs.declared.documents.Shell.{Shell}
 use Rattle.aas_model.specs.declared.documents.Submodel.{Submodel}
 use Rattle.aas_model.specs.declared.element.Element.{Element, out-Element}
 use Rattle.aas_model.specs.declared.path.PathStep.{PathStep}
@@ -20,22 +18,22 @@ use Rattle.aas_model.specs.declared.path.PathStep.TheVariants.{Name, Place}
 use Rattle.aas_model.specs.declared.payload.Payload.{Payload}
 use Rattle.aas_model.specs.declared.payload.Payload.TheVariants as payload
 use Rattle.aas_model.specs.declared.reference.Key.{Key}
-use Rattle.aas_model.specs.declared.reference.Reference.{Reference, out-Reference, out-roll-Reference}
+use Rattle.aas_model.specs.declared.reference.Reference.{Reference, out-roll-Reference}
 use Rattle.aas_model_names.specs.declared.collection.Collection.TheVariants.{Shells, Submodels}
 use Rattle.aas_model_names.specs.declared.kind.Kind.{Kind}
 use Rattle.aas_model_names.specs.declared.kind.Kind.TheVariants.{Property, MultiLanguageProperty, Range, File, Blob, ReferenceElement, RelationshipElement, AnnotatedRelationshipElement, Entity, BasicEventElement, Capability, Operation, SubmodelElementCollection, SubmodelElementList}
 use Rattle.aas_path_trees.proofs.Paths.{child_by-there}
 use Rattle.aas_path_trees.specs.Children as children
 use Rattle.aas_path_trees.specs.Children.{kids_of, id_short_of}
-use Rattle.aas_path_trees.specs.ElementAt.{child_by, element_at, element_below, is_text, place_named, place_of, place_within}
+use Rattle.aas_path_trees.specs.ElementAt.{child_by, element_at, element_below, is_text, place_of}
 use Rattle.aas_reference.specs.Rules.{is_external, is_fragment}
 use Rattle.aas_store.specs.Documents.{Documents, Identifier}
 use Rattle.aas_store.specs.Spots.{elements, elements_of_all, spot_among, spot_below}
 use Rattle.aas_path_trees.specs.Patched.{element_count}
 use Rattle.aas_store.specs.declared.spot.Spot.{Spot}
 use Rattle.aas_store.proofs.Listed.{elements_out}
-use Rattle.aas_resolve.specs.Laws.{ElementsLeadBack, LeadsTo, ShellsLeadBack, SubmodelsLeadBack, rank_at, rank_below}
-use Rattle.aas_resolve.specs.Resolved.{HaveFewElements, admits, along, child_named, child_of, collection_named, if_admitted, is_list, is_list_at, lost, number, rank_of, reached, resolved, resolved_by, stays, step_spelled}
+use Rattle.aas_resolve.specs.Laws.{ElementsLeadBack, ShellsLeadBack, SubmodelsLeadBack, rank_at, rank_below}
+use Rattle.aas_resolve.specs.Resolved.{admits, along, child_named, child_of, if_admitted, is_list, lost, reached, resolved, resolved_by, stays, step_spelled}
 use Rattle.aas_resolve.proofs.Numbers.{number_decimal}
 use Rattle.aas_resolve.proofs.Preorder.{few_first, few_kids}
 

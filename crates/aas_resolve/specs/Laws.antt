@@ -1,5 +1,5 @@
 -- The references that the server gives out lead back.
-use Rattle.std.specs.Prelude.{◌≡◌, ℕ, ◌+◌, Bool, false, List, [], ◌∷◌, length, take, slice_get, Some, None, Option, option_and_then, option_map, Ok}
+use Rattle.std.specs.Prelude.{◌≡◌, ℕ, ◌+◌, false, List, [], ◌∷◌, length, take, slice_get, Some, None, Option, option_and_then, option_map, Ok}
 use Rattle.std.specs.FinMap as map
 use Rattle.std.specs.Str.{encode_utf8_all}
 use Rattle.aas_form.specs.ReferenceTo.{reference_to, shell_reference}

@@ -3,7 +3,7 @@
 -- collections; that an idShort leads to the first child that has it; that under a SubmodelElementList a place is any count of ASCII digits, at
 -- least one; that a FragmentReference leads nowhere but as the last key, where it stays; and that an ExternalReference, as a reference without
 -- keys, leads nowhere at key 0.
-use Rattle.std.specs.Prelude.{◌≡◌, ℕ, ◌+◌, ◌≤◌, Bool, true, false, if◌then◌else◌, List, [], ◌∷◌, bytes_eq, Option, Some, None, option_and_then, option_map, Result, Ok, Err, IfSome}
+use Rattle.std.specs.Prelude.{ℕ, ◌+◌, ◌≤◌, Bool, true, false, if◌then◌else◌, List, [], ◌∷◌, bytes_eq, Option, Some, None, option_and_then, option_map, Result, Ok, Err, IfSome}
 use Rattle.std.specs.FinMap as map
 use Rattle.std.specs.List.{find, list_all}
 use Rattle.std.specs.Option.{option_map_or}

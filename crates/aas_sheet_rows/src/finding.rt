@@ -1,4 +1,4 @@
-ghost use Rattle.std.specs.Prelude.{◌≡◌, ◌<◌, ◌≤◌, ◌+◌, ◌-◌, ◌^◌, List, length, take, drop, map, slice_get, option_map, Some};
+ghost use Rattle.std.specs.Prelude.{◌≡◌, ◌<◌, ◌≤◌, ◌+◌, ◌-◌, ◌^◌, List, length, take, drop, slice_get, option_map, Some};
 ghost use Rattle.std.specs.Option.{IfSome};
 ghost use Rattle.aas_model.specs.declared.element.Element.{Element};
 ghost use Rattle.aas_path_trees.specs.Children.{is_list_payload};

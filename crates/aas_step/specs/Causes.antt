@@ -27,7 +27,7 @@ use Rattle.aas_command.specs.declared.refusal.Absent.{Absent}
 use Rattle.aas_command.specs.declared.refusal.Absent.TheVariants as absent
 use Rattle.aas_command.specs.declared.refusal.Refusal.{Refusal}
 use Rattle.aas_command.specs.declared.refusal.Refusal.TheVariants.{NotFound, Conflict, NotAContainer, NoValueForm, Shape, TooMany}
-use Rattle.aas_path_trees.specs.Children.{id_short_of, kids_of, role_of}
+use Rattle.aas_path_trees.specs.Children.{id_short_of, role_of}
 use Rattle.aas_path_trees.specs.Edits.{fits_role, role_at, role_within}
 use Rattle.aas_path_trees.specs.ElementAt.{depth_found, element_at, place_named, children_at}
 use Rattle.aas_value.specs.ValueForm.{value_form}

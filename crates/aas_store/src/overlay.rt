@@ -1,5 +1,5 @@
 // Many documents put into a shelf at once.
-ghost use Rattle.std.specs.Prelude.{◌≡◌, ◌≤◌, ℕ, List, length, IfOk, OnOk};
+ghost use Rattle.std.specs.Prelude.{◌≡◌, ◌≤◌, List, length, IfOk};
 ghost use Rattle.std.specs.FinMap as map;
 ghost use Rattle.std.specs.Str.{encode_utf8_all};
 ghost use Rattle.aas_store.specs.Documents.{Identifier};

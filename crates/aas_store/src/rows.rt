@@ -1,6 +1,6 @@
 // The rows of a submodel's elements, an element before those below it.
 ghost use Rattle.std.specs.Prelude.{◌≡◌, ◌+◌, ◌<◌, ◌≤◌, ◌^◌, length, option_map, slice_get, MatchResult, Some};
-ghost use Rattle.aas_rows.specs.Rows.{line_at, rows, rows_of_all};
+ghost use Rattle.aas_rows.specs.Rows.{rows, rows_of_all};
 ghost use Rattle.aas_rows.specs.Views.{line_of};
 ghost use Rattle.aas_path_trees.specs.Patched.{element_count};
 

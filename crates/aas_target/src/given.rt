@@ -50,8 +50,7 @@ impl Shown {
 }
 
 impl Given {
-    ghost use Rattle.std.specs.Prelude.{ℕ};
-    ghost use Rattle.aas_target.specs.Given.{Takes, extent_of, filter_of, level_of, limit_of, selection_of, shown_of, span_of};
+    ghost use Rattle.aas_target.specs.Given.{Takes, limit_of, selection_of, shown_of, span_of};
     ghost use Rattle.aas_target.specs.declared.given.Given.{Given};
 
     pub(crate) fn nothing(alloc: Global) -> Given

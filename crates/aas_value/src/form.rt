@@ -4,7 +4,6 @@ ghost use Rattle.serde_json.specs.Written.{has_float};
 ghost use Rattle.aas_json_members.specs.Exact.{data_of};
 ghost use Rattle.aas_json_members.specs.Object.{members_of};
 ghost use Rattle.aas_model_names.specs.declared.modifiers.Extent.{Extent};
-ghost use Rattle.aas_model.specs.declared.element.Element.{out-Element};
 ghost use Rattle.aas_value.specs.ValueForm.{child_of, value_form, value_over, shows_children, submodel_value, named, in_order, put_child, annotation_value};
 
 use crate::kinds::{

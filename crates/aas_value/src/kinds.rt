@@ -1,6 +1,5 @@
-ghost use Rattle.std.specs.Prelude.{◌≡◌, [], ◌∷◌, codes, map, IfOk};
+ghost use Rattle.std.specs.Prelude.{◌≡◌, codes, IfOk};
 ghost use Rattle.serde_json.specs.Data.{object, member, no_members};
-ghost use Rattle.aas_json_members.specs.Array.{items_of};
 ghost use Rattle.aas_json_members.specs.Exact.{data_of};
 ghost use Rattle.aas_json_mapping.specs.Parts.{spell_specific_asset_id};
 ghost use Rattle.aas_model_names.specs.declared.modifiers.Extent.{Extent};

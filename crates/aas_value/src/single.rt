@@ -3,7 +3,7 @@ ghost use Rattle.aas_json_members.specs.Exact.{data_of};
 ghost use Rattle.serde_json.specs.Data as Data;
 ghost use Rattle.serde_json.specs.Find.{of_integer};
 ghost use Rattle.aas_lexical.specs.Natives.{IsWritten};
-ghost use Rattle.aas_value.specs.Single.{single, native_or_text};
+ghost use Rattle.aas_value.specs.Single.{single};
 
 use aas_json_members::{Exact, flag_value, text_value};
 use aas_lexical::{Native, native};

@@ -1,4 +1,4 @@
-ghost use Rattle.std.specs.Prelude.{◌≡◌, [], ◌∷◌, ◌+◌, IfOk, List, length, map, option_map, Some};
+ghost use Rattle.std.specs.Prelude.{◌≡◌, [], ◌∷◌, ◌+◌, IfOk, length, map, option_map, Some};
 ghost use Rattle.serde_json.specs.View.{view};
 ghost use Rattle.aas_constraint_rules.specs.Sites.{Own, is_list, stands_in_list};
 ghost use Rattle.aas_constraints.specs.Walk.{above_of};

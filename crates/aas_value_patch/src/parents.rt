@@ -8,7 +8,7 @@ ghost use Rattle.aas_value_update.specs.Kinds.{part_of};
 ghost use Rattle.aas_path_trees.specs.Children.{is_list_payload};
 ghost use Rattle.aas_path_trees.specs.Places.{Differ};
 ghost use Rattle.aas_value.specs.ValueForm.{Child};
-ghost use Rattle.aas_value_update.specs.Parts.{Part, object_of, entries_of, children, members_fit, items_fit, entries_fit, fits_if, fits_form};
+ghost use Rattle.aas_value_update.specs.Parts.{Part, object_of, entries_of, members_fit, items_fit, entries_fit, fits_if, fits_form};
 ghost use Rattle.aas_value_update.specs.Shape.{under_name, by_names, by_entries, items_in, if_sent};
 ghost use Rattle.aas_value_patch.specs.Counted.{one_if_some, found};
 ghost use Rattle.aas_value_patch.specs.Faults.{Judges};

@@ -1,4 +1,4 @@
-use Rattle.std.proofs.Common.{◌≤◌, length}
+use Rattle.std.proofs.Common.{length}
 use Rattle.aas_path.proofs.PathSteps.{Read}
 use Rattle.aas_path.proofs.parsing.parse_path.Given as goal
 

@@ -1,4 +1,4 @@
-use Rattle.std.proofs.Common.{◌≢◌, refl, length, get_or, length-set, get_or-set_other, ap, ◌∙◌, arith}
+use Rattle.std.proofs.Common.{◌≢◌, refl, get_or, length-set, get_or-set_other, ap, ◌∙◌, arith}
 use Rattle.aas_model.specs.declared.element.Element.{out-roll-Element}
 use Rattle.aas_path.specs.Walk.{left_of}
 use Rattle.aas_path.proofs.PatchWalk.{one_patched, set_out, turn, ended}

@@ -1,4 +1,3 @@
-use Rattle.std.proofs.Common.{refl}
 use Rattle.aas_path_trees.specs.Patched.{kinds}
 use Rattle.aas_path.proofs.FitWalk.{fits_if_walked}
 use Rattle.aas_path.proofs.patches.patch_fits.Goals as goal

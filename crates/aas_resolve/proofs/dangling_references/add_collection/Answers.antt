@@ -1,4 +1,4 @@
-use Rattle.std.proofs.Common.{None, Some, sym, ◌∙◌}
+use Rattle.std.proofs.Common.{sym}
 use Rattle.std.specs.Option.{option_copied}
 use Rattle.aas_store.proofs.Above.{fewer_left}
 use Rattle.aas_resolve.proofs.UpTo.{all_done, at_first, one_more}

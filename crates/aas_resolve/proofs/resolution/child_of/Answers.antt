@@ -1,4 +1,4 @@
-use Rattle.std.proofs.Common.{sym, ◌∙◌, None}
+use Rattle.std.proofs.Common.{sym, ◌∙◌}
 use Rattle.aas_resolve.proofs.TooFar.{no_place}
 use Rattle.aas_resolve.proofs.resolution.child_of.Goals as goal
 

@@ -1,4 +1,4 @@
-use Rattle.std.proofs.Common.{◌≡◌, ap, ◌∙◌}
+use Rattle.std.proofs.Common.{ap, ◌∙◌}
 use Rattle.aas_outside_disk.specs.declared.part.Part.TheVariants.{Main, Spare, Selector}
 use Rattle.aas_outside_disk.specs.MemFile.{MemFileState}
 use Rattle.aas_outside_disk.specs.MemRecord.{MemRecordState}
