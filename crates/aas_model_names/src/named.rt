@@ -30,5 +30,8 @@ pub trait Named: Copy + 'static {
 fn first_named<V: Named>(s: &str) -> Option<V>
     ensures { result ≡ find (λ v. bytes_eq (V.name_of v) s.now) V.all }
 {
-    V::values().iter().copied().find(|v| v.name() == s)
+    V::values()
+        .iter()
+        .copied()
+        .find(|v| v.name().len() == s.len() && v.name() == s)
 }
