@@ -5,9 +5,12 @@
 
 #![tactic(auto)]
 
-ghost use Rattle.std.specs.Prelude.{◌≡◌, None};
+ghost use Rattle.std.specs.Prelude.{◌≡◌, None, Some, IfSome, length, ◌++◌, ◌∷◌, []};
+ghost use Rattle.std.specs.Bool.{OnTrue};
+ghost use Rattle.json.specs.Written.{PlainBetween};
 ghost use Rattle.aas_json_table.specs.Misfit.{misfit};
 ghost use Rattle.aas_json_table.specs.Table.{one};
+ghost use Rattle.serde_json.specs.Data.{string};
 ghost use Rattle.serde_json.specs.View.{view};
 ghost use Rattle.aas_json_table.specs.Seen.{sort_of, levels_of};
 ghost use Rattle.aas_json_spelling.specs.Reading.{reading};
@@ -28,6 +31,19 @@ use std::alloc::Global;
 pub fn read_value(alloc: Global, bytes: &[u8]) -> Result<Value, ReadFault>
     ensures { GivesValue result (reading bytes.now) }
 {
+    match plain_string(bytes) {
+        Some(text) => match String::from_str(alloc, text) {
+            Ok(text) => Ok(Value::String(text)),
+            Err(_) => Err(ReadFault::NoMemory),
+        },
+        None => read_any(alloc, bytes),
+    }
+}
+
+/// The same, whatever the value is.
+fn read_any(alloc: Global, bytes: &[u8]) -> Result<Value, ReadFault>
+    ensures { GivesValue result (reading bytes.now) }
+{
     match Value::from_slice(alloc, bytes) {
         Ok(value) => Ok(value),
         Err(error) => {
@@ -38,6 +54,39 @@ pub fn read_value(alloc: Global, bytes: &[u8]) -> Result<Value, ReadFault>
             }
         }
     }
+}
+
+/// The text of a string in which each byte stands for itself, where the bytes are one and nothing more. Most values that are
+/// sent alone are such strings, and need none of the scratch in which others are read.
+#[tactic(auto, using(crate::proofs::Plain::reads_plain))]
+fn plain_string(bytes: &[u8]) -> Option<&str>
+    ensures { IfSome result (λ text. reading bytes.now ≡ Some (string text.now)) }
+{
+    let inner = between_quotes(bytes)?;
+    if is_plain(inner) {
+        str::from_utf8(inner).ok()
+    } else {
+        None
+    }
+}
+
+/// What stands between a quote at the front and one at the end.
+fn between_quotes(bytes: &[u8]) -> Option<&[u8]>
+    ensures { IfSome result (λ inner. bytes.now ≡ 34 ∷ (inner.now ++ 34 ∷ [])) }
+{
+    match bytes {
+        [b'"', inner @ .., b'"'] => Some(inner),
+        _ => None,
+    }
+}
+
+/// Whether each byte stands for itself in a string.
+fn is_plain(bytes: &[u8]) -> bool
+    ensures { OnTrue result (PlainBetween bytes.now 0 (length bytes.now)) }
+{
+    bytes
+        .iter()
+        .all(|byte| *byte >= 32 && *byte != b'"' && *byte != b'\\')
 }
 
 /// Whether the value has no fault as an object of a sort, where so many levels are left: else the first mapping fault, or
