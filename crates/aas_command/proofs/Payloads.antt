@@ -1,25 +1,28 @@
--- Payloads of two fields and of three.
-use Rattle.std.proofs.Common.{ℕ, List, [], ◌∷◌, ◌++◌, length-append, arith}
+-- The fields of a payload, each by its place.
+use Rattle.std.proofs.Common.{ℕ, zero, suc, ◌<◌, ◌≤◌, List, [], ◌∷◌, length, get_or, length-append, arith}
+use Rattle.std.specs.Borrow.{Bor}
+use Rattle.std.specs.Int.{to_be_bytes, w32}
+use Rattle.std.specs.List.{flat_map}
+use Rattle.std.specs.Str.{IsUtf8}
+use Rattle.aas_json_spelling.specs.Lists.{Each}
 use Rattle.aas_command.specs.Commands.{bytes_of, field, tagged}
-use Rattle.aas_command.specs.Encoding.{IsFaultOf}
+use Rattle.aas_command.specs.Encoding.{IsFaultOf, lent}
 use Rattle.aas_command.specs.declared.encoding.EncodeFault.{EncodeFault}
 use Rattle.aas_command.specs.declared.encoding.EncodeFault.TheVariants.{TooLong, NoMemory}
 
--- where the payload of the first field is too long, that of both is
-pub longer : (tag : ℕ) (first second : List ℕ) (fault : EncodeFault) → IsFaultOf (bytes_of (tagged tag (first ∷ []))) fault → IsFaultOf (bytes_of (tagged tag (first ∷ second ∷ []))) fault
-longer tag first second TooLong long =
-    let one = length-append (field first) [] in
-    let both = length-append (field first) (field second ++ []) in
-    omega (arith, one, both, long)
-longer tag first second NoMemory any = any
+-- what all contents are, each is
+pub utf8_at : (contents : List (Bor (List ℕ))) (i : ℕ) (d : Bor (List ℕ)) → Each IsUtf8 (lent contents) → i < length contents → IsUtf8 (get_or contents i d).now
+utf8_at [] i d all within = absurd (omega arith)
+utf8_at (c ∷ contents) zero d all within = all.0
+utf8_at (c ∷ contents) (suc i) d all within = utf8_at contents i d all.1 (omega arith)
 
--- and where that of the first two is, that of all three is
-pub longer_by_third : (tag : ℕ) (first second third : List ℕ) (fault : EncodeFault) → IsFaultOf (bytes_of (tagged tag (first ∷ second ∷ []))) fault
-    → IsFaultOf (bytes_of (tagged tag (first ∷ second ∷ third ∷ []))) fault
-longer_by_third tag first second third TooLong long =
-    let two = length-append (field first) (field second ++ []) in
-    let second_alone = length-append (field second) [] in
-    let three = length-append (field first) (field second ++ (field third ++ [])) in
-    let second_and_third = length-append (field second) (field third ++ []) in
-    omega (arith, two, second_alone, three, second_and_third, long)
-longer_by_third tag first second third NoMemory any = any
+no_longer : (contents : List (Bor (List ℕ))) (i : ℕ) (d : Bor (List ℕ)) → i < length contents → length (get_or contents i d).now ≤ length (flat_map field (lent contents))
+no_longer [] i d within = absurd (omega arith)
+no_longer (c ∷ contents) zero d within = omega (arith, length-append (field c.now) (flat_map field (lent contents)), length-append (to_be_bytes w32 (length c.now)) c.now)
+no_longer (c ∷ contents) (suc i) d within = omega (arith, length-append (field c.now) (flat_map field (lent contents)), no_longer contents i d (omega arith))
+
+-- where one content is too long, the payload is
+pub too_long_at : (tag : ℕ) (contents : List (Bor (List ℕ))) (i : ℕ) (d : Bor (List ℕ)) (fault : EncodeFault) → i < length contents → IsFaultOf (get_or contents i d).now fault
+    → IsFaultOf (bytes_of (tagged tag (lent contents))) fault
+too_long_at tag contents i d TooLong within long = omega (arith, no_longer contents i d within, long)
+too_long_at tag contents i d NoMemory within any = any

@@ -1,5 +1,6 @@
 -- Which commands have a frame, and why others have none. This profile's own rule.
-use Rattle.std.specs.Prelude.{ℕ, ◌<◌, ◌≤◌, ◌^◌, List, length, ⊤}
+use Rattle.std.specs.Prelude.{ℕ, ◌<◌, ◌≤◌, ◌^◌, List, map, length, ⊤}
+use Rattle.std.specs.Borrow.{Bor}
 use Rattle.std.specs.Str.{IsUtf8}
 use Rattle.aas_json_spelling.specs.Lists.{Each}
 use Rattle.aas_command.specs.Commands.{tagged_of}
@@ -20,3 +21,7 @@ HasFields c = Each IsField (tagged_of c).fields
 abbrev pub IsFaultOf : List ℕ → EncodeFault → Type 0
 IsFaultOf payload TooLong = 2 ^ 32 ≤ length payload
 IsFaultOf payload NoMemory = ⊤
+
+-- what references lead to
+abbrev pub lent : List (Bor (List ℕ)) → List (List ℕ)
+lent = map (λ c. c.now)

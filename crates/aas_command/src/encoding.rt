@@ -2,8 +2,9 @@
 ghost use Rattle.std.specs.Prelude.{◌≡◌, ◌++◌, [], ◌∷◌, IfOk, MatchResult, OnOk};
 ghost use Rattle.std.specs.Str.{IsUtf8};
 ghost use Rattle.aas_command.specs.Commands.{IsPlace, IsWellFormed, bytes_of, field, payload_of, tagged};
-ghost use Rattle.aas_command.specs.Encoding.{HasFields, IsFaultOf, IsField};
+ghost use Rattle.aas_command.specs.Encoding.{HasFields, IsFaultOf, IsField, lent};
 ghost use Rattle.aas_json_mapping.specs.Trees.{elements};
+ghost use Rattle.aas_json_spelling.specs.Lists.{Each};
 ghost use Rattle.aas_json_spelling.specs.Spells.{canonical_text};
 ghost use Rattle.aas_json_spelling.specs.Values.{HasWholeNumbers};
 ghost use Rattle.serde_json.specs.Written.{compact_text};
@@ -144,7 +145,6 @@ fn payload(alloc: Global, command: &Command) -> Result<Vec<u8>, EncodeFault>
 }
 
 /// The payload of a command on the element to which a path leads, with an element.
-#[tactic(auto, using(crate::proofs::Payloads::longer_by_third))]
 fn element_payload(
     alloc: Global,
     tag: u8,
@@ -161,13 +161,12 @@ fn element_payload(
     ensures fields { OnOk result (IsField (encode_utf8_all submodel.now) × IsField (path_text path.now.steps)
         × IsField (canonical_text elements element.now)) }
 {
-    let mut payload = path_payload(alloc, tag, submodel, path)?;
-    push_field(&mut payload, &element_text(alloc, element)?)?;
-    Ok(payload)
+    let path = written(alloc, path)?;
+    let text = element_text(alloc, element)?;
+    fields(alloc, tag, &[submodel.as_str().as_bytes(), &path, &text])
 }
 
 /// The payload of the command that updates values.
-#[tactic(auto, using(crate::proofs::Payloads::longer_by_third))]
 fn value_payload(
     alloc: Global,
     submodel: &Text,
@@ -184,9 +183,9 @@ fn value_payload(
     ensures fields { OnOk result (IsField (encode_utf8_all submodel.now) × IsField (path_text path.now.steps)
         × IsField (compact_text value.now)) }
 {
-    let mut payload = path_payload(alloc, 16, submodel, path)?;
-    push_field(&mut payload, &value.text(alloc)?)?;
-    Ok(payload)
+    let path = written(alloc, path)?;
+    let text = value.text(alloc)?;
+    fields(alloc, 16, &[submodel.as_str().as_bytes(), &path, &text])
 }
 
 /// The payload of a command on the element to which a path leads.
@@ -230,13 +229,10 @@ fn one_field(alloc: Global, tag: u8, content: &[u8]) -> Result<Vec<u8>, EncodeFa
         (IsFaultOf (bytes_of (tagged tag (content.now ∷ [])))) }
     ensures field { OnOk result (IsField content.now) }
 {
-    let mut payload = Vec::from_slice(alloc, &[tag])?;
-    push_field(&mut payload, content)?;
-    Ok(payload)
+    fields(alloc, tag, &[content])
 }
 
 /// The payload of a tag and two fields, whose contents are UTF-8.
-#[tactic(auto, using(crate::proofs::Payloads::longer))]
 fn two_fields(alloc: Global, tag: u8, first: &[u8], second: &[u8]) -> Result<Vec<u8>, EncodeFault>
     requires first { IsUtf8 first.now }
     requires second { IsUtf8 second.now }
@@ -245,9 +241,29 @@ fn two_fields(alloc: Global, tag: u8, first: &[u8], second: &[u8]) -> Result<Vec
         (IsFaultOf (bytes_of (tagged tag (first.now ∷ second.now ∷ [])))) }
     ensures fields { OnOk result (IsField first.now × IsField second.now) }
 {
-    let mut payload = one_field(alloc, tag, first)?;
-    push_field(&mut payload, second)?;
+    fields(alloc, tag, &[first, second])
+}
+
+/// The payload of a tag and fields, whose contents are UTF-8. Its room is taken at once.
+#[tactic(auto, using(crate::proofs::Payloads::utf8_at, crate::proofs::Payloads::too_long_at))]
+fn fields(alloc: Global, tag: u8, contents: &[&[u8]]) -> Result<Vec<u8>, EncodeFault>
+    requires { Each IsUtf8 (lent contents.now) }
+    ensures payload { MatchResult result
+        (λ payload. payload.items ≡ bytes_of (tagged tag (lent contents.now)))
+        (IsFaultOf (bytes_of (tagged tag (lent contents.now)))) }
+    ensures fields { OnOk result (Each IsField (lent contents.now)) }
+{
+    let mut payload = Vec::with_capacity(alloc, room(contents))?;
+    payload.extend_from_slice(&[tag])?;
+    for content in contents {
+        push_field(&mut payload, content)?;
+    }
     Ok(payload)
+}
+
+/// How many bytes a tag and fields take.
+fn room(contents: &[&[u8]]) -> usize {
+    contents.iter().fold(1usize, |sum, content| sum.saturating_add(4 + content.len()))
 }
 
 /// Appends a field, whose content is UTF-8.

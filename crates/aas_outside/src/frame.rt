@@ -32,7 +32,8 @@ impl Frame {
         ensures { IfOk result (λ frame. frame ≡ payload.now) }
     {
         let size = payload.len() as u32;
-        let mut bytes = Vec::from_slice(alloc, &size.to_be_bytes())?;
+        let mut bytes = Vec::with_capacity(alloc, payload.len() + 5)?;
+        bytes.extend_from_slice(&size.to_be_bytes())?;
         bytes.extend_from_slice(payload)?;
         bytes.extend_from_slice(&[0])?;
         Ok(Frame { bytes })
