@@ -5,6 +5,7 @@ use Rattle.aas_model.specs.declared.common.Common.{Common}
 use Rattle.aas_model.specs.declared.element.Element.{Element, fold-Element, out-Element}
 use Rattle.aas_model.specs.declared.element.Element.TheOpen.{Element-F}
 use Rattle.aas_model.specs.declared.element.Role.{Role}
+use Rattle.aas_model.specs.declared.element.Role.TheVariants as role
 use Rattle.aas_model.specs.declared.payload.Payload.{Payload}
 use Rattle.aas_model.specs.declared.payload.Payload.TheVariants as p
 use Rattle.aas_model.specs.declared.path.PathStep.{PathStep}
@@ -18,6 +19,26 @@ pub record Own : Type 0 where
 
 abbrev pub own_of : Element → Own
 own_of e = record { common = (out-Element e).common; payload = (out-Element e).payload; role = (out-Element e).role }
+
+abbrev pub no_attributes : Common
+no_attributes = record {
+  id_short = None;
+  category = None;
+  description = [];
+  display_name = [];
+  extensions = [];
+  embedded_data_specifications = [];
+  semantics = record { semantic_id = None; supplemental_semantic_ids = [] };
+  qualifiers = [];
+}
+
+-- an element that has nothing but these of the attributes that every element has
+abbrev pub of_common : Common → Own
+of_common c = record { common = c; payload = p.Capability; role = role.Member }
+
+-- an element that has none of them
+abbrev pub of_payload : Payload → Own
+of_payload x = record { common = no_attributes; payload = x; role = role.Member }
 
 -- a place: whether the document has kind Template, its path, its parent (none under the document), its earlier siblings in order, and what stands there
 pub record Site : Type 0 where

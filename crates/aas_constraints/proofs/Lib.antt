@@ -1,3 +1,4 @@
+pub mod Attributes
 pub mod Folded
 pub mod Lists
 pub mod Split

@@ -35,7 +35,7 @@ above : (n : ℕ) (ns : List ℕ) → rise_above n ns ≡ true → AreAbove n ns
 above n [] e = tt
 above n (m ∷ ms) e = let p = and_parts (nat_lt n m) (rise_above m ms) e in (ltb-true n m p.0, above m ms p.1)
 
-rising : (ns : List ℕ) → rise ns ≡ true → Rise ns
+pub rising : (ns : List ℕ) → rise ns ≡ true → Rise ns
 rising [] e = tt
 rising (n ∷ ns) e = above n ns e
 

@@ -2,9 +2,11 @@
 use Rattle.std.specs.Prelude.{ℕ, Bool, true, List, Option}
 use Rattle.aas_model.specs.declared.reference.Reference.{Reference}
 use Rattle.aas_reference.specs.Rules.{Rule, failing, first}
-use Rattle.aas_constraint_rules.specs.Rules.{ElementSentence, local, placed, rules}
+use Rattle.aas_constraint_rules.specs.Rules.{ElementSentence, local, placed, holds_locally, rules}
 use Rattle.aas_constraint_rules.specs.Sentences.{Sentence, holds_of}
-use Rattle.aas_constraint_rules.specs.Sites.{Own, Site}
+use Rattle.aas_constraint_rules.specs.Sites.{Own, Site, of_common, of_payload}
+use Rattle.aas_model.specs.declared.common.Common.{Common}
+use Rattle.aas_model.specs.declared.payload.Payload.{Payload}
 use Rattle.aas_constraint_parts.specs.Tests.{first_failed, tests}
 
 -- what is wanted of an element alone, apart from its references
@@ -23,6 +25,17 @@ own_fault rs d = first_failed (tests (λ s. s.itself d) rs)
 
 abbrev pub own_element_fault : Own → Option ℕ
 own_element_fault o = first_failed (tests (λ s. itself s o) rules)
+
+-- the least number that an element breaks by itself
+abbrev pub local_fault : Own → Option ℕ
+local_fault o = first (failing (λ s. holds_locally s o) rules)
+
+-- the least number that is broken by the attributes that every element has, and by those of a kind
+abbrev pub common_fault : Common → Option ℕ
+common_fault c = local_fault (of_common c)
+
+abbrev pub payload_fault : Payload → Option ℕ
+payload_fault x = local_fault (of_payload x)
 
 -- the least number that is broken by a place
 abbrev pub place_fault : Site → Option ℕ

@@ -1,13 +1,10 @@
 ghost use Rattle.std.specs.Prelude.{◌≡◌, ◌||◌, not, is_some, is_none, IfOk, List};
 ghost use Rattle.std.specs.Option.{option_copied};
-ghost use Rattle.std.specs.List.{list_all};
-ghost use Rattle.aas_constraint_rules.specs.Attributes.{lang_texts_of, payload_lang_texts, payload_specific_asset_ids, references_of, seen_of, texts_of_languages};
-ghost use Rattle.aas_constraint_rules.specs.Decided.{is_string};
+ghost use Rattle.aas_constraint_rules.specs.Attributes.{payload_lang_texts, payload_specific_asset_ids, seen_of};
 ghost use Rattle.aas_constraint_rules.specs.Rules.{agree, element_has_form, is_managed, semantics_have_main, stands_in_operation, texts_are_strings};
 ghost use Rattle.aas_constraint_rules.specs.Sites.{Own, stands_in_list};
-ghost use Rattle.aas_constraints.specs.Own.{own_element_fault, place_fault};
-ghost use Rattle.aas_constraint_parts.specs.References.{references_fault};
-ghost use Rattle.aas_constraint_rules.specs.Sites.{own_of};
+ghost use Rattle.aas_constraints.specs.Own.{common_fault, local_fault, payload_fault, place_fault};
+ghost use Rattle.aas_constraint_rules.specs.Sites.{of_common, of_payload, own_of};
 ghost use Rattle.aas_constraints.specs.Walk.{Knows, above_of, place};
 
 use crate::demands::{
@@ -21,7 +18,7 @@ use aas_constraint_parts::{
     specific_asset_ids_have_form, specific_asset_ids_have_main, subjects_are_external,
 };
 use aas_model::{
-    Element, EntityType, LangText, NoMemory, Payload, Reference, SpecificAssetId, Text,
+    Common, Element, EntityType, LangText, NoMemory, Payload, Reference, SpecificAssetId, Text,
 };
 use aas_reference::least;
 use std::alloc::Global;
@@ -68,45 +65,49 @@ fn lang_texts(payload: &Payload) -> &[LangText]
 }
 
 #[tactic(auto, using(aas_constraint_parts::proofs::Lists::all_append))]
-fn element_has_form(e: &Element) -> bool
-    ensures { result ≡ element_has_form (own_of e.now) }
+fn common_has_form(common: &Common) -> bool
+    ensures { result ≡ element_has_form (of_common common.now) }
 {
-    id_short_is_short(&e.common.id_short)
-        && extensions_have_form(e.common.extensions.as_slice())
-        && qualifiers_have_types(e.common.qualifiers.as_slice())
-        && specific_asset_ids_have_form(specific_asset_ids(&e.payload))
-        && languages_have_form(e.common.description.as_slice())
-        && languages_have_form(e.common.display_name.as_slice())
-        && languages_have_form(lang_texts(&e.payload))
-        && payload_has_form(&e.payload)
-}
-
-#[tactic(auto, using(aas_constraint_parts::proofs::Lists::all_flat_append))]
-fn languages_are_strings(e: &Element) -> bool
-    ensures { result ≡ list_all is_string (texts_of_languages (lang_texts_of (own_of e.now))) }
-{
-    are_strings(e.common.description.as_slice())
-        && are_strings(e.common.display_name.as_slice())
-        && are_strings(lang_texts(&e.payload))
+    id_short_is_short(&common.id_short)
+        && extensions_have_form(common.extensions.as_slice())
+        && qualifiers_have_types(common.qualifiers.as_slice())
+        && languages_have_form(common.description.as_slice())
+        && languages_have_form(common.display_name.as_slice())
 }
 
 #[tactic(auto, using(aas_constraint_parts::proofs::Lists::all_append))]
-fn texts_are_strings(e: &Element) -> bool
-    ensures { result ≡ texts_are_strings (seen_of (own_of e.now)) }
+fn payload_is_formed(payload: &Payload) -> bool
+    ensures { result ≡ element_has_form (of_payload payload.now) }
 {
-    e.common.is_of_strings()
-        && e.payload.is_of_strings()
-        && languages_are_strings(e)
-        && are_strings(specific_asset_ids(&e.payload))
+    specific_asset_ids_have_form(specific_asset_ids(payload))
+        && languages_have_form(lang_texts(payload))
+        && payload_has_form(payload)
 }
 
-fn semantics_have_main(e: &Element) -> bool
-    ensures { result ≡ semantics_have_main (seen_of (own_of e.now)) }
+#[tactic(auto, using(aas_constraint_parts::proofs::Lists::all_append, aas_constraint_parts::proofs::Lists::all_flat_append))]
+fn common_is_of_strings(common: &Common) -> bool
+    ensures { result ≡ texts_are_strings (seen_of (of_common common.now)) }
 {
-    has_main_semantics(&e.common.semantics)
-        && qualifiers_have_main(e.common.qualifiers.as_slice())
-        && extensions_have_main(e.common.extensions.as_slice())
-        && specific_asset_ids_have_main(specific_asset_ids(&e.payload))
+    common.is_of_strings()
+        && are_strings(common.description.as_slice())
+        && are_strings(common.display_name.as_slice())
+}
+
+#[tactic(auto, using(aas_constraint_parts::proofs::Lists::all_append))]
+fn payload_is_of_strings(payload: &Payload) -> bool
+    ensures { result ≡ texts_are_strings (seen_of (of_payload payload.now)) }
+{
+    payload.is_of_strings()
+        && are_strings(lang_texts(payload))
+        && are_strings(specific_asset_ids(payload))
+}
+
+fn common_has_main(common: &Common) -> bool
+    ensures { result ≡ semantics_have_main (seen_of (of_common common.now)) }
+{
+    has_main_semantics(&common.semantics)
+        && qualifiers_have_main(common.qualifiers.as_slice())
+        && extensions_have_main(common.extensions.as_slice())
 }
 
 /// Whether no earlier sibling has its idShort, or the element is a variable. AASd-022.
@@ -148,23 +149,43 @@ fn variable_is_new(above: Option<&Element>, is_repeat: bool) -> bool
     !stands_in_operation(above) || !is_repeat
 }
 
-/// The least number that the element breaks by itself, but for its references.
-pub(crate) fn own_fault(alloc: Global, e: &Element) -> Result<Option<u16>, NoMemory>
-    ensures { IfOk result (λ n. n ≡ own_element_fault (own_of e.now)) }
+/// The least number that the attributes break that every element has.
+fn common_fault(alloc: Global, common: &Common) -> Result<Option<u16>, NoMemory>
+    ensures { IfOk result (λ n. n ≡ common_fault common.now) }
 {
-    let common = &e.common;
     let qualifiers = common.qualifiers.as_slice();
-    Ok(first_failed(&[
-        (0, element_has_form(e)),
+    let itself = first_failed(&[
+        (0, common_has_form(common)),
         (2, id_short_is_name(&common.id_short)),
-        (14, is_managed(&e.payload)),
         (20, qualifiers_have_form(qualifiers)),
         (21, qualifiers_differ(alloc, qualifiers)?),
         (77, extensions_differ(alloc, common.extensions.as_slice())?),
-        (118, semantics_have_main(e)),
-        (130, texts_are_strings(e)),
-        (133, subjects_are_external(specific_asset_ids(&e.payload))),
-    ]))
+        (118, common_has_main(common)),
+        (130, common_is_of_strings(common)),
+    ]);
+    Ok(least(itself, common.references_fault()))
+}
+
+/// The least number that the attributes of a kind break, whatever else the element has.
+pub fn payload_fault(payload: &Payload) -> Option<u16>
+    ensures { result ≡ payload_fault payload.now }
+{
+    let ids = specific_asset_ids(payload);
+    let itself = first_failed(&[
+        (0, payload_is_formed(payload)),
+        (14, is_managed(payload)),
+        (118, specific_asset_ids_have_main(ids)),
+        (130, payload_is_of_strings(payload)),
+        (133, subjects_are_external(ids)),
+    ]);
+    least(itself, payload.references_fault())
+}
+
+/// The least number that the element breaks by itself.
+pub(crate) fn own_fault(alloc: Global, e: &Element) -> Result<Option<u16>, NoMemory>
+    ensures { IfOk result (λ n. n ≡ local_fault (own_of e.now)) }
+{
+    Ok(least(common_fault(alloc, &e.common)?, payload_fault(&e.payload)))
 }
 
 /// The least number that the element breaks at its place, of whose earlier siblings is known what `Knows` says.
@@ -193,12 +214,4 @@ pub(crate) fn place_fault(
         ),
         (134, variable_is_new(above, is_repeat)),
     ])
-}
-
-/// The least number that the references of the element break.
-#[tactic(auto, using(aas_constraint_parts::proofs::Least::fault_append))]
-pub(crate) fn element_references_fault(e: &Element) -> Option<u16>
-    ensures { result ≡ references_fault (references_of (own_of e.now)) }
-{
-    least(e.common.references_fault(), e.payload.references_fault())
 }

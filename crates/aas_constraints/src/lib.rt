@@ -14,4 +14,5 @@ pub use check::{
     check_child, check_concept, check_element, check_shell, check_submodel, local_fault,
 };
 pub use documents::is_template;
+pub use element::payload_fault;
 pub use place::step_to;

@@ -7,7 +7,7 @@ ghost use Rattle.aas_json_table.specs.Rows.{first_of};
 ghost use Rattle.aas_constraints.specs.Walk.{above_of, Knows, first_broken};
 
 use crate::demands::stands_in_list;
-use crate::element::{element_references_fault, own_fault, place_fault};
+use crate::element::{own_fault, place_fault};
 use aas_constraint_parts::is_id_short;
 use aas_model::{Duplicate, Element, NoMemory, PathStep, Reference};
 use aas_reference::least;
@@ -46,7 +46,7 @@ pub(crate) fn first_broken(
 ) -> Result<Option<u16>, NoMemory>
     ensures { IfOk result (λ n. (b : List Own) → Knows b (own_of e.now).common.id_short is_repeat (option_copied lead.entry) → n ≡ first_broken scope in_template (above_of above.entry) b (own_of e.now)) }
 {
-    let local = least(own_fault(alloc, e)?, element_references_fault(e));
+    let local = own_fault(alloc, e)?;
     match scope {
         Scope::Everything => Ok(least(local, place_fault(e, in_template, above, is_repeat, lead))),
         Scope::Local => Ok(local),

@@ -12,7 +12,7 @@ use Rattle.aas_model.specs.declared.payload.Payload.{Payload}
 use Rattle.aas_model.specs.declared.payload.Payload.TheVariants as payload
 use Rattle.aas_model_names.specs.declared.kind.Kind.{Kind}
 use Rattle.aas_constraint_rules.specs.Faults.{faults, faults_at, is_template, submodel, HasNoFault}
-use Rattle.aas_constraint_rules.specs.Sites.{Own, Trees, none, first, root, sites_among, stands_in_list, named_or, tree_of, trees}
+use Rattle.aas_constraint_rules.specs.Sites.{Own, no_attributes, Trees, none, first, root, sites_among, stands_in_list, named_or, tree_of, trees}
 use Rattle.aas_constraint_rules.proofs.Elements.{under_fault}
 use Rattle.aas_lemmas.proofs.Lists.{no_first, no_second}
 use Rattle.aas_path_trees.specs.Children.{kids_of}
@@ -27,7 +27,7 @@ use Rattle.aas_constraint_laws.proofs.Changed.{local_here, local_among, free, fr
 use Rattle.aas_constraint_laws.proofs.Places.{all_none_placed, all_local, same_placed}
 use Rattle.aas_constraint_laws.proofs.StaysWhole.{same_changed, same_with, same_with_child}
 use Rattle.aas_constraint_laws.proofs.Bridge.{document_alike, own_faults}
-use Rattle.aas_value_update.specs.Update.{body, no_attributes}
+use Rattle.aas_value_update.specs.Update.{body}
 use Rattle.aas_value_update.proofs.Alone.{fields}
 use Rattle.aas_value_update.proofs.Rest.{bare_at}
 

@@ -6,6 +6,7 @@ pub mod Level
 pub mod Rows
 pub mod Natives
 pub mod Parts
+pub mod OneRow
 pub mod Ordered
 pub mod Languages
 pub mod Words

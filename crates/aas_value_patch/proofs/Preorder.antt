@@ -56,7 +56,7 @@ then_gathered k ks s ss seen old mid new a b =
 
 -- ---- an element itself, and then its children
 
-same_kind : (x y : Payload) → without_values y ≡ without_values x → kind_of y ≡ kind_of x
+pub same_kind : (x y : Payload) → without_values y ≡ without_values x → kind_of y ≡ kind_of x
 same_kind x y e = sym (kind_bare y) ∙ ap kind_of e ∙ kind_bare x
   where
     kind_bare : (x : Payload) → kind_of (without_values x) ≡ kind_of x

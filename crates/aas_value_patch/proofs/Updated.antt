@@ -22,12 +22,12 @@ use Rattle.aas_value_update.specs.Kinds.{part_of, lay}
 use Rattle.aas_value_update.specs.Laws.{IsInOrder}
 use Rattle.aas_value_update.specs.Parts.{Part, children, object_of, over, fits_form}
 use Rattle.aas_value_update.specs.Shape.{HasShape, first_misshapen, sendable, among, by_names}
-use Rattle.aas_value_update.specs.Update.{IsElementUpdate, no_attributes, body}
+use Rattle.aas_value_update.specs.Update.{IsElementUpdate, body}
 use Rattle.aas_value_update.proofs.Elements.{child_is, part_at}
 use Rattle.aas_value_update.proofs.Order.{order_below, body_kids}
 use Rattle.aas_value_update.proofs.Rest.{differ_in_values, unshown_stays}
 use Rattle.aas_value_update.proofs.Sent.{misshapen_made}
-use Rattle.aas_constraint_rules.specs.Sites.{Own}
+use Rattle.aas_constraint_rules.specs.Sites.{Own, no_attributes}
 use Rattle.aas_value_patch.specs.Faults.{IsPatchFault, Shapes, fault_of}
 use Rattle.aas_value_patch.specs.declared.fault.PatchFault.{PatchFault}
 use Rattle.aas_value_patch.specs.declared.fault.Stop.{Stop}

@@ -50,7 +50,7 @@ pub kids_differ : (e : Element) → IsInOrder e → is_list_payload (out-Element
 unfolding element_in
 kids_differ e order none = order.names [] e refl none
 
-kids_named : (e : Element) → IsInOrder e → NamedIn (out-Element e).payload (map part_of (kids_of e))
+pub kids_named : (e : Element) → IsInOrder e → NamedIn (out-Element e).payload (map part_of (kids_of e))
 kids_named e order = named_in (out-Element e).payload (kids_of e) (kids_differ e order)
 
 pub kids_in_order : (e : Element) → IsInOrder e → AllInOrder (kids_of e)

@@ -1,3 +1,4 @@
+pub mod Childless
 pub mod Counted
 pub mod Faults
 pub mod Gathered

@@ -1,12 +1,16 @@
--- Why a sent value can't be taken.
-use Rattle.std.specs.Prelude.{◌≡◌, ◌==◌, if◌then◌else◌, Some, None, IsSome, ⊤}
+-- What is prepared for a sent value, and why it can't be taken.
+use Rattle.std.specs.Prelude.{◌≡◌, ◌==◌, if◌then◌else◌, List, [], Some, None, IsSome, ⊤}
 use Rattle.serde_json.specs.Data.{Data}
 use Rattle.aas_model_names.specs.declared.modifiers.Extent.TheVariants as extent
-use Rattle.aas_model.specs.declared.element.Element.{Element}
+use Rattle.aas_model.specs.declared.element.Element.{Element, out-Element}
+use Rattle.aas_model.specs.declared.patch.PatchRow.{PatchRow}
+use Rattle.aas_model.specs.declared.payload.Payload.{Payload}
+use Rattle.aas_path_trees.specs.Patched.{Fits, kinds, patched}
 use Rattle.aas_model.specs.declared.path.Fault.{Fault}
 use Rattle.aas_reference.specs.Rules.{first}
 use Rattle.aas_constraint_laws.specs.Law.{local_faults}
 use Rattle.aas_value.specs.ValueForm.{value_form}
+use Rattle.aas_value_update.specs.Laws.{IsInOrder}
 use Rattle.aas_value_update.specs.Shape.{first_misshapen}
 use Rattle.aas_value_update.specs.Update.{IsElementUpdate}
 use Rattle.aas_value_patch.specs.declared.fault.PatchFault.{PatchFault}
@@ -35,3 +39,17 @@ IsValueFault e v (fault.Shape path) = IsSome (value_form extent.WithBlobValue e)
 IsValueFault e v (fault.Lexical path) = Breaks e v (record { number = 0; path = path })
 IsValueFault e v (fault.Constraint f) = Breaks e v f × ¬ (f.number ≡ 0)
 IsValueFault e v fault.NoMemory = ⊤
+
+-- ---- an element alone
+
+-- e has these attributes of its kind, and is as an element of a valid submodel is
+pub record Bears (x : Payload) (e : Element) : Type 0 where
+  pub payload : (out-Element e).payload ≡ x
+  pub order : IsInOrder e
+  pub faultless : local_faults e ≡ []
+
+-- by these rows e takes v, and breaks nothing by itself
+pub record IsPreparedFor (e : Element) (v : Data) (rows : List PatchRow) : Type 0 where
+  pub fits : Fits (kinds e) rows
+  pub update : IsElementUpdate e v (patched rows e 0).0
+  pub faultless : local_faults (patched rows e 0).0 ≡ []

@@ -6,6 +6,7 @@
 #![tactic(auto)]
 
 mod canonical;
+mod childless;
 mod fault;
 mod gather;
 mod leaves;
@@ -18,6 +19,7 @@ mod sent;
 mod slots;
 mod step;
 
+pub use childless::prepare_leaf;
 pub use fault::PatchFault;
 pub use patch::{patch_for, patch_for_submodel};
 pub use preparing::{ValueFault, prepare, prepare_submodel};

@@ -68,7 +68,7 @@ impl From<PatchFault> for ValueFault {
     }
 }
 
-fn fault_by(fault: Fault) -> ValueFault
+pub(crate) fn fault_by(fault: Fault) -> ValueFault
     ensures { result ≡ fault_by fault }
 {
     if fault.number == 0 {

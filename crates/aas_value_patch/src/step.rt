@@ -1,9 +1,11 @@
-ghost use Rattle.std.specs.Prelude.{map};
+ghost use Rattle.std.specs.Prelude.{◌≡◌, List, false, map};
 ghost use Rattle.serde_json.specs.View.{view};
 ghost use Rattle.aas_json_spelling.specs.Values.{IsOrdered};
 ghost use Rattle.aas_model.specs.declared.element.Element.{out-Element};
 ghost use Rattle.aas_value_update.specs.Kinds.{part_of};
 ghost use Rattle.aas_value_update.specs.Laws.{IsInOrder};
+ghost use Rattle.aas_value_update.specs.Parts.{Part};
+ghost use Rattle.aas_value.specs.ValueForm.{shows_children};
 ghost use Rattle.aas_value_patch.specs.Steps.{Stepped};
 
 use crate::fault::Misfit;
@@ -35,6 +37,37 @@ pub(crate) fn own_step<'v>(
 {
     let kids = &element.kids;
     match &element.payload {
+        Payload::AnnotatedRelationshipElement { first, second } => {
+            annotated_step(alloc, first, second, kids, sent)
+        }
+        Payload::Entity {
+            entity_type,
+            global_asset_id,
+            specific_asset_ids,
+        } => entity_step(
+            alloc,
+            *entity_type,
+            global_asset_id,
+            specific_asset_ids,
+            kids,
+            sent,
+        ),
+        Payload::SubmodelElementCollection => collection_step(kids, sent),
+        Payload::SubmodelElementList { .. } => list_step(&element.payload, kids, sent),
+        leaf => leaf_step(alloc, leaf, sent),
+    }
+}
+
+/// The same of an element whose value form shows no children.
+pub(crate) fn leaf_step<'v>(
+    alloc: Global,
+    payload: &Payload,
+    sent: &'v Value,
+) -> Result<Step<'v>, Misfit>
+    requires { shows_children payload.now ≡ false }
+    ensures { (xs : List Part) → IsOrdered (view sent.now) → Stepped result payload.now xs (view sent.now) }
+{
+    match payload {
         Payload::Property {
             value_type,
             value_id,
@@ -58,25 +91,11 @@ pub(crate) fn own_step<'v>(
         Payload::RelationshipElement { first, second } => {
             relationship_step(alloc, first, second, sent)
         }
-        Payload::AnnotatedRelationshipElement { first, second } => {
-            annotated_step(alloc, first, second, kids, sent)
-        }
-        Payload::Entity {
-            entity_type,
-            global_asset_id,
-            specific_asset_ids,
-        } => entity_step(
-            alloc,
-            *entity_type,
-            global_asset_id,
-            specific_asset_ids,
-            kids,
-            sent,
-        ),
-        Payload::BasicEventElement { .. } => event_step(alloc, &element.payload, sent),
-        Payload::Capability => Err(Misfit::Shape),
-        Payload::Operation => Err(Misfit::Shape),
-        Payload::SubmodelElementCollection => collection_step(kids, sent),
-        Payload::SubmodelElementList { .. } => list_step(&element.payload, kids, sent),
+        Payload::BasicEventElement { .. } => event_step(alloc, payload, sent),
+        Payload::Capability | Payload::Operation => Err(Misfit::Shape),
+        Payload::AnnotatedRelationshipElement { .. }
+        | Payload::Entity { .. }
+        | Payload::SubmodelElementCollection
+        | Payload::SubmodelElementList { .. } => unreachable!(),
     }
 }

@@ -22,7 +22,8 @@ use Rattle.aas_path_trees.proofs.Paths.{child_by-there}
 use Rattle.aas_constraint_laws.specs.Valid.{IsValid}
 use Rattle.aas_constraint_laws.proofs.Siblings.{siblings_differ}
 use Rattle.aas_value_update.specs.Laws.{NamesDiffer, IsInOrder}
-use Rattle.aas_value_update.specs.Update.{no_attributes, body}
+use Rattle.aas_value_update.specs.Update.{body}
+use Rattle.aas_constraint_rules.specs.Sites.{no_attributes}
 use Rattle.aas_value_update.proofs.Alone.{kids_made}
 
 pub names_below : (e : Element) → NamesDiffer e → (i : ℕ) (k : Element) → slice_get (kids_of e) i ≡ Some k → NamesDiffer k

@@ -3,7 +3,6 @@
 use Rattle.std.specs.Prelude.{◌≡◌, List, [], ◌∷◌, Option, Some, None, option_map}
 use Rattle.serde_json.specs.Data.{Data}
 use Rattle.aas_model_names.specs.declared.modifiers.Extent.TheVariants as extent
-use Rattle.aas_model.specs.declared.common.Common.{Common}
 use Rattle.aas_model.specs.declared.documents.Submodel.{Submodel}
 use Rattle.aas_model.specs.declared.element.Element.{Element, roll-Element}
 use Rattle.aas_model.specs.declared.element.Role.TheVariants as role
@@ -12,6 +11,7 @@ use Rattle.aas_model.specs.declared.payload.Payload.TheVariants as payload
 use Rattle.aas_path_trees.specs.ElementAt.{element_at}
 use Rattle.aas_path_trees.specs.WithElement.{with_element}
 use Rattle.aas_constraint_laws.specs.Values.{DifferInValues}
+use Rattle.aas_constraint_rules.specs.Sites.{no_attributes}
 use Rattle.aas_value.specs.ValueForm.{value_form}
 use Rattle.aas_value_update.specs.Kinds.{lay}
 use Rattle.aas_value_update.specs.LeftAlone.{unshown}
@@ -37,18 +37,6 @@ pub record IsUpdateAt (d : Submodel) (p : List PathStep) (v : Data) (d' : Submod
   pub update : IsElementUpdate old v new
   -- everything outside p is as it was
   pub outside : d' ≡ with_element d p new
-
-abbrev pub no_attributes : Common
-no_attributes = record {
-  id_short = None;
-  category = None;
-  description = [];
-  display_name = [];
-  extensions = [];
-  embedded_data_specifications = [];
-  semantics = record { semantic_id = None; supplemental_semantic_ids = [] };
-  qualifiers = [];
-}
 
 -- a submodel as an object of its children, as a SubmodelElementCollection is one
 abbrev pub body : Submodel → Element
