@@ -25,3 +25,4 @@ pub use lost::not_found;
 pub use planning::plan;
 pub use plans::{Plan, measure_plan, pour_plan};
 pub use pouring::pour_document;
+pub use stored_elements::refusal_of;

@@ -16,8 +16,8 @@ use aas_step::valid_submodels_are_storable;
 use aas_store::{Lack, RowView, Store};
 use std::alloc::Global;
 
-/// Why nothing is told of an element.
-fn refusal_of(alloc: Global, path: &Path, lack: Lack) -> Refusal
+/// Why a request on an element is refused, by what a store says of it.
+pub fn refusal_of(alloc: Global, path: &Path, lack: Lack) -> Refusal
     ensures { (result ≡ refused.NoMemory) ⊎ IsRefusalOf path.now.steps lack result }
 {
     match lack {

@@ -10,14 +10,13 @@ use Rattle.aas_model.specs.declared.parts.Qualifier.{Qualifier}
 use Rattle.aas_model.specs.declared.parts.SpecificAssetId.{SpecificAssetId}
 use Rattle.aas_model.specs.declared.payload.Payload.{Payload}
 use Rattle.aas_model.specs.declared.reference.Reference.{Reference}
-use Rattle.aas_reference.specs.Rules.{Rule, failing, first, if_any}
+use Rattle.aas_reference.specs.Rules.{Rule, first, if_any}
 use Rattle.aas_reference.specs.Faults.{least}
 use Rattle.aas_reference.proofs.Faults.{least_of_both}
-use Rattle.aas_constraint_rules.specs.Attributes.{all_texts, common_references, common_texts, lang_texts_of, payload_lang_texts, payload_references, payload_specific_asset_ids, payload_texts, references_of, seen_of, specific_asset_id_texts, texts_of_languages}
+use Rattle.aas_constraint_rules.specs.Attributes.{common_references, common_texts, lang_texts_of, payload_lang_texts, payload_references, payload_specific_asset_ids, payload_texts, references_of, seen_of, specific_asset_id_texts, texts_of_languages}
 use Rattle.aas_constraint_rules.specs.Decided.{is_language, is_string}
 use Rattle.aas_constraint_rules.specs.Lexical.{extension_has_form, payload_has_form, qualifier_has_form, specific_asset_id_has_form}
-use Rattle.aas_constraint_rules.specs.Rules.{ElementSentence, element_has_form, extensions_differ, has_main_semantics, holds_locally, id_short_is_name, local, placed, qualifiers_differ, qualifiers_have_form, rules, semantics_have_main, texts_are_strings}
-use Rattle.aas_constraint_rules.specs.Sentences.{Sentence, holds_of}
+use Rattle.aas_constraint_rules.specs.Rules.{ElementSentence, element_has_form, has_main_semantics, holds_locally, local, placed, rules, semantics_have_main, texts_are_strings}
 use Rattle.aas_constraint_rules.specs.Sites.{Own, of_common, of_payload}
 use Rattle.aas_constraint_parts.proofs.Lists.{all_append, all_flat_append}
 use Rattle.aas_constraints.specs.Own.{common_fault, itself, local_fault, payload_fault}
@@ -125,9 +124,49 @@ module _ (o : Own) where
   -- ---- the table
 
   itself_in_two : AllByRecursion (λ (r : Rule ElementSentence). itself r.sentence o ≡ (itself r.sentence common_own && itself r.sentence kind_own)) rules
-  itself_in_two =
-      (form_in_two, (and_true _, (refl, (and_true _, (and_true _, (refl, (and_true _, (refl, (refl, (refl, (refl, (refl, (main_in_two, (refl,
-      (refl, (refl, (refl, (refl, (refl, (refl, (refl, (refl, (refl, (texts_in_two, (refl, (refl, tt))))))))))))))))))))))))))
+  itself_in_two = (
+    form_in_two,
+    (
+      and_true _,
+      (
+        refl,
+        (
+          and_true _,
+          (
+            and_true _,
+            (
+              refl,
+              (
+                and_true _,
+                (
+                  refl,
+                  (
+                    refl,
+                    (
+                      refl,
+                      (
+                        refl,
+                        (
+                          refl,
+                          (
+                            main_in_two,
+                            (
+                              refl,
+                              (refl, (refl, (refl, (refl, (refl, (refl, (refl, (refl, (refl, (texts_in_two, (refl, (refl, tt)))))))))))),
+                            ),
+                          ),
+                        ),
+                      ),
+                    ),
+                  ),
+                ),
+              ),
+            ),
+          ),
+        ),
+      ),
+    ),
+  )
 
   references_in_two : (test : Reference → Bool) → list_all test (references_of o) ≡ (list_all test (references_of common_own) && list_all test (references_of kind_own))
   references_in_two test = apart test (common_references o.common) (payload_references o.payload)

@@ -1,5 +1,5 @@
 -- What an update of values comes to, by the place that its path leads to.
-use Rattle.std.proofs.Common.{◌≡◌, ◌⊎◌, ℕ, Bool, true, false, List, [], ◌∷◌, ◌++◌, map as each, Option, Some, None, Result, Ok, Err, refl, sym, ap, ap₂, ◌∙◌, subst}
+use Rattle.std.proofs.Common.{◌≡◌, ◌⊎◌, inl, inr, ℕ, Bool, true, false, List, [], ◌∷◌, ◌++◌, map as each, Option, Some, None, Result, Ok, Err, refl, sym, ap, ap₂, ◌∙◌, subst}
 use Rattle.std.specs.Prelude.{◌≢◌, ◌==◌, if◌then◌else◌, is_some, IfErr, IsErr, IsErrAnd, MatchOption, nat_lt, take, option_and_then, option_map}
 use Rattle.std.specs.FinMap as map
 use Rattle.std.specs.Option.{option_map_or}
@@ -39,8 +39,16 @@ use Rattle.aas_step.specs.Step.{later_causes}
 use Rattle.aas_step.specs.Valid.{AreValid}
 use Rattle.aas_store.specs.Documents.{Documents, with_submodel}
 use Rattle.aas_store.specs.Edited.{FitsAt, Holds, LeadsNowhere, patched_at, with_changed}
+use Rattle.aas_store.specs.Reads.{IsRowOf}
+use Rattle.aas_store.specs.declared.lack.Lack.{Lack}
+use Rattle.aas_store.specs.declared.lack.Lack.TheVariants as lack
+use Rattle.aas_rows.specs.Rows.{Line}
+use Rattle.aas_rows.specs.declared.view.RowView.{RowView}
+use Rattle.aas_answer.specs.Found.{IsRefusalOf}
+use Rattle.aas_lemmas.proofs.Lists.{no_map}
+use Rattle.aas_path_trees.proofs.Paths.{with_element-same}
 use Rattle.aas_value.specs.ValueForm.{Child, as_child, child_of, value_form, value_over}
-use Rattle.aas_value_patch.specs.Prepared.{Breaks, IsValueFault}
+use Rattle.aas_value_patch.specs.Prepared.{Bears, Breaks, IsValueFault}
 use Rattle.aas_value_patch.specs.declared.preparing.ValueFault.{ValueFault}
 use Rattle.aas_value_patch.specs.declared.preparing.ValueFault.TheVariants as fault
 use Rattle.aas_value_update.specs.Kinds.{form_of}
@@ -295,6 +303,16 @@ element_missing d id bytes p v m r same some there made other =
         let why = is_missing_at s p.steps m.steps r _ (some_steps p.steps some) nowhere.0 nowhere.1 made other in
         refused_in d id p v s is r why.0 why.1
 
+pub lack_refuses : (d : Documents) (id bytes : List ℕ) (p : Path) (v : Data) (l : Lack) (r : Refusal) → bytes ≡ encode_utf8_all id → p.steps ≢ []
+    → (l ≡ lack.NoSubmodel → map.get d.submodels bytes ≡ None) → ((m : Missing) → l ≡ lack.NoElement m → Holds d bytes (λ s. LeadsNowhere s p.steps m))
+    → (r ≡ NoMemory) ⊎ IsRefusalOf p.steps l r → r ≢ NoMemory → IsRefused d (UpdateValue id p v) r
+lack_refuses d id bytes p v l r same some none nowhere (inl is) other = absurd (other is)
+lack_refuses d id bytes p v lack.NoSubmodel r same some none nowhere (inr is) other =
+    subst (IsRefused d (UpdateValue id p v)) (sym is) (submodel_missing d id p v (ap (map.get d.submodels) (sym same) ∙ none refl))
+lack_refuses d id bytes p v (lack.NoElement m) r same some none nowhere (inr is) other =
+    element_missing d id bytes p v m r same some (nowhere m refl) (inr is) other
+lack_refuses d id bytes p v lack.NoMemory r same some none nowhere (inr is) other = absurd (other is)
+
 -- e is what the path leads to in the submodel of the identifier
 pub record IsStored (d : Documents) (id : List ℕ) (p : List PathStep) (e : Element) : Type 0 where
   pub submodel : Submodel
@@ -315,6 +333,40 @@ element_stored d id p e valid there = by_submodel (map.get d.submodels (encode_u
     by_submodel (Some s) is found =
         let whole = (valid.submodels (encode_utf8_all id) s is).valid in
         record { submodel = s; there = is; at = at_steps s p whole found; order = order_at s p e whole found }
+
+-- x are the attributes of the kind of what the path leads to
+pub record IsBorne (d : Documents) (id : List ℕ) (p : List PathStep) (x : Payload) : Type 0 where
+  pub element : Element
+  pub found : Holds d (encode_utf8_all id) (λ s. element_at s p ≡ Some element)
+  pub bears : Bears x element
+
+pub row_borne : (d : Documents) (id : List ℕ) (p : List PathStep) (row : RowView) → AreValid d
+    → Holds d (encode_utf8_all id) (λ s. MatchOption (element_at s p) ⊥ (λ e. IsRowOf e row)) → IsBorne d id p row.payload.now
+row_borne d id p row valid there = by_submodel (map.get d.submodels (encode_utf8_all id)) refl there
+  where
+    nothing_local : (s : Submodel) (e : Element) → IsValid (submodel s) → element_at s p ≡ Some e → local_faults e ≡ []
+    nothing_local s e whole found =
+        no_map (behind p) (local_faults e) (sym (law s p e e whole.faultless found refl) ∙ ap faults (with_element-same s p e found) ∙ whole.faultless)
+
+    by_element : (s : Submodel) (o : Option Element) → map.get d.submodels (encode_utf8_all id) ≡ Some s → element_at s p ≡ o
+        → MatchOption o ⊥ (λ e. IsRowOf e row) → IsBorne d id p row.payload.now
+    by_element s None is found shown = absurd shown
+    by_element s (Some e) is found shown =
+        let whole = (valid.submodels (encode_utf8_all id) s is).valid in
+        record {
+          element = e;
+          found = subst (λ (o : Option Submodel). MatchOption o ⊥ (λ s. element_at s p ≡ Some e)) (sym is) found;
+          bears = record {
+            payload = sym (ap (λ (l : Line). l.payload) shown);
+            order = order_at s p e whole found;
+            faultless = nothing_local s e whole found;
+          };
+        }
+
+    by_submodel : (o : Option Submodel) → map.get d.submodels (encode_utf8_all id) ≡ o
+        → MatchOption o ⊥ (λ s. MatchOption (element_at s p) ⊥ (λ e. IsRowOf e row)) → IsBorne d id p row.payload.now
+    by_submodel None is found = absurd found
+    by_submodel (Some s) is found = by_element s (element_at s p) is refl found
 
 pub body_stored : (d : Documents) (id : List ℕ) (p : List PathStep) (s : Submodel) → AreValid d → p ≡ [] → map.get d.submodels (encode_utf8_all id) ≡ Some s
     → IsStored d id p (body s)

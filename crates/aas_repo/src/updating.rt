@@ -1,5 +1,5 @@
 // Commands on values: what a path leads to is copied, and by the copy a patch is prepared that the store takes at once.
-ghost use Rattle.std.specs.Prelude.{◌≡◌, ◌≢◌, ◌++◌, [], IfErr, IfOk, Some};
+ghost use Rattle.std.specs.Prelude.{◌≡◌, ◌≢◌, ◌++◌, [], IfErr, IfOk, MatchOption, Some};
 ghost use Rattle.std.specs.FinMap as map;
 ghost use Rattle.std.specs.Str.{encode_utf8_all};
 ghost use Rattle.serde_json.specs.Data.{Data};
@@ -11,16 +11,18 @@ ghost use Rattle.aas_model.specs.declared.path.Path as paths;
 ghost use Rattle.aas_path_trees.specs.ElementAt.{element_at};
 ghost use Rattle.aas_step.specs.Valid.{AreValid};
 ghost use Rattle.aas_store.specs.Edited.{FitsAt, Holds};
+ghost use Rattle.aas_store.specs.Reads.{IsRowOf};
 ghost use Rattle.aas_repo.specs.Decisions.{IsDecision};
 ghost use Rattle.aas_repo.specs.Patches.{IsPatchFor, IsRefused, refusal_behind};
 
 use crate::decision::Decision;
 use crate::editing::decision_of;
-use aas_answer::not_found;
+use aas_answer::refusal_of;
 use aas_command::{Absent, Refusal, SentValue};
 use aas_model::{Duplicate, Element, Fault, NoMemory, Patch, Path, Submodel, Text};
-use aas_store::{Lack, Store};
-use aas_value_patch::{ValueFault, prepare, prepare_submodel};
+use aas_store::{RowView, Store};
+use aas_value::shows_children;
+use aas_value_patch::{ValueFault, prepare, prepare_leaf, prepare_submodel};
 use std::alloc::Global;
 
 /// Updates the values of what the path leads to by a sent value, or refuses the command.
@@ -84,8 +86,34 @@ fn patch_for<S: Store>(
     }
 }
 
-/// The same at a path with steps. Only the element is copied.
+/// The same at a path with steps. Of an element whose value form shows no children, nothing but the attributes of its kind is
+/// looked at.
 fn patch_for_element<S: Store>(
+    alloc: Global,
+    store: &S,
+    id: &Text,
+    path: &Path,
+    value: &SentValue,
+) -> Result<Patch, Refusal>
+    requires valid { AreValid (S.documents store.now) }
+    requires ordered { IsOrdered value.now }
+    requires steps { path.now.steps ≢ [] }
+    ensures patch { IfOk result (λ patch. IsPatchFor (S.documents store.now) id.now path.now.steps value.now patch.rows) }
+    ensures refusal { IfErr result (λ refusal. refusal ≢ NoMemoryLeft →
+        IsRefused (S.documents store.now) (UpdateValue id.now path.now value.now) refusal) }
+{
+    let row = stored_row(alloc, store, id, path)?;
+    if shows_children(row.payload) {
+        return patch_for_parent(alloc, store, id, path, value);
+    }
+    match prepare_leaf(alloc, row.payload, value.as_value()) {
+        Ok(patch) => Ok(patch),
+        Err(fault) => Err(refusal_behind(path, fault)),
+    }
+}
+
+/// The same of any element, which is copied.
+fn patch_for_parent<S: Store>(
     alloc: Global,
     store: &S,
     id: &Text,
@@ -106,6 +134,26 @@ fn patch_for_element<S: Store>(
     }
 }
 
+/// The row of the element to which the path leads.
+fn stored_row<'s, S: Store>(
+    alloc: Global,
+    store: &'s S,
+    id: &Text,
+    path: &Path,
+) -> Result<RowView<'s>, Refusal>
+    requires valid { AreValid (S.documents store.now) }
+    requires steps { path.now.steps ≢ [] }
+    ensures found { IfOk result (λ row. Holds (S.documents store.now) (encode_utf8_all id.now)
+        (λ s. MatchOption (element_at s path.now.steps) ⊥ (λ e. IsRowOf e row))) }
+    ensures lost { IfErr result (λ refusal. refusal ≢ NoMemoryLeft → (v : Data) →
+        IsRefused (S.documents store.now) (UpdateValue id.now path.now v) refusal) }
+{
+    match store.row_at(id.as_str(), path) {
+        Ok(row) => Ok(row),
+        Err(lack) => Err(refusal_of(alloc, path, lack)),
+    }
+}
+
 /// A copy of the element to which the path leads.
 fn stored<S: Store>(alloc: Global, store: &S, id: &Text, path: &Path) -> Result<Element, Refusal>
     requires { path.now.steps ≢ [] }
@@ -115,11 +163,7 @@ fn stored<S: Store>(alloc: Global, store: &S, id: &Text, path: &Path) -> Result<
 {
     match store.element(id.as_str(), path) {
         Ok(element) => Ok(element),
-        Err(Lack::NoSubmodel) => Err(Refusal::NotFound {
-            what: Absent::Submodel,
-        }),
-        Err(Lack::NoElement(missing)) => Err(not_found(alloc, path, missing)),
-        Err(Lack::NoMemory) => Err(Refusal::NoMemory),
+        Err(lack) => Err(refusal_of(alloc, path, lack)),
     }
 }
 

@@ -1,14 +1,14 @@
 -- A value laid over an element whose value form shows no children, and what the element breaks then.
-use Rattle.std.proofs.Common.{◌≡◌, ℕ, ◌+◌, Bool, true, false, ◌&&◌, List, [], ◌∷◌, ◌++◌, map, flat_map, Option, Some, None, IsSome, is_some, option_map, slice_get, refl, sym, ap, ap₂, ◌∙◌, subst}
+use Rattle.std.proofs.Common.{◌≡◌, ℕ, ◌+◌, Bool, true, false, List, [], ◌∷◌, ◌++◌, map, flat_map, Option, Some, None, IsSome, is_some, option_map, slice_get, refl, sym, ap, ap₂, ◌∙◌, subst}
 use Rattle.std.specs.Prelude.{if◌then◌else◌, Result, Ok, Err, IfErr, IsErr, IsErrAnd}
 use Rattle.std.specs.List.{list_all}
 use Rattle.std.proofs.lemmas.List.{append-nil}
 use Rattle.std.proofs.lemmas.List.Elements.{All-cons, All-nil}
 use Rattle.aas_lemmas.proofs.Lists.{no_map}
-use Rattle.aas_lemmas.proofs.Truth.{and_left, None-from_is_some}
+use Rattle.aas_lemmas.proofs.Truth.{and_left}
 use Rattle.serde_json.specs.Data.{Data}
 use Rattle.aas_model.specs.Payload.{kind_of}
-use Rattle.aas_model.specs.declared.element.Element.{Element, Element-F, out-Element, roll-Element, out-roll-Element, fold-Element, fold_out-Element}
+use Rattle.aas_model.specs.declared.element.Element.{Element, Element-F, out-Element, out-roll-Element, fold-Element, fold_out-Element}
 use Rattle.aas_model.specs.declared.patch.PatchRow.{PatchRow}
 use Rattle.aas_model.specs.declared.path.Fault.{Fault}
 use Rattle.aas_model.specs.declared.payload.Payload.{Payload}
@@ -17,29 +17,26 @@ use Rattle.aas_model_names.specs.declared.modifiers.Extent.TheVariants as extent
 use Rattle.aas_reference.specs.Rules.{failing, first}
 use Rattle.aas_constraint_rules.specs.Faults.{fault}
 use Rattle.aas_constraint_rules.specs.Rules.{holds_locally, rules}
-use Rattle.aas_constraint_rules.specs.Sites.{Own, Trees, own_of, sites, sites_among, tree_of, trees}
+use Rattle.aas_constraint_rules.specs.Sites.{Own, own_of, sites, sites_among, tree_of, trees}
 use Rattle.aas_constraint_rules.proofs.Elements.{tree_out}
 use Rattle.aas_constraint_laws.specs.Law.{local_faults, local_faults_at}
-use Rattle.aas_constraint_laws.specs.Values.{without_values}
 use Rattle.aas_constraints.specs.Own.{local_fault, payload_fault}
 use Rattle.aas_constraints.proofs.Attributes.{payload_decides}
 use Rattle.aas_json_mapping.specs.Whole.{Placed, admits, placed_over}
 use Rattle.aas_json_mapping.proofs.Elements.{made_out}
 use Rattle.aas_path_trees.specs.Children.{kids_of}
-use Rattle.aas_path_trees.specs.Patched.{Fits, kinds, kinds_of_all, patched}
+use Rattle.aas_path_trees.specs.Patched.{Fits, kinds, patched}
 use Rattle.aas_path_trees.proofs.Patches.{kinds_out}
 use Rattle.aas_value.specs.ValueForm.{Child, shows_children, value_form}
 use Rattle.aas_value_update.specs.Kinds.{form_of, part_of}
-use Rattle.aas_value_update.specs.Laws.{IsInOrder}
 use Rattle.aas_value_update.specs.LeftAlone.{has_value}
 use Rattle.aas_value_update.specs.Parts.{Part, children, fits_form, value}
-use Rattle.aas_value_update.specs.Shape.{HasShape, Sendable, among, first_misshapen, nothing_sent, sendable, sent}
+use Rattle.aas_value_update.specs.Shape.{HasShape, Sendable, among, nothing_sent, sendable, sent}
 use Rattle.aas_value_update.specs.Update.{IsElementUpdate}
 use Rattle.aas_value_update.proofs.Elements.{child_is, part_at}
 use Rattle.aas_value_patch.specs.Childless.{IsLaid, RefusesLaying, row_of}
 use Rattle.aas_value_patch.specs.Gathered.{AreTaken, HasTaken}
 use Rattle.aas_value_patch.specs.Prepared.{Bears, IsPreparedFor, IsValueFault, fault_by, fault_of_patch}
-use Rattle.aas_value_patch.specs.Swapped.{first_payload}
 use Rattle.aas_value_patch.specs.Takes.{Takes}
 use Rattle.aas_value_patch.specs.declared.fault.PatchFault.{PatchFault}
 use Rattle.aas_value_patch.specs.declared.fault.PatchFault.TheVariants as patch_fault
@@ -48,7 +45,7 @@ use Rattle.aas_value_patch.proofs.Faultless.{broken, no_first}
 use Rattle.aas_value_patch.proofs.Leaf.{leaf_patched, with_payload}
 use Rattle.aas_value_patch.proofs.Level.{level_taken}
 use Rattle.aas_value_patch.proofs.Preorder.{same_kind}
-use Rattle.aas_value_patch.proofs.Updated.{formless, updated}
+use Rattle.aas_value_patch.proofs.Updated.{updated}
 use Rattle.aas_value_patch.proofs.Walk.{kids_named, misshapen_at, misshapen_here}
 
 -- ---- its value form
@@ -190,7 +187,7 @@ module _ (e : Element) (x : Payload) (v : Data) (rows : List PatchRow) (bears : 
       })
 
   patched_is : (patched rows e 0).0 ≡ new
-  patched_is = leaf_patched e rows alone fits ∙ ap (λ l. with_payload e (first_payload l (out-Element e).payload)) is.row
+  patched_is = ap (λ (l : List PatchRow). (patched l e 0).0) is.row ∙ leaf_patched e is.payload alone
 
   update : IsElementUpdate e v new
   update = laid_update e x v bears hides there is.payload is.fits is.takes
@@ -214,7 +211,7 @@ refused e x v patch_fault.NoValueForm bears form none = absurd none
 refused e x v (patch_fault.Shape path) bears form refuses = (
   some (value_form extent.WithBlobValue e) form,
   misshapen_here e v (ap (λ (y : Payload). fits_form (form_of y (map part_of (kids_of e))) v) bears.payload ∙ refuses.1 (map part_of (kids_of e)))
-  ∙ ap Some (sym refuses.0),
+      ∙ ap Some (sym refuses.0),
 )
   where
     some : (f : Option Data) → is_some f ≡ true → IsSome f

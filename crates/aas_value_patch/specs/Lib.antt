@@ -5,5 +5,4 @@ pub mod Gathered
 pub mod Prepared
 pub mod Sent
 pub mod Steps
-pub mod Swapped
 pub mod Takes

@@ -3,24 +3,21 @@ ghost use Rattle.serde_json.specs.View.{view};
 ghost use Rattle.aas_constraint_laws.specs.Law.{local_faults};
 ghost use Rattle.aas_json_spelling.specs.Values.{IsOrdered};
 ghost use Rattle.aas_reference.specs.Rules.{first};
-ghost use Rattle.aas_path_trees.specs.Children.{kids_of};
 ghost use Rattle.aas_path_trees.specs.Patched.{Fits, kinds, kinds_of_all, patched, patched_submodel};
 ghost use Rattle.aas_value_update.specs.Laws.{IsInOrder};
 ghost use Rattle.aas_value_update.specs.Update.{IsElementUpdate, IsSubmodelUpdate, body};
 ghost use Rattle.aas_value_patch.specs.Prepared.{IsValueFault, fault_by};
-ghost use Rattle.aas_value_patch.specs.Swapped.{first_payload, with_first_payload};
 
 use crate::fault::PatchFault;
 use crate::patch::{patch_for, patch_for_submodel};
 use aas_constraints::local_fault;
 use aas_model::{
-    Common, Duplicate, Element, Fault, Many, NoMemory, Patch, PatchRow, Path, Payload, Role,
-    Semantics, Submodel,
+    Common, Duplicate, Element, Fault, Many, NoMemory, Patch, Path, Payload, Role, Semantics,
+    Submodel,
 };
 use aas_path::{apply, apply_all};
 use serde_json::Value;
 use std::alloc::Global;
-use std::mem;
 use thiserror::Error;
 
 /// Why a sent value can't be taken.
@@ -98,53 +95,6 @@ fn first_fault(alloc: Global, element: Element) -> Result<Option<Fault>, NoMemor
     found
 }
 
-/// Swaps the payload for that of the first row, if there is one.
-fn swap_payload(payload: &mut Payload, rows: &mut Many<PatchRow>)
-    ensures payload { payload.new ≡ first_payload rows.old payload.old }
-    ensures rows { rows.new ≡ with_first_payload rows.old payload.old }
-{
-    if let Some(row) = rows.get_mut(0) {
-        mem::swap(payload, &mut row.payload);
-    }
-}
-
-/// The first fault that an element without children has by itself with the payload of the first row. Both get back what they
-/// had.
-fn first_fault_of_leaf(
-    alloc: Global,
-    leaf: &mut Element,
-    rows: &mut Many<PatchRow>,
-) -> Result<Option<Fault>, NoMemory>
-    requires leaf { kids_of leaf.old ≡ [] }
-    requires fits { Fits (kinds leaf.old) rows.old }
-    ensures found { IfOk result (λ found. found ≡ first (local_faults (patched rows.old leaf.old 0).0)) }
-    ensures same_leaf { leaf.new ≡ leaf.old }
-    ensures same_rows { rows.new ≡ rows.old }
-{
-    swap_payload(&mut leaf.payload, rows);
-    let found = local_fault(alloc, leaf);
-    swap_payload(&mut leaf.payload, rows);
-    found
-}
-
-/// The first fault that the element has by itself with the patch. One with children takes a copy of the patch for this, one
-/// without is as before.
-fn first_fault_with(
-    alloc: Global,
-    element: &mut Element,
-    patch: &mut Patch,
-) -> Result<Option<Fault>, NoMemory>
-    requires { Fits (kinds element.old) patch.old.rows }
-    ensures found { IfOk result (λ found. found ≡ first (local_faults (patched patch.old.rows element.old 0).0)) }
-    ensures same { patch.new ≡ patch.old }
-{
-    if element.kids.is_empty() {
-        return first_fault_of_leaf(alloc, element, &mut patch.rows);
-    }
-    apply(element, patch.copy()?);
-    local_fault(alloc, element)
-}
-
 /// The patch by which the element, at rank 0, takes a sent value: what the value leaves out stays, and the element keeps each
 /// rule that it can break wherever it stands. The patch is tried on the element itself, so that nothing is promised of it
 /// afterwards.
@@ -162,8 +112,9 @@ pub fn prepare(alloc: Global, element: &mut Element, value: &Value) -> Result<Pa
     ensures faultless { IfOk result (λ patch. local_faults (patched patch.rows element.old 0).0 ≡ []) }
     ensures fault { IfErr result (λ fault. IsValueFault element.old (view value.now) fault) }
 {
-    let mut patch = patch_for(alloc, element, value)?;
-    match first_fault_with(alloc, element, &mut patch)? {
+    let patch = patch_for(alloc, element, value)?;
+    apply(element, patch.copy()?);
+    match local_fault(alloc, element)? {
         None => Ok(patch),
         Some(fault) => Err(fault_by(fault)),
     }
