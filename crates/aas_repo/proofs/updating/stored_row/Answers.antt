@@ -1,4 +1,4 @@
-use Rattle.std.proofs.Common.{Err, sym, ap, subst}
+use Rattle.std.proofs.Common.{Err, ap, subst}
 use Rattle.std.specs.Prelude.{ℕ, List, MatchOption}
 use Rattle.aas_path_trees.specs.ElementAt.{element_at}
 use Rattle.aas_store.specs.Edited.{Holds}
