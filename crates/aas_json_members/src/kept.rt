@@ -45,6 +45,7 @@ fn plains_in(alloc: Global, items: &Vec<Value>) -> Result<Many<Plain>, NoMemory>
     ensures { IfOk result (λ found. onto (map spell_plain found) no_items ≡ canonical_items (items_view items.now.items) plain) }
 {
     let mut found = Many::new(alloc);
+    found.reserve(items.len())?;
     for item in items {
         add_plain(&mut found, plain_of(alloc, item)?)?;
     }

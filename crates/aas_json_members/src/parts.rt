@@ -56,6 +56,7 @@ fn list_in<P: Part>(alloc: Global, items: &Vec<Value>) -> Result<Many<P::Tree>, 
     ensures { IfOk result (λ found. onto (map P.spell found) no_items ≡ canonical_items (items_view items.now.items) (one P.sort)) }
 {
     let mut found = Many::new(alloc);
+    found.reserve(items.len())?;
     for item in items {
         add_found::<P>(&mut found, P::tree(alloc, item)?)?;
     }

@@ -157,6 +157,7 @@ fn submodels_in(alloc: Global, items: &Vec<Value>) -> Result<Many<Submodel>, NoM
     ensures shape { IfOk result (λ found. Each IsShapedSubmodel found) }
 {
     let mut found = Many::new(alloc);
+    found.reserve(items.len())?;
     for item in items {
         add_found(&mut found, submodel_of(alloc, item)?)?;
     }

@@ -155,6 +155,7 @@ fn items_after(
     ensures { IfOk result (λ all. AddsItems role before all no_items (canonical_items (items_view items.now.items) (one (sort_under role)))) }
 {
     let mut all = before;
+    all.reserve(items.len())?;
     for item in items {
         add_found(&mut all, child_of(alloc, item, role)?)?;
     }

@@ -85,6 +85,16 @@ impl<T> Many<T> {
     {
         self.items.get_mut(place)
     }
+
+    /// Takes room for so many more items at once.
+    pub fn reserve(&mut self, more: usize) -> Result<(), NoMemory>
+        ensures { self.new ≡ self.old }
+    {
+        match self.items.try_reserve_exact(more) {
+            Ok(()) => Ok(()),
+            Err(_) => Err(NoMemory),
+        }
+    }
 }
 
 impl<T: Drop> Many<T> {
@@ -134,6 +144,7 @@ impl<T> From<Vec<T>> for Many<T> {
 impl<T: Duplicate> Duplicate for Many<T> {
     fn copy(&self) -> Result<Many<T>, NoMemory> {
         let mut copies = Many::new(self.alloc());
+        copies.reserve(self.len())?;
         for item in self.as_slice() {
             copies.push(item.copy()?)?;
         }

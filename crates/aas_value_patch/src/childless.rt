@@ -82,6 +82,7 @@ fn patch_of(alloc: Global, payload: Payload) -> Result<Patch, NoMemory>
     ensures { IfOk result (λ patch. patch.rows ≡ row_of payload) }
 {
     let mut rows = Many::new(alloc);
+    rows.reserve(1)?;
     rows.push(PatchRow { rank: 0, payload })?;
     Ok(Patch { rows })
 }
