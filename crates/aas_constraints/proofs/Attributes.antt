@@ -1,5 +1,6 @@
 -- An element breaks by itself what the attributes break that every element has, and what those of its kind break.
-use Rattle.std.proofs.Common.{◌≡◌, ℕ, Bool, true, false, ◌&&◌, not, cond, List, [], ◌∷◌, ◌++◌, length, map, filter, flat_map, Option, Some, None, refl, sym, ap, ap₂, ◌∙◌}
+use Rattle.std.proofs.Common.{◌≡◌, ℕ, Bool, true, false, ◌&&◌, not, cond, List, [], ◌∷◌, ◌++◌, length, map, filter, flat_map, Option, Some, None}
+use Rattle.std.proofs.Common.{refl, sym, ap, ap₂, ◌∙◌}
 use Rattle.std.specs.List.{AllByRecursion, list_all}
 use Rattle.std.specs.Prelude.{nat_le}
 use Rattle.std.proofs.lemmas.List.{append-nil}
@@ -13,10 +14,13 @@ use Rattle.aas_model.specs.declared.reference.Reference.{Reference}
 use Rattle.aas_reference.specs.Rules.{Rule, first, if_any}
 use Rattle.aas_reference.specs.Faults.{least}
 use Rattle.aas_reference.proofs.Faults.{least_of_both}
-use Rattle.aas_constraint_rules.specs.Attributes.{common_references, common_texts, lang_texts_of, payload_lang_texts, payload_references, payload_specific_asset_ids, payload_texts, references_of, seen_of, specific_asset_id_texts, texts_of_languages}
+use Rattle.aas_constraint_rules.specs.Attributes.{common_references, common_texts, lang_texts_of, payload_lang_texts, payload_references}
+use Rattle.aas_constraint_rules.specs.Attributes.{payload_specific_asset_ids, payload_texts, references_of, seen_of, specific_asset_id_texts}
+use Rattle.aas_constraint_rules.specs.Attributes.{texts_of_languages}
 use Rattle.aas_constraint_rules.specs.Decided.{is_language, is_string}
 use Rattle.aas_constraint_rules.specs.Lexical.{extension_has_form, payload_has_form, qualifier_has_form, specific_asset_id_has_form}
-use Rattle.aas_constraint_rules.specs.Rules.{ElementSentence, element_has_form, has_main_semantics, holds_locally, local, placed, rules, semantics_have_main, texts_are_strings}
+use Rattle.aas_constraint_rules.specs.Rules.{ElementSentence, element_has_form, has_main_semantics, holds_locally, local, placed, rules}
+use Rattle.aas_constraint_rules.specs.Rules.{semantics_have_main, texts_are_strings}
 use Rattle.aas_constraint_rules.specs.Sites.{Own, of_common, of_payload}
 use Rattle.aas_constraint_parts.proofs.Lists.{all_append, all_flat_append}
 use Rattle.aas_constraints.specs.Own.{common_fault, itself, local_fault, payload_fault}
@@ -65,7 +69,8 @@ module _ (o : Own) where
       by_parts true true false i = refl
       by_parts true true true i = refl
 
-  languages : (test : LangText → Bool) → list_all test (lang_texts_of o) ≡ (list_all test (lang_texts_of common_own) && list_all test (lang_texts_of kind_own))
+  languages : (test : LangText → Bool) → list_all test (lang_texts_of o)
+      ≡ (list_all test (lang_texts_of common_own) && list_all test (lang_texts_of kind_own))
   languages test = apart test (o.common.description ++ o.common.display_name) (payload_lang_texts o.payload)
 
   form_in_two : IsInTwo element_has_form
@@ -112,7 +117,8 @@ module _ (o : Own) where
       strings =
           let c = o.common.description ++ o.common.display_name in
           all_flat_append is_string texts c (payload_lang_texts o.payload)
-          ∙ ap (λ l. list_all is_string (flat_map texts l) && list_all is_string (flat_map texts (payload_lang_texts o.payload))) (sym (append-nil c))
+          ∙ ap (λ l. list_all is_string (flat_map texts l) && list_all is_string (flat_map texts (payload_lang_texts o.payload)))
+          (sym (append-nil c))
 
       by_parts : (t p c l i : Bool) → (((t && p) && (c && l)) && i) ≡ ((t && c) && ((p && l) && i))
       by_parts false p c l i = refl
@@ -123,7 +129,10 @@ module _ (o : Own) where
 
   -- ---- the table
 
-  itself_in_two : AllByRecursion (λ (r : Rule ElementSentence). itself r.sentence o ≡ (itself r.sentence common_own && itself r.sentence kind_own)) rules
+  abbrev IsRowInTwo : Rule ElementSentence → Type 0
+  IsRowInTwo r = itself r.sentence o ≡ (itself r.sentence common_own && itself r.sentence kind_own)
+
+  itself_in_two : AllByRecursion IsRowInTwo rules
   itself_in_two = (
     form_in_two,
     (
@@ -168,16 +177,20 @@ module _ (o : Own) where
     ),
   )
 
-  references_in_two : (test : Reference → Bool) → list_all test (references_of o) ≡ (list_all test (references_of common_own) && list_all test (references_of kind_own))
+  references_in_two : (test : Reference → Bool) → list_all test (references_of o)
+      ≡ (list_all test (references_of common_own) && list_all test (references_of kind_own))
   references_in_two test = apart test (common_references o.common) (payload_references o.payload)
 
-  sentence_in_two : (s : ElementSentence) → itself s o ≡ (itself s common_own && itself s kind_own) → holds_locally s o ≡ (holds_locally s common_own && holds_locally s kind_own)
+  sentence_in_two : (s : ElementSentence) → itself s o ≡ (itself s common_own && itself s kind_own)
+      → holds_locally s o ≡ (holds_locally s common_own && holds_locally s kind_own)
   sentence_in_two (local s) h = ap₂ (λ a b. a && b) h (references_in_two s.each_reference)
-      ∙ regroup (s.itself common_own) (s.itself kind_own) (list_all s.each_reference (references_of common_own)) (list_all s.each_reference (references_of kind_own))
+      ∙ regroup (s.itself common_own) (s.itself kind_own) (list_all s.each_reference (references_of common_own))
+      (list_all s.each_reference (references_of kind_own))
   sentence_in_two (placed test) h = refl
 
-  all_in_two : (rs : List (Rule ElementSentence)) → AllByRecursion (λ (r : Rule ElementSentence). itself r.sentence o ≡ (itself r.sentence common_own && itself r.sentence kind_own)) rs
-      → filter (λ r. not (holds_locally r.sentence o)) rs ≡ filter (λ r. not (holds_locally r.sentence common_own && holds_locally r.sentence kind_own)) rs
+  all_in_two : (rs : List (Rule ElementSentence)) → AllByRecursion IsRowInTwo rs
+      → filter (λ r. not (holds_locally r.sentence o)) rs
+      ≡ filter (λ r. not (holds_locally r.sentence common_own && holds_locally r.sentence kind_own)) rs
   all_in_two [] h = refl
   all_in_two (r ∷ rs) h = ap₂ (λ b l. cond (not b) (r ∷ l) l) (sentence_in_two r.sentence h.0) (all_in_two rs h.1)
 

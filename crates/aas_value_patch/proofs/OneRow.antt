@@ -1,5 +1,6 @@
 -- A value laid over an element whose value form shows no children, and what the element breaks then.
-use Rattle.std.proofs.Common.{◌≡◌, ℕ, ◌+◌, Bool, true, false, List, [], ◌∷◌, ◌++◌, map, flat_map, Option, Some, None, IsSome, is_some, option_map, slice_get, refl, sym, ap, ap₂, ◌∙◌, subst}
+use Rattle.std.proofs.Common.{◌≡◌, ℕ, ◌+◌, Bool, true, false, List, [], ◌∷◌, ◌++◌, map, flat_map, Option, Some, None, IsSome, is_some, option_map}
+use Rattle.std.proofs.Common.{slice_get, refl, sym, ap, ap₂, ◌∙◌, subst}
 use Rattle.std.specs.Prelude.{if◌then◌else◌, Result, Ok, Err, IfErr, IsErr, IsErrAnd}
 use Rattle.std.specs.List.{list_all}
 use Rattle.std.proofs.lemmas.List.{append-nil}
@@ -57,7 +58,8 @@ form_is e b h = ap (λ (c : Child). is_some c.form) (child_is e) ∙ h
 has_values : (e : Element) → is_some (part_of e).child.form ≡ true → has_value (out-Element e).payload ≡ true
 has_values e there =
     let x = out-Element e in
-    by_kind x.payload (map part_of x.kids) (sym (ap (λ (q : Part). is_some q.child.form) (ap part_of (sym (made_out e)) ∙ part_at x.role x.common x.payload x.kids)) ∙ there)
+    let out = ap part_of (sym (made_out e)) ∙ part_at x.role x.common x.payload x.kids in
+    by_kind x.payload (map part_of x.kids) (sym (ap (λ (q : Part). is_some q.child.form) out) ∙ there)
   where
     by_kind : (x : Payload) (xs : List Part) → is_some (value (form_of x xs)) ≡ true → has_value x ≡ true
     by_kind p.Capability xs there = absurd (cc)
@@ -85,28 +87,35 @@ none_among o (k ∷ ks) (c ∷ cs) n = none_among o ks cs (n + 1)
 
 -- ---- the update
 
-module _ (e : Element) (x : Payload) (v : Data) (bears : Bears x e) (hides : shows_children x ≡ false) (there : is_some (part_of e).child.form ≡ true) where
+module _ (e : Element) (x : Payload) (v : Data) (bears : Bears x e) (hides : shows_children x ≡ false)
+    (there : is_some (part_of e).child.form ≡ true) where
+  abbrev HasFit : Type 0
+  HasFit = (xs : List Part) → fits_form (form_of x xs) v ≡ true
+
   own_hides : shows_children (out-Element e).payload ≡ false
   own_hides = ap shows_children bears.payload ∙ hides
 
-  fit : ((xs : List Part) → fits_form (form_of x xs) v ≡ true) → fits_form (form_of (out-Element e).payload (map part_of (kids_of e))) v ≡ true
+  fit : HasFit → fits_form (form_of (out-Element e).payload (map part_of (kids_of e))) v ≡ true
   fit fits = ap (λ (y : Payload). fits_form (form_of y (map part_of (kids_of e))) v) bears.payload ∙ fits (map part_of (kids_of e))
 
-  has_shape : ((xs : List Part) → fits_form (form_of x xs) v ≡ true) → HasShape e v
+  has_shape : HasFit → HasShape e v
   has_shape fits =
       let cs = children (map part_of (kids_of e)) in
       misshapen_at e v
-      ∙ ap₂ (λ b (ss : List (Option Data)). if b then among (own_of e) 0 (map sendable (kids_of e)) ss else Some []) (fit fits) (none_sent (out-Element e).payload cs v own_hides)
+      ∙ ap₂ (λ b (ss : List (Option Data)). if b then among (own_of e) 0 (map sendable (kids_of e)) ss else Some [])
+      (fit fits) (none_sent (out-Element e).payload cs v own_hides)
       ∙ none_among (own_of e) (map sendable (kids_of e)) cs 0
 
-  taken : (y : Payload) → ((xs : List Part) → fits_form (form_of x xs) v ≡ true) → Takes x v y → HasTaken e v (with_payload e y)
+  taken : (y : Payload) → HasFit → Takes x v y → HasTaken e v (with_payload e y)
   taken y fits takes =
       let o = out-Element e in
       subst (λ (z : Element). HasTaken z v (with_payload e y)) (made_out e)
-      (level_taken o.role o.common o.payload y o.kids o.kids v (fit fits) (kids_named e bears.order) (subst (λ (z : Payload). Takes z v y) (sym bears.payload) takes)
-      (subst (λ (ss : List (Option Data)). AreTaken o.kids ss o.kids) (sym (none_sent o.payload (children (map part_of o.kids)) v own_hides)) (all_stay o.kids)))
+      (level_taken o.role o.common o.payload y o.kids o.kids v (fit fits) (kids_named e bears.order)
+      (subst (λ (z : Payload). Takes z v y) (sym bears.payload) takes)
+      (subst (λ (ss : List (Option Data)). AreTaken o.kids ss o.kids)
+      (sym (none_sent o.payload (children (map part_of o.kids)) v own_hides)) (all_stay o.kids)))
 
-  laid_update : (y : Payload) → ((xs : List Part) → fits_form (form_of x xs) v ≡ true) → Takes x v y → IsElementUpdate e v (with_payload e y)
+  laid_update : (y : Payload) → HasFit → Takes x v y → IsElementUpdate e v (with_payload e y)
   laid_update y fits takes = updated e (with_payload e y) v there (has_shape fits) (taken y fits takes)
 
   -- ---- it stands alone
@@ -153,7 +162,8 @@ first_leaf_fault u none = ap first (leaf_faults u none) ∙ first_map (failing (
     first_map (n ∷ ns) = refl
 
 -- an element that breaks nothing by itself breaks with other attributes of its kind what these break
-pub breaks_then : (e : Element) (y : Payload) → kids_of e ≡ [] → local_faults e ≡ [] → first (local_faults (with_payload e y)) ≡ option_map (fault []) (payload_fault y)
+pub breaks_then : (e : Element) (y : Payload) → kids_of e ≡ [] → local_faults e ≡ []
+    → first (local_faults (with_payload e y)) ≡ option_map (fault []) (payload_fault y)
 breaks_then e y none faultless =
     let out = out-roll-Element (record (out-Element e) { payload = y }) in
     let own : own_of (with_payload e y) ≡ record (own_of e) { payload = y } =
@@ -178,12 +188,16 @@ module _ (e : Element) (x : Payload) (v : Data) (rows : List PatchRow) (bears : 
   abbrev new : Element
   new = with_payload e is.payload
 
+  abbrev Agrees : PatchRow → Type 0
+  Agrees r = slice_get (kinds e) r.rank ≡ Some (kind_of r.payload)
+
   fits : Fits (kinds e) rows
   fits =
       subst (Fits (kinds e)) (sym is.row) (record {
         rising = tt;
-        kinds_agree = All-cons (λ (r : PatchRow). slice_get (kinds e) r.rank ≡ Some (kind_of r.payload)) (record { rank = 0; payload = is.payload }) []
-            (ap (λ l. slice_get l 0) (kinds_out e) ∙ ap (λ (y : Payload). Some (kind_of y)) bears.payload ∙ ap Some (sym (same_kind x is.payload is.takes.rest))) (All-nil (λ (r : PatchRow). slice_get (kinds e) r.rank ≡ Some (kind_of r.payload)));
+        kinds_agree = All-cons Agrees (record { rank = 0; payload = is.payload }) []
+            (ap (λ l. slice_get l 0) (kinds_out e) ∙ ap (λ (y : Payload). Some (kind_of y)) bears.payload
+            ∙ ap Some (sym (same_kind x is.payload is.takes.rest))) (All-nil Agrees);
       })
 
   patched_is : (patched rows e 0).0 ≡ new
@@ -196,7 +210,9 @@ module _ (e : Element) (x : Payload) (v : Data) (rows : List PatchRow) (bears : 
   prepared none = record {
     fits = fits;
     update = subst (IsElementUpdate e v) (sym patched_is) update;
-    faultless = ap local_faults patched_is ∙ no_first (local_faults new) (sym (breaks_then e is.payload alone bears.faultless ∙ ap (option_map (fault [])) none));
+    faultless =
+        ap local_faults patched_is
+        ∙ no_first (local_faults new) (sym (breaks_then e is.payload alone bears.faultless ∙ ap (option_map (fault [])) none));
   }
 
   pub broken_by : (n : ℕ) (f : Fault) → f ≡ fault [] n → payload_fault is.payload ≡ Some n → IsValueFault e v (fault_by f)
@@ -205,7 +221,8 @@ module _ (e : Element) (x : Payload) (v : Data) (rows : List PatchRow) (bears : 
 
 -- ---- what is refused
 
-pub refused : (e : Element) (x : Payload) (v : Data) (f : PatchFault) → Bears x e → is_some (value_form extent.WithBlobValue e) ≡ true → RefusesLaying x v f
+pub refused : (e : Element) (x : Payload) (v : Data) (f : PatchFault) → Bears x e → is_some (value_form extent.WithBlobValue e) ≡ true
+    → RefusesLaying x v f
     → IsValueFault e v (fault_of_patch f)
 refused e x v patch_fault.NoValueForm bears form none = absurd none
 refused e x v (patch_fault.Shape path) bears form refuses = (
@@ -221,12 +238,15 @@ refused e x v patch_fault.NoMemory bears form any = tt
 
 -- ---- parts of the code
 
-pub handed_on : {A : Type 0} (r : Result A ValueFault) (x : Payload) (v : Data) (f : PatchFault) → IsErr r × IsErrAnd r (λ g. g ≡ fault_of_patch f) → RefusesLaying x v f
-    → ((e : Element) → Bears x e → is_some (value_form extent.WithBlobValue e) ≡ true) → IfErr r (λ g. (e : Element) → Bears x e → IsValueFault e v g)
+pub handed_on : {A : Type 0} (r : Result A ValueFault) (x : Payload) (v : Data) (f : PatchFault)
+    → IsErr r × IsErrAnd r (λ g. g ≡ fault_of_patch f) → RefusesLaying x v f
+    → ((e : Element) → Bears x e → is_some (value_form extent.WithBlobValue e) ≡ true)
+    → IfErr r (λ g. (e : Element) → Bears x e → IsValueFault e v g)
 handed_on (Ok a) x v f given refuses form = tt
 handed_on (Err g) x v f given refuses form = λ e bears. subst (IsValueFault e v) (sym given.1) (refused e x v f bears (form e bears) refuses)
 
-pub fault_of_row : (rows : List PatchRow) (x y : Payload) (found : Option PatchRow) (row : PatchRow) → rows ≡ row_of x → found ≡ slice_get rows 0 → found ≡ Some row
+pub fault_of_row : (rows : List PatchRow) (x y : Payload) (found : Option PatchRow) (row : PatchRow) → rows ≡ row_of x
+    → found ≡ slice_get rows 0 → found ≡ Some row
     → row.payload ≡ x
 fault_of_row rows x y found row is at some = ap (λ (o : Option PatchRow). payload_of o) (sym some ∙ at ∙ ap (λ l. slice_get l 0) is)
   where
