@@ -20,7 +20,7 @@ pub use lexical::{
     asset_has_form, extensions_have_form, head_has_form, id_short_is_name, id_short_is_short,
     languages_have_form, payload_has_form, qualifiers_have_types, specific_asset_ids_have_form,
 };
-pub use names::{extensions_differ, meet_name, qualifiers_differ};
+pub use names::{extensions_differ, meet_name, names_rise, qualifiers_differ};
 pub use parts::{
     extensions_have_main, has_main_semantics, is_template_or_none, qualifiers_have_form,
     qualifiers_have_main, specific_asset_ids_have_main, subjects_are_external,

@@ -1,12 +1,18 @@
-ghost use Rattle.std.specs.Prelude.{◌≡◌, ◌∷◌, [], ◌++◌, List, ℕ, filter_map, map, IfOk};
+ghost use Rattle.std.specs.Prelude.{◌≡◌, ◌∷◌, [], ◌++◌, List, ℕ, filter_map, length, map, IfOk};
 ghost use Rattle.std.specs.Prelude.{chars};
+ghost use Rattle.std.specs.Bool.{OnTrue};
+ghost use Rattle.std.specs.Cmp.Lexicographic.{slice_cmp};
+ghost use Rattle.std.specs.Option.{option_map, unwrap_or};
+ghost use Rattle.std.specs.Ordering.{is_lt, nat_cmp};
+ghost use Rattle.std.specs.Str.{encode_utf8_all};
 ghost use Rattle.aas_constraint_rules.specs.Texts.{all_differ, is_among};
-ghost use Rattle.aas_constraint_rules.specs.Sites.{Own};
+ghost use Rattle.aas_constraint_rules.specs.Sites.{Own, own_of};
 ghost use Rattle.aas_constraint_rules.specs.Rules.{name_of, is_repeat};
-ghost use Rattle.aas_constraint_parts.specs.Repeats.{HasTexts};
+ghost use Rattle.aas_constraint_parts.specs.Repeats.{HasTexts, NoRepeats};
 
-use aas_model::{Extension, NoMemory, Qualifier, Text};
+use aas_model::{Element, Extension, NoMemory, Qualifier, Text};
 use std::alloc::Global;
+use std::cmp::Ordering;
 use std::collections::BTreeSet;
 
 /// Whether the text is among those of the set, which has it from then on.
@@ -29,6 +35,38 @@ pub fn meet_name<'a>(set: &mut BTreeSet<&'a str>, name: &'a Option<Text>) -> Res
         Some(text) => Ok(meet(set, text.as_str())?),
         None => Ok(false),
     }
+}
+
+/// The idShort, or the empty text where there is none.
+fn text_of(name: &Option<Text>) -> &str
+    ensures { result.now ≡ unwrap_or (option_map encode_utf8_all name.now) [] }
+{
+    match name {
+        Some(text) => text.as_str(),
+        None => "",
+    }
+}
+
+/// Whether a text is less than the next, by length and then by bytes.
+fn is_less(text: &str, next: &str) -> bool
+    ensures { result ≡ is_lt (slice_cmp nat_cmp (length text.now ∷ text.now) (length next.now ∷ next.now)) }
+{
+    match text.len().cmp(&next.len()) {
+        Ordering::Less => true,
+        Ordering::Equal => text < next,
+        Ordering::Greater => false,
+    }
+}
+
+/// Whether the idShorts of the elements rise, by length and then by bytes, so that no two are alike. Those of numbered
+/// elements do.
+pub fn names_rise(elements: &[Element]) -> bool
+    ensures { OnTrue result (NoRepeats (map own_of elements.now)) }
+{
+    elements.is_sorted_by(|element, next| is_less(
+        text_of(&element.common.id_short),
+        text_of(&next.common.id_short),
+    ))
 }
 
 /// Whether no two qualifiers have one type. AASd-021.

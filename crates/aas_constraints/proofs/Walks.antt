@@ -1,7 +1,7 @@
 -- The first fault, one level and one child at a time.
 use Rattle.std.proofs.Common.{◌≡◌, ℕ, ◌+◌, ◌<◌, ◌≤◌, length-drop, List, [], ◌∷◌, ◌++◌, length, take, drop, get_or, map, flat_map, Option, Some, None, Bool, true, false, option_map, refl, sym, ap, ap₂, ◌∙◌, arith}
 use Rattle.std.proofs.lemmas.Grind.{flat_map-append}
-use Rattle.std.proofs.lemmas.List.{length-map, length-take, map-append, nil_from_length}
+use Rattle.std.proofs.lemmas.List.{length-map, length-take, map-append, nil_from_length, take-append-drop}
 use Rattle.std.proofs.lemmas.Simd.{map-map}
 use Rattle.aas_lemmas.proofs.Lists.{drop_at}
 use Rattle.aas_model.specs.declared.element.Element.{Element, out-Element}
@@ -15,7 +15,8 @@ use Rattle.aas_constraint_rules.specs.Attributes.{seen_of_submodel}
 use Rattle.aas_constraint_rules.specs.Faults.{document_faults, submodel_rules, is_template, sites_of, faults, fault, faults_at, element_faults}
 use Rattle.aas_constraint_rules.specs.Sentences.{Sentence, holds_of}
 use Rattle.aas_constraints.specs.Own.{least_broken}
-use Rattle.aas_constraint_rules.specs.Rules.{semantics_of, first_some, is_repeat}
+use Rattle.aas_constraint_rules.specs.Rules.{name_of, semantics_of, first_some, is_repeat}
+use Rattle.aas_constraint_parts.specs.Repeats.{NoRepeats}
 use Rattle.aas_json_table.specs.Rows.{first_of}
 use Rattle.aas_constraint_rules.proofs.Elements.{tree_out, under_fault}
 use Rattle.aas_constraints.specs.declared.place.Scope.{Scope}
@@ -96,6 +97,13 @@ lead_next ks i k l lt at h =
     let b = map own_of (take i ks) in
     ap (λ x. first_of x (semantics_of (own_of k))) h ∙ sym (first_some-last (map semantics_of b) (semantics_of (own_of k)))
     ∙ ap first_some (sym (map-append semantics_of b (own_of k ∷ []))) ∙ ap (λ bs. first_some (map semantics_of bs)) (sym (taken_map own_of ks i k lt at))
+
+-- where no child has the idShort of an earlier one
+pub no_repeat_at : (all ks : List Element) (i : ℕ) (k : Element) → i < length ks → k ≡ get_or ks i k → all ≡ ks → NoRepeats (map own_of all)
+    → is_repeat (map own_of (take i ks)) (name_of (own_of k)) ≡ false
+no_repeat_at all ks i k lt at same apart =
+    let parts = same ∙ sym (take-append-drop i ks) ∙ ap (λ xs. take i ks ++ xs) (drop_at ks i k lt at) in
+    apart _ (own_of k) (map own_of (drop (i + 1) ks)) (ap (map own_of) parts ∙ map-append own_of (take i ks) (k ∷ drop (i + 1) ks))
 
 -- ---- an element alone
 

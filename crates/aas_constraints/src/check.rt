@@ -10,7 +10,7 @@ ghost use Rattle.aas_constraints.specs.Walk.{above_of, Knows, found_in, found_am
 
 use crate::documents::{concept_fault, is_template, shell_fault, submodel_fault};
 use crate::place::{Scope, first_broken, first_semantics, step_to};
-use aas_constraint_parts::meet_name;
+use aas_constraint_parts::{meet_name, names_rise};
 use aas_model::{Concept, Element, Fault, Many, NoMemory, Path, Reference, Shell, Submodel};
 use std::alloc::Global;
 use std::collections::BTreeSet;
@@ -57,10 +57,11 @@ fn check_among(
 ) -> Result<Option<Fault>, NoMemory>
     ensures { IfOk result (λ f. f ≡ found_among scope in_template (above_of above.entry) [] kids.now) }
 {
+    let differ = names_rise(kids.as_slice());
     let mut names = BTreeSet::new(alloc);
     let mut lead = None;
     for (place, kid) in kids.as_slice().iter().enumerate() {
-        let is_repeat = meet_name(&mut names, &kid.common.id_short)?;
+        let is_repeat = !differ && meet_name(&mut names, &kid.common.id_short)?;
         if let Some(mut fault) = check_in(alloc, kid, scope, in_template, above, is_repeat, lead)? {
             fault.path.steps.insert(0, step_to(above, place, kid)?)?;
             return Ok(Some(fault));
