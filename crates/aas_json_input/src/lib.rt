@@ -5,13 +5,14 @@
 
 #![tactic(auto)]
 
-ghost use Rattle.std.specs.Prelude.{◌≡◌, None, Some, IfSome, length, ◌++◌, ◌∷◌, []};
+ghost use Rattle.std.specs.Prelude.{◌≡◌, None, Some, IfSome, length, ◌++◌, ◌∷◌, [], true, false};
 ghost use Rattle.std.specs.Bool.{OnTrue};
 ghost use Rattle.json.specs.Written.{PlainBetween};
 ghost use Rattle.aas_json_table.specs.Misfit.{misfit};
 ghost use Rattle.aas_json_table.specs.Table.{one};
-ghost use Rattle.serde_json.specs.Data.{string};
-ghost use Rattle.serde_json.specs.View.{view};
+ghost use Rattle.serde_json.specs.Data.{number, string};
+ghost use Rattle.serde_json.specs.Read.{number_from, number_of};
+ghost use Rattle.serde_json.specs.View.{number_view, view};
 ghost use Rattle.aas_json_table.specs.Seen.{sort_of, levels_of};
 ghost use Rattle.aas_json_spelling.specs.Reading.{reading};
 ghost use Rattle.aas_json_spelling.specs.Reads.{Reads, ReadsBytes};
@@ -23,7 +24,9 @@ use aas_json_table::pointer::pointer;
 use aas_json_table::table::{MemberType, Sort};
 use aas_json_table::too_deep::{Levels, too_deep};
 use aas_model::ReadFault;
-use serde_json::Value;
+use fast_float::Numeral;
+use json::is_number;
+use serde_json::{Number, Value};
 use std::alloc::Global;
 
 /// The JSON value that the bytes are read as. They are UTF-8 and one JSON text (RFC 8259), at most 127 arrays and objects
@@ -31,11 +34,14 @@ use std::alloc::Global;
 pub fn read_value(alloc: Global, bytes: &[u8]) -> Result<Value, ReadFault>
     ensures { GivesValue result (reading bytes.now) }
 {
-    match plain_string(bytes) {
-        Some(text) => match String::from_str(alloc, text) {
+    if let Some(text) = plain_string(bytes) {
+        return match String::from_str(alloc, text) {
             Ok(text) => Ok(Value::String(text)),
             Err(_) => Err(ReadFault::NoMemory),
-        },
+        };
+    }
+    match plain_number(bytes) {
+        Some(number) => Ok(Value::Number(number)),
         None => read_any(alloc, bytes),
     }
 }
@@ -57,7 +63,7 @@ fn read_any(alloc: Global, bytes: &[u8]) -> Result<Value, ReadFault>
 }
 
 /// The text of a string in which each byte stands for itself, where the bytes are one and nothing more. Most values that are
-/// sent alone are such strings, and need none of the scratch in which others are read.
+/// sent alone are such strings or numbers, and need none of the scratch in which others are read.
 #[tactic(auto, using(crate::proofs::Plain::reads_plain))]
 fn plain_string(bytes: &[u8]) -> Option<&str>
     ensures { IfSome result (λ text. reading bytes.now ≡ Some (string text.now)) }
@@ -87,6 +93,57 @@ fn is_plain(bytes: &[u8]) -> bool
     bytes
         .iter()
         .all(|byte| *byte >= 32 && *byte != b'"' && *byte != b'\\')
+}
+
+/// The number that the bytes are, where they are one and nothing more.
+fn plain_number(bytes: &[u8]) -> Option<Number>
+    ensures { IfSome result (λ n. reading bytes.now ≡ Some (number (number_view n))) }
+{
+    let first = bytes.first()?;
+    if *first != b'-' && !first.is_ascii_digit() {
+        return None;
+    }
+    number_in(str::from_utf8(bytes).ok()?)
+}
+
+/// The number that the text is, where it is one (RFC 8259, section 6).
+fn number_in(text: &str) -> Option<Number>
+    ensures { IfSome result (λ n. reading text.now ≡ Some (number (number_view n))) }
+{
+    if is_number(text) {
+        number_of(text)
+    } else {
+        None
+    }
+}
+
+/// The value of a number's text: an integer of 64 bits, or else the nearest float, where that is finite.
+#[tactic(auto, unfolding(serde_json::specs::Read::number_of))]
+fn number_of(text: &str) -> Option<Number>
+    ensures { IfSome result (λ n. number_of text.now ≡ Some (number_view n)) }
+{
+    match text.as_bytes() {
+        [b'-', digits @ ..] => negative(&Numeral::scan(digits)),
+        digits => unsigned(&Numeral::scan(digits)),
+    }
+}
+
+fn unsigned(numeral: &Numeral<'_>) -> Option<Number>
+    ensures { IfSome result (λ n. number_from false numeral.now ≡ Some (number_view n)) }
+{
+    match numeral.to_u64() {
+        Some(n) => Number::from_u128(n as u128),
+        None => Number::from_f64(numeral.to_float::<f64>(false)),
+    }
+}
+
+fn negative(numeral: &Numeral<'_>) -> Option<Number>
+    ensures { IfSome result (λ n. number_from true numeral.now ≡ Some (number_view n)) }
+{
+    match numeral.to_i64(true) {
+        Some(n) if n < 0 => Number::from_i128(n as i128),
+        _ => Number::from_f64(numeral.to_float::<f64>(true)),
+    }
 }
 
 /// Whether the value has no fault as an object of a sort, where so many levels are left: else the first mapping fault, or
