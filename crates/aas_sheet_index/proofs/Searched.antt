@@ -18,7 +18,7 @@ use Rattle.std.proofs.lemmas.Slice.Eq.{bytes_eq-Decides}
 use Rattle.aas_lemmas.proofs.Truth.{and_right}
 use Rattle.aas_path_trees.specs.ElementAt.{is_text}
 use Rattle.aas_rows.proofs.Stepping.{first_where, position_first}
-use Rattle.aas_sheet_index.specs.Index.{compared, has_name, is_between, key_at, key_of, name_bytes, IsPart}
+use Rattle.aas_sheet_index.specs.Index.{compared, has_name, is_between, key, key_at, key_of, name_bytes, IsPart}
 use Rattle.aas_sheet_index.specs.Sides.{is_named_below}
 use Rattle.aas_sheet_index.specs.declared.side.Side.{Side}
 use Rattle.aas_sheet_index.proofs.Ranks.{within}
@@ -62,8 +62,8 @@ is_named k name t e = by (t.level == k + 1) refl t.id_short refl e
 pub record Sought (ss : List Side) (ranks : List ℕ) (k : ℕ) (name : List ℕ) (first place : ℕ) : Type 0 where
   pub index : IsPart ss 0 ranks
   pub spelled : encode_utf8_all (chars name) ≡ name
-  pub before : AllWithin (λ r. is_lt (compared (key_at ss r) r ((k + 1) ∷ name) first) ≡ true) ranks 0 place
-  pub behind : AllWithin (λ r. is_lt (compared (key_at ss r) r ((k + 1) ∷ name) first) ≡ false) ranks place (length ranks)
+  pub before : AllWithin (λ r. is_lt (compared (key_at ss r) r (key (k + 1) name) first) ≡ true) ranks 0 place
+  pub behind : AllWithin (λ r. is_lt (compared (key_at ss r) r (key (k + 1) name) first) ≡ false) ranks place (length ranks)
 
 -- a rank of an index, and its side
 pub record There (ss : List Side) (r : ℕ) : Type 0 where
@@ -84,7 +84,7 @@ there ss ranks m x lt =
 -- one that is looked for stands no earlier than the entry at the place, which has its key
 record Later (ss : List Side) (ranks : List ℕ) (k : ℕ) (name : List ℕ) (first place q : ℕ) : Type 0 where
   inside : place < length ranks
-  key : key_at ss (get_or ranks place 0) ≡ (k + 1) ∷ name
+  own_key : key_at ss (get_or ranks place 0) ≡ key (k + 1) name
   low : first ≤ get_or ranks place 0
   high : get_or ranks place 0 ≤ q
 
@@ -92,8 +92,8 @@ later : (ss : List Side) (ranks : List ℕ) (k : ℕ) (name : List ℕ) (first p
     → Later ss ranks k name first place q
 later ss ranks k name first place q t x le at named =
     let n = is_named k name t named in
-    let wanted : List ℕ = (k + 1) ∷ name in
-    let own : key_at ss q ≡ wanted = ap key_of at ∙ ap₂ (λ l b. l ∷ b) n.level (ap name_bytes n.id_short ∙ x.spelled) in
+    let wanted : List ℕ = key (k + 1) name in
+    let own : key_at ss q ≡ wanted = ap key_of at ∙ ap₂ key n.level (ap name_bytes n.id_short ∙ x.spelled) in
     let has : list_any (λ r. r == q) ranks ≡ true =
     x.index.listed q ∙ ap₂ (λ b c. b && c) (within 0 (length ss) q (omega arith) (slice_get_within ss q t at)) (ap has_name at ∙ some t (chars name) n.id_short) in
     let e = Any-from_list_any (λ r. r == q) ranks has in
@@ -105,15 +105,15 @@ later ss ranks k name first place q t x le at named =
     let far : is_less ss (get_or ranks i 0) r ≡ false = sorted_far (is_less ss) (weak ss) ranks x.index.ordered place i 0 order inside in
     let high : is_lt (compared wanted q (key_at ss r) r) ≡ false = sym (ap₂ (λ a m. is_lt (compared a m (key_at ss r) r)) (ap (key_at ss) here ∙ own) here) ∙ far in
     let b = between wanted (key_at ss r) first r q (x.behind place 0 (omega arith) (omega (arith, order, inside))) high in
-    record { inside = omega (arith, order, inside); key = b.0; low = b.1; high = b.2 }
+    record { inside = omega (arith, order, inside); own_key = b.0; low = b.1; high = b.2 }
   where
     some : (t : Side) (m : List ℕ) → t.id_short ≡ Some m → has_name (Some t) ≡ true
     some t m e = ap (λ (o : Option (List ℕ)). has_name (Some (record t { id_short = o }))) e
 
-    not_before : (i : ℕ) → i < length ranks → get_or ranks i 0 ≡ q → key_at ss q ≡ (k + 1) ∷ name → (b : Bool) → nat_lt i place ≡ b → place ≤ i
+    not_before : (i : ℕ) → i < length ranks → get_or ranks i 0 ≡ q → key_at ss q ≡ key (k + 1) name → (b : Bool) → nat_lt i place ≡ b → place ≤ i
     not_before i inside here own false e = ltb-false i place e
     not_before i inside here own true e =
-        let wanted : List ℕ = (k + 1) ∷ name in
+        let wanted : List ℕ = key (k + 1) name in
         let holds = x.before i 0 (omega arith) (ltb-true i place e) in
         let less : nat_lt q first ≡ true = sym (ap₂ (λ a m. is_lt (compared a m wanted first)) (ap (key_at ss) here ∙ own) here ∙ tied wanted q first) ∙ holds in
         let lt = ltb-true q first less in
@@ -227,7 +227,7 @@ module _ (ss : List Side) (ranks : List ℕ) (k : ℕ) (name : List ℕ) (first 
       let same : t.side ≡ side = let here = t.at in cc in
       none_walked ss (is_named_below k (chars name)) first end (λ q s le lt at_q holds.
       let l = later ss ranks k name first place q s x le at_q holds in
-      let key : side.level ∷ name_bytes side.id_short ≡ (k + 1) ∷ name = sym (ap key_of at) ∙ l.key in
+      let same_key : key side.level (name_bytes side.id_short) ≡ key (k + 1) name = sym (ap key_of at) ∙ l.own_key in
       let level : side.level ≡ k + 1 = cc in
       let bytes : name_bytes side.id_short ≡ name = cc in
       let passes = says (ap (λ (s : Side). has_name (Some s)) (sym same) ∙ t.named) level bytes in
@@ -239,7 +239,7 @@ module _ (ss : List Side) (ranks : List ℕ) (k : ℕ) (name : List ℕ) (first 
       let r : ℕ = get_or ranks place 0 in
       let at = at_place inside side is in
       let n = is_named k name side holds in
-      let own : key_at ss r ≡ (k + 1) ∷ name = ap key_of at ∙ ap₂ (λ l b. l ∷ b) n.level (ap name_bytes n.id_short ∙ x.spelled) in
-      let not_less : nat_lt r first ≡ false = sym (ap (λ a. is_lt (compared a r ((k + 1) ∷ name) first)) own ∙ tied ((k + 1) ∷ name) r first) ∙ x.behind place 0 (omega arith) inside in
+      let own : key_at ss r ≡ key (k + 1) name = ap key_of at ∙ ap₂ key n.level (ap name_bytes n.id_short ∙ x.spelled) in
+      let not_less : nat_lt r first ≡ false = sym (ap (λ a. is_lt (compared a r (key (k + 1) name) first)) own ∙ tied (key (k + 1) name) r first) ∙ x.behind place 0 (omega arith) inside in
       some_walked ss (is_named_below k (chars name)) first end r side (ltb-false r first not_less) high at holds
       (λ q s le lt at_q passes. let l = later ss ranks k name first place q s x le at_q passes in let later_on = l.high in absurd (omega (arith, later_on, lt)))

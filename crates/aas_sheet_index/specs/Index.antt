@@ -1,6 +1,6 @@
--- The index of a column of sides: the ranks of those that have an idShort, by level, then by idShort in byte order, then by
--- rank. So the child of a name is the first rank behind its parent's that has its level and its idShort. The index knows no
--- parent, and stays in order when rows move together. This profile's own rule.
+-- The index of a column of sides: the ranks of those that have an idShort, by level, then by the length of the idShort, then
+-- by its bytes, then by rank. So the child of a name is the first rank behind its parent's that has its level and its idShort.
+-- The index knows no parent, and stays in order when rows move together. This profile's own rule.
 use Rattle.std.specs.Prelude.{◌≡◌, ℕ, ◌++◌, ◌≤◌, ◌^◌, ◌==◌, ◌&&◌, not, nat_lt, Bool, false, List, [], ◌∷◌, length, slice_get, take, Option, Some, None}
 use Rattle.std.specs.Cmp.Lexicographic.{slice_cmp}
 use Rattle.std.specs.List.{list_any}
@@ -16,9 +16,13 @@ abbrev pub name_bytes : Option (List ℕ) → List ℕ
 name_bytes None = []
 name_bytes (Some n) = encode_utf8_all n
 
+-- by what an idShort of a level stands in its place
+abbrev pub key : ℕ → List ℕ → List ℕ
+key level name = level ∷ length name ∷ name
+
 abbrev pub key_of : Option Side → List ℕ
 key_of None = []
-key_of (Some s) = s.level ∷ name_bytes s.id_short
+key_of (Some s) = key s.level (name_bytes s.id_short)
 
 -- by what a rank stands in its place, but for the rank itself
 abbrev pub key_at : List Side → ℕ → List ℕ

@@ -1,5 +1,7 @@
 ghost use Rattle.std.specs.Prelude.{◌≡◌, ◌≤◌, ◌++◌, ◌∷◌, ◌^◌, [], length, IfOk, OnErr, OnOk};
-ghost use Rattle.aas_sheet_index.specs.Index.{Enlarged, IsPart, Listed};
+ghost use Rattle.std.specs.Bool.{OnTrue};
+ghost use Rattle.std.specs.List.Sorted.{IsSorted};
+ghost use Rattle.aas_sheet_index.specs.Index.{order, Enlarged, IsPart, Listed};
 
 use crate::order::compare_ranks;
 use crate::side::Side;
@@ -31,7 +33,14 @@ fn ranks_of(alloc: Global, sides: &[Side], first: usize) -> Result<Vec<u32>, NoM
     Ok(ranks)
 }
 
-/// The same in the order of the index.
+/// Whether ranks are in the order of the index, as those of numbered elements mostly are.
+fn are_in_order(sides: &[Side], ranks: &[u32]) -> bool
+    ensures { OnTrue result (IsSorted (order sides.now) ranks.now) }
+{
+    ranks.is_sorted_by(|rank, next| !compare_ranks(sides, *next, *rank).is_lt())
+}
+
+/// The ranks of the sides from `first` on that have an idShort, in the order of the index.
 pub(crate) fn sorted_ranks(
     alloc: Global,
     sides: &[Side],
@@ -42,6 +51,9 @@ pub(crate) fn sorted_ranks(
     ensures { IfOk result (λ ranks. IsPart sides.now first ranks.items) }
 {
     let mut ranks = ranks_of(alloc, sides, first)?;
+    if are_in_order(sides, ranks.as_slice()) {
+        return Ok(ranks);
+    }
     ranks.sort_unstable_by(|rank, other| compare_ranks(sides, *rank, *other));
     Ok(ranks)
 }

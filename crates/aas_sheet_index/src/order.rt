@@ -3,15 +3,29 @@ ghost use Rattle.std.specs.Cmp.Lexicographic.{slice_cmp};
 ghost use Rattle.std.specs.List.{AllWithin};
 ghost use Rattle.std.specs.List.Sorted.{IsSorted};
 ghost use Rattle.std.specs.Ordering.{nat_cmp, is_lt};
-ghost use Rattle.aas_sheet_index.specs.Index.{compared, key_at, name_bytes, order};
+ghost use Rattle.aas_sheet_index.specs.Index.{compared, key, key_at, name_bytes, order};
 
 use crate::side::Side;
 use std::cmp::Ordering;
 
-fn compare<'x>(a: &'x str, b: &'x str) -> Ordering
-    ensures { result ≡ slice_cmp nat_cmp a.now b.now }
+/// How two idShorts stand to one another. Most differ in length, so that no byte of theirs is compared.
+fn compare_names<'x>(a: &'x str, b: &'x str) -> Ordering
+    ensures { result ≡ slice_cmp nat_cmp (length a.now ∷ a.now) (length b.now ∷ b.now) }
 {
+    if a.len() != b.len() {
+        return a.len().cmp(&b.len());
+    }
     Ord::cmp(&a, &b)
+}
+
+/// How an idShort of a level stands to another of another.
+fn compare_keys<'x>(level: u64, name: &'x str, other_level: u64, other: &'x str) -> Ordering
+    ensures { result ≡ slice_cmp nat_cmp (key level name.now) (key other_level other.now) }
+{
+    if level != other_level {
+        return level.cmp(&other_level);
+    }
+    compare_names(name, other)
 }
 
 /// The idShort, or the empty text where there is none.
@@ -26,16 +40,12 @@ pub(crate) fn name_of(side: &Side) -> &str
 
 /// How a rank stands to another whose side has this level and this idShort.
 fn compare_to(sides: &[Side], rank: usize, level: u64, name: &str, other: usize) -> Ordering
-    ensures { result ≡ compared (key_at sides.now rank) rank (level ∷ name.now) other }
+    ensures { result ≡ compared (key_at sides.now rank) rank (key level name.now) other }
 {
     let Some(side) = sides.get(rank) else {
         return Ordering::Less;
     };
-    let own = u64::from(side.level);
-    if own != level {
-        return own.cmp(&level);
-    }
-    match compare(name_of(side), name) {
+    match compare_keys(side.level.into(), name_of(side), level, name) {
         Ordering::Less => Ordering::Less,
         Ordering::Equal => rank.cmp(&other),
         Ordering::Greater => Ordering::Greater,
@@ -68,8 +78,8 @@ pub(crate) fn place_of_name(
 ) -> usize
     requires { IsSorted (order sides.now) ranks.now }
     ensures inside { result ≤ length ranks.now }
-    ensures before { AllWithin (λ r. is_lt (compared (key_at sides.now r) r (level ∷ name.now) other) ≡ true) ranks.now 0 result }
-    ensures behind { AllWithin (λ r. is_lt (compared (key_at sides.now r) r (level ∷ name.now) other) ≡ false) ranks.now result (length ranks.now) }
+    ensures before { AllWithin (λ r. is_lt (compared (key_at sides.now r) r (key level name.now) other) ≡ true) ranks.now 0 result }
+    ensures behind { AllWithin (λ r. is_lt (compared (key_at sides.now r) r (key level name.now) other) ≡ false) ranks.now result (length ranks.now) }
 {
     ranks.partition_point(|rank| compare_to(sides, *rank as usize, level, name, other).is_lt())
 }

@@ -1,9 +1,26 @@
-use Rattle.std.proofs.Common.{◌≡◌, ◌==◌, ◌∙◌, sym, rules}
+use Rattle.std.proofs.Common.{◌≡◌, ◌==◌, ◌∙◌, Bool, true, false, List, sym, subst, rules}
+use Rattle.std.specs.Bool.{OnTrue}
+use Rattle.std.specs.List.Sorted.{IsSorted}
+use Rattle.aas_sheet_index.specs.Index.{order}
+use Rattle.aas_sheet_index.specs.declared.side.Side.{Side}
 use Rattle.std.specs.Ordering.{is_lt}
 use Rattle.std.proofs.lemmas.Fn.{always_returns_same}
 use Rattle.std.proofs.lemmas.List.Sorted.{list_any-IsPermutation}
 use Rattle.aas_sheet_index.proofs.Ordered.{is_less, weak}
 use Rattle.aas_sheet_index.proofs.listing.sorted_ranks.Goals as goal
+
+pub returns-then-are_in_order : goal.returns-then-are_in_order
+returns-then-are_in_order c =
+    let ss : List Side = c.args.sides.now in
+    let same : c.as_slice.result.now ≡ c.in_ok-ranks.ranks.items = search rules in
+    record {
+      ordered = subst (IsSorted (order ss)) same (in_order c.are_in_order.result c.if-are_in_order.true c.are_in_order.ensures);
+      listed = c.in_ok-ranks.ensures;
+    }
+  where
+    in_order : {A : Type 0} (b : Bool) → b ≡ true → OnTrue b A → A
+    in_order true is a = a
+    in_order false is a = absurd (cc)
 
 pub returns : goal.returns
 returns c = record {

@@ -1,16 +1,16 @@
-use Rattle.std.proofs.Common.{◌∷◌, rules}
+use Rattle.std.proofs.Common.{rules}
 use Rattle.std.specs.Ordering.{is_lt}
 use Rattle.std.proofs.lemmas.List.Sorted.{IsPartitionPoint-from_clause}
-use Rattle.aas_sheet_index.specs.Index.{compared, key_at}
+use Rattle.aas_sheet_index.specs.Index.{compared, key, key_at}
 use Rattle.aas_sheet_index.proofs.Ordered.{parted}
 use Rattle.aas_sheet_index.proofs.order.place_of_name.Goals as goal
 
 pub returns-clause-before : goal.returns-clause-before
 returns-clause-before c =
-    (IsPartitionPoint-from_clause (λ r. is_lt (compared (key_at c.args.sides.now r) r (c.args.level ∷ c.args.name.now) c.args.other)) _ _ c.partition_point.ensures.partitioned
-    (parted c.args.sides.now c.args.ranks.now (record { by = c.args.level ∷ c.args.name.now; rank = c.args.other }) c.requires) (λ a r q k. search rules)).0
+    (IsPartitionPoint-from_clause (λ r. is_lt (compared (key_at c.args.sides.now r) r (key c.args.level c.args.name.now) c.args.other)) _ _ c.partition_point.ensures.partitioned
+    (parted c.args.sides.now c.args.ranks.now (record { by = key c.args.level c.args.name.now; rank = c.args.other }) c.requires) (λ a r q k. search rules)).0
 
 pub returns-clause-behind : goal.returns-clause-behind
 returns-clause-behind c =
-    (IsPartitionPoint-from_clause (λ r. is_lt (compared (key_at c.args.sides.now r) r (c.args.level ∷ c.args.name.now) c.args.other)) _ _ c.partition_point.ensures.partitioned
-    (parted c.args.sides.now c.args.ranks.now (record { by = c.args.level ∷ c.args.name.now; rank = c.args.other }) c.requires) (λ a r q k. search rules)).1
+    (IsPartitionPoint-from_clause (λ r. is_lt (compared (key_at c.args.sides.now r) r (key c.args.level c.args.name.now) c.args.other)) _ _ c.partition_point.ensures.partitioned
+    (parted c.args.sides.now c.args.ranks.now (record { by = key c.args.level c.args.name.now; rank = c.args.other }) c.requires) (λ a r q k. search rules)).1

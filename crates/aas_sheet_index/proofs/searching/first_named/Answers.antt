@@ -1,19 +1,19 @@
-use Rattle.std.proofs.Common.{◌≡◌, ◌∷◌, ◌+◌, ℕ, List, false, true, length, sym, ◌∙◌, subst, arith}
+use Rattle.std.proofs.Common.{◌≡◌, ◌+◌, ℕ, List, false, true, length, sym, ◌∙◌, subst, arith}
 use Rattle.std.specs.List.{AllWithin}
 use Rattle.std.specs.Ordering.{is_lt}
 use Rattle.std.proofs.lemmas.Str.{encodes-chars}
-use Rattle.aas_sheet_index.specs.Index.{compared, key_at}
+use Rattle.aas_sheet_index.specs.Index.{compared, key, key_at}
 use Rattle.aas_sheet_index.specs.declared.side.Side.{Side}
 use Rattle.aas_sheet_index.proofs.Searched.{none_behind, none_other, none_past, some_there, Sought}
 use Rattle.aas_sheet_index.proofs.searching.first_named.Goals as goal
 
-sought : (ss : List Side) (ranks : List ℕ) (k k' : ℕ) (name : List ℕ) (first place : ℕ) → k' ≡ k → AllWithin (λ r. is_lt (compared (key_at ss r) r ((k' + 1) ∷ name) first) ≡ true) ranks 0 place
-    → AllWithin (λ r. is_lt (compared (key_at ss r) r ((k + 1) ∷ name) first) ≡ true) ranks 0 place
-sought ss ranks k k' name first place is before = subst (λ (n : ℕ). AllWithin (λ r. is_lt (compared (key_at ss r) r ((n + 1) ∷ name) first) ≡ true) ranks 0 place) is before
+sought : (ss : List Side) (ranks : List ℕ) (k k' : ℕ) (name : List ℕ) (first place : ℕ) → k' ≡ k → AllWithin (λ r. is_lt (compared (key_at ss r) r (key (k' + 1) name) first) ≡ true) ranks 0 place
+    → AllWithin (λ r. is_lt (compared (key_at ss r) r (key (k + 1) name) first) ≡ true) ranks 0 place
+sought ss ranks k k' name first place is before = subst (λ (n : ℕ). AllWithin (λ r. is_lt (compared (key_at ss r) r (key (n + 1) name) first) ≡ true) ranks 0 place) is before
 
-not_sought : (ss : List Side) (ranks : List ℕ) (k k' : ℕ) (name : List ℕ) (first place : ℕ) → k' ≡ k → AllWithin (λ r. is_lt (compared (key_at ss r) r ((k' + 1) ∷ name) first) ≡ false) ranks place (length ranks)
-    → AllWithin (λ r. is_lt (compared (key_at ss r) r ((k + 1) ∷ name) first) ≡ false) ranks place (length ranks)
-not_sought ss ranks k k' name first place is behind = subst (λ (n : ℕ). AllWithin (λ r. is_lt (compared (key_at ss r) r ((n + 1) ∷ name) first) ≡ false) ranks place (length ranks)) is behind
+not_sought : (ss : List Side) (ranks : List ℕ) (k k' : ℕ) (name : List ℕ) (first place : ℕ) → k' ≡ k → AllWithin (λ r. is_lt (compared (key_at ss r) r (key (k' + 1) name) first) ≡ false) ranks place (length ranks)
+    → AllWithin (λ r. is_lt (compared (key_at ss r) r (key (k + 1) name) first) ≡ false) ranks place (length ranks)
+not_sought ss ranks k k' name first place is behind = subst (λ (n : ℕ). AllWithin (λ r. is_lt (compared (key_at ss r) r (key (n + 1) name) first) ≡ false) ranks place (length ranks)) is behind
 
 pub returns-then-place-ranks : goal.returns-then-place-ranks
 returns-then-place-ranks c =
