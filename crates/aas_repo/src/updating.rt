@@ -1,5 +1,5 @@
 // Commands on values: what a path leads to is copied, and by the copy a patch is prepared that the store takes at once.
-ghost use Rattle.std.specs.Prelude.{◌≡◌, ◌≢◌, ◌++◌, [], IfErr, IfOk, MatchOption, Some};
+ghost use Rattle.std.specs.Prelude.{◌≡◌, ◌≢◌, ◌++◌, [], IfErr, IfOk, IfSome, MatchOption, Some};
 ghost use Rattle.std.specs.FinMap as map;
 ghost use Rattle.std.specs.Str.{encode_utf8_all};
 ghost use Rattle.serde_json.specs.Data.{Data};
@@ -12,6 +12,7 @@ ghost use Rattle.aas_path_trees.specs.ElementAt.{element_at};
 ghost use Rattle.aas_step.specs.Valid.{AreValid};
 ghost use Rattle.aas_store.specs.Edited.{FitsAt, Holds};
 ghost use Rattle.aas_store.specs.Reads.{IsRowOf};
+ghost use Rattle.aas_store.specs.Spots.{rank_at};
 ghost use Rattle.aas_repo.specs.Decisions.{IsDecision};
 ghost use Rattle.aas_repo.specs.Patches.{IsPatchFor, IsRefused, refusal_behind};
 
@@ -24,6 +25,13 @@ use aas_store::{RowView, Store};
 use aas_value::shows_children;
 use aas_value_patch::{ValueFault, prepare, prepare_leaf, prepare_submodel};
 use std::alloc::Global;
+
+/// A patch, and the rank of the element that it is for. One for the submodel itself has none.
+#[derive(Drop)]
+struct RankedPatch {
+    rank: Option<u64>,
+    patch: Patch,
+}
 
 /// Updates the values of what the path leads to by a sent value, or refuses the command.
 #[tactic(auto, unfolding(aas_command::specs::Commands::IsWellFormed))]
@@ -39,8 +47,8 @@ pub(crate) fn update<S: Store>(
     requires well_formed { IsWellFormed (UpdateValue id path value) }
     ensures { IsDecision has_room (S.documents store.old) (UpdateValue id path value) (S.documents store.new) result }
 {
-    match patch_for(alloc, store, &id, &path, &value) {
-        Ok(patch) => put_patch(store, &id, &path, patch, has_room),
+    match update_for(alloc, store, &id, &path, &value) {
+        Ok(update) => put_patch(store, &id, &path, update, has_room),
         Err(refusal) => decision_of(refusal),
     }
 }
@@ -50,59 +58,75 @@ fn put_patch<S: Store>(
     store: &mut S,
     id: &Text,
     path: &Path,
-    patch: Patch,
+    update: RankedPatch,
     has_room: bool,
 ) -> Decision
     requires valid { AreValid (S.documents store.old) }
-    requires fits { Holds (S.documents store.old) (encode_utf8_all id.now) (λ s. FitsAt s path.now.steps patch.rows) }
-    ensures { (v : Data) → IsPatchFor (S.documents store.old) id.now path.now.steps v patch.rows →
+    requires ranked { IfSome update.rank (λ r. Holds (S.documents store.old) (encode_utf8_all id.now) (λ s. rank_at s path.now.steps ≡ Some r)) }
+    requires fits { Holds (S.documents store.old) (encode_utf8_all id.now) (λ s. FitsAt s path.now.steps update.patch.rows) }
+    ensures { (v : Data) → IsPatchFor (S.documents store.old) id.now path.now.steps v update.patch.rows →
         IsDecision has_room (S.documents store.old) (UpdateValue id.now path.now v) (S.documents store.new) result }
 {
     if !has_room {
         return Decision::Refused(Refusal::StorageFull);
     }
-    store.update(id.as_str(), path, patch);
+    store.update(id.as_str(), path, update.rank, update.patch);
     Decision::Made
 }
 
-/// The patch by which what the path leads to takes the value, or the first of the causes that refuse the command.
-fn patch_for<S: Store>(
+/// The update by which what the path leads to takes the value, or the first of the causes that refuse the command.
+fn update_for<S: Store>(
     alloc: Global,
     store: &S,
     id: &Text,
     path: &Path,
     value: &SentValue,
-) -> Result<Patch, Refusal>
+) -> Result<RankedPatch, Refusal>
     requires valid { AreValid (S.documents store.now) }
     requires ordered { IsOrdered value.now }
-    ensures patch { IfOk result (λ patch. IsPatchFor (S.documents store.now) id.now path.now.steps value.now patch.rows) }
+    ensures ranked { IfOk result (λ update. IfSome update.rank (λ r. Holds (S.documents store.now) (encode_utf8_all id.now) (λ s. rank_at s path.now.steps ≡ Some r))) }
+    ensures patch { IfOk result (λ update. IsPatchFor (S.documents store.now) id.now path.now.steps value.now update.patch.rows) }
     ensures refusal { IfErr result (λ refusal. refusal ≢ NoMemoryLeft →
         IsRefused (S.documents store.now) (UpdateValue id.now path.now value.now) refusal) }
 {
     if path.steps.is_empty() {
-        patch_for_submodel(alloc, store, id, path, value)
-    } else {
-        patch_for_element(alloc, store, id, path, value)
+        return match patch_for_submodel(alloc, store, id, path, value) {
+            Ok(patch) => Ok(RankedPatch { rank: None, patch }),
+            Err(refusal) => Err(refusal),
+        };
+    }
+    let (rank, row) = match stored_row(alloc, store, id, path) {
+        Ok(found) => found,
+        Err(refusal) => return Err(refusal),
+    };
+    match patch_for_element(alloc, store, id, path, row, value) {
+        Ok(patch) => Ok(RankedPatch {
+            rank: Some(rank),
+            patch,
+        }),
+        Err(refusal) => Err(refusal),
     }
 }
 
-/// The same at a path with steps. Of an element whose value form shows no children, nothing but the attributes of its kind is
-/// looked at.
+/// The patch by which the element of the row, to which the path leads, takes the value, or the first of the causes that refuse
+/// the command. Of an element whose value form shows no children, nothing but the attributes of its kind is looked at.
 fn patch_for_element<S: Store>(
     alloc: Global,
     store: &S,
     id: &Text,
     path: &Path,
+    row: RowView<'_>,
     value: &SentValue,
 ) -> Result<Patch, Refusal>
     requires valid { AreValid (S.documents store.now) }
     requires ordered { IsOrdered value.now }
     requires steps { path.now.steps ≢ [] }
+    requires found { Holds (S.documents store.now) (encode_utf8_all id.now)
+        (λ s. MatchOption (element_at s path.now.steps) ⊥ (λ e. IsRowOf e row)) }
     ensures patch { IfOk result (λ patch. IsPatchFor (S.documents store.now) id.now path.now.steps value.now patch.rows) }
     ensures refusal { IfErr result (λ refusal. refusal ≢ NoMemoryLeft →
         IsRefused (S.documents store.now) (UpdateValue id.now path.now value.now) refusal) }
 {
-    let row = stored_row(alloc, store, id, path)?;
     if shows_children(row.payload) {
         return patch_for_parent(alloc, store, id, path, value);
     }
@@ -134,22 +158,23 @@ fn patch_for_parent<S: Store>(
     }
 }
 
-/// The row of the element to which the path leads.
+/// The rank and the row of the element to which the path leads.
 fn stored_row<'s, S: Store>(
     alloc: Global,
     store: &'s S,
     id: &Text,
     path: &Path,
-) -> Result<RowView<'s>, Refusal>
+) -> Result<(u64, RowView<'s>), Refusal>
     requires valid { AreValid (S.documents store.now) }
     requires steps { path.now.steps ≢ [] }
-    ensures found { IfOk result (λ row. Holds (S.documents store.now) (encode_utf8_all id.now)
-        (λ s. MatchOption (element_at s path.now.steps) ⊥ (λ e. IsRowOf e row))) }
+    ensures ranked { IfOk result (λ found. Holds (S.documents store.now) (encode_utf8_all id.now) (λ s. rank_at s path.now.steps ≡ Some found.0)) }
+    ensures found { IfOk result (λ found. Holds (S.documents store.now) (encode_utf8_all id.now)
+        (λ s. MatchOption (element_at s path.now.steps) ⊥ (λ e. IsRowOf e found.1))) }
     ensures lost { IfErr result (λ refusal. refusal ≢ NoMemoryLeft → (v : Data) →
         IsRefused (S.documents store.now) (UpdateValue id.now path.now v) refusal) }
 {
-    match store.row_at(id.as_str(), path) {
-        Ok(row) => Ok(row),
+    match store.find_row(id.as_str(), path) {
+        Ok(found) => Ok(found),
         Err(lack) => Err(refusal_of(alloc, path, lack)),
     }
 }

@@ -54,3 +54,19 @@ pub(crate) fn row_at<'a>(sheet: &'a Sheet, path: &Path) -> Result<RowView<'a>, L
         },
     }
 }
+
+/// The rank and the row of the element at the path.
+pub(crate) fn find_row<'a>(sheet: &'a Sheet, path: &Path) -> Result<(u64, RowView<'a>), Lack>
+    ensures ranked { IfOk result (λ found. rank_at sheet.now path.now.steps ≡ Some found.0) }
+    ensures found { IfOk result (λ found. MatchOption (element_at sheet.now path.now.steps) ⊥ (λ e. IsRowOf e found.1)) }
+    ensures there { result ≢ Err Lack.NoSubmodel }
+    ensures no_element { (m : Missing) → (result ≡ Err (Lack.NoElement m)) ↔ LeadsNowhere sheet.now path.now.steps m }
+{
+    match sheet.find_row(path) {
+        Some((rank, row)) => Ok((rank as u64, row)),
+        None => {
+            let steps = sheet.depth(path);
+            Err(Lack::NoElement(Missing { steps }))
+        },
+    }
+}

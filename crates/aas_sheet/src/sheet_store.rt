@@ -6,7 +6,7 @@ ghost use Rattle.aas_sheet_rows.specs.Lent.{row_type};
 ghost use Rattle.aas_store.specs.Documents.{empty};
 
 use crate::laying::lay_out;
-use crate::reading::{copy_at, find, row_at};
+use crate::reading::{copy_at, find, find_row, row_at};
 use aas_model::{
     Collection, Concept, Duplicate, Element, Environment, NoMemory, Patch, Path, Reference, Shell,
     Submodel, Text,
@@ -192,6 +192,13 @@ impl Store for SheetStore {
         }
     }
 
+    fn find_row(&self, id: &str, path: &Path) -> Result<(u64, RowView<'_>), Lack> {
+        match self.submodels.get(id) {
+            Some(sheet) => find_row(sheet, path),
+            None => Err(Lack::NoSubmodel),
+        }
+    }
+
     fn has_child(&self, id: &str, path: &Path, id_short: &Text) -> bool {
         match self.submodels.get(id) {
             Some(sheet) => sheet.has_child(path, id_short),
@@ -262,9 +269,12 @@ impl Store for SheetStore {
         Ok(())
     }
 
-    fn update(&mut self, id: &str, path: &Path, patch: Patch) {
+    fn update(&mut self, id: &str, path: &Path, rank: Option<u64>, patch: Patch) {
         if let Some(sheet) = self.submodels.get_mut(id) {
-            sheet.update(path, patch);
+            match rank {
+                Some(rank) => sheet.update_from(rank as usize, patch),
+                None => sheet.update(path, patch),
+            }
         }
     }
 }

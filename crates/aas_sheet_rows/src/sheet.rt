@@ -1,4 +1,4 @@
-ghost use Rattle.std.specs.Prelude.{◌≡◌, ◌<◌, ◌≤◌, is_some, length, slice_get, option_map, unwrap_or, IfOk, IsSome, MatchOption, None, OnErr, OnOk, Some};
+ghost use Rattle.std.specs.Prelude.{◌≡◌, ◌<◌, ◌≤◌, List, is_some, length, slice_get, option_map, unwrap_or, IfOk, IsSome, MatchOption, None, OnErr, OnOk, Some};
 ghost use Rattle.std.specs.Option.{option_copied};
 
 use crate::editing::{put_rows, remove_rows};
@@ -55,6 +55,7 @@ impl Model for Sheet {
 
 impl Sheet {
     ghost use Rattle.std.specs.Borrow.{LendsIf, sem};
+    ghost use Rattle.aas_model.specs.declared.path.PathStep.{PathStep};
     ghost use Rattle.aas_path_trees.specs.Edits.{inserted, removed, replaced, role_at};
     ghost use Rattle.aas_path_trees.specs.ElementAt.{depth_found, element_at, place_named, children_at};
     ghost use Rattle.aas_rows.specs.Children.{is_at, nth_where};
@@ -171,6 +172,19 @@ impl Sheet {
         };
         let rows = self.rows.as_slice();
         depth_among(rows, &self.sides, 0, self.sides.len(), 0, false, step, rest)
+    }
+
+    /// The rank and the row of the element to which the path leads.
+    pub fn find_row(&self, path: &Path) -> Option<(usize, RowView<'_>)>
+        ensures { MatchOption result (element_at self.now path.now.steps ≡ None) (λ found. (rank_at self.now path.now.steps ≡ Some found.0) × MatchOption (element_at self.now path.now.steps) ⊥ (λ e. IsRowOf e found.1)) }
+    {
+        let Some(rank) = self.find(path) else {
+            return None;
+        };
+        match self.row(rank) {
+            Some(row) => Some((rank, row)),
+            None => None,
+        }
     }
 
     /// The row of the element to which the path leads.
@@ -299,9 +313,17 @@ impl Sheet {
         requires { FitsAt self.old path.now.steps patch.rows }
         ensures { self.new ≡ patched_at self.old path.now.steps patch.rows }
     {
-        let base = self.base_of(path);
+        let first = self.base_of(path);
+        self.update_from(first, patch);
+    }
+
+    /// Patches the element of the rank, or with rank 0 the submodel itself where the patch is one for it.
+    pub fn update_from(&mut self, first: usize, patch: Patch)
+        requires { (p : List PathStep) × (first ≡ unwrap_or (rank_at self.old p) 0) × FitsAt self.old p patch.rows }
+        ensures { (p : List PathStep) → first ≡ unwrap_or (rank_at self.old p) 0 → FitsAt self.old p patch.rows → self.new ≡ patched_at self.old p patch.rows }
+    {
         let mut patch = patch;
-        put_payloads(self.rows.as_mut_slice(), patch.rows.as_mut_slice(), base);
+        put_payloads(self.rows.as_mut_slice(), patch.rows.as_mut_slice(), first);
     }
 
     /// Adds the element as the last child of what the path leads to, of the submodel itself at the empty path, in the role

@@ -89,6 +89,23 @@ pub(crate) fn row_at<'a>(submodel: &'a Submodel, path: &Path) -> Result<RowView<
     }
 }
 
+/// The rank and the row of the element at the path.
+pub(crate) fn find_row<'a>(submodel: &'a Submodel, path: &Path) -> Result<(u64, RowView<'a>), Lack>
+    requires { element_count submodel.now ≤ 65536 }
+    ensures ranked { IfOk result (λ found. rank_at submodel.now path.now.steps ≡ Some found.0) }
+    ensures found { IfOk result (λ found. MatchOption (element_at submodel.now path.now.steps) ⊥ (λ e. IsRowOf e found.1)) }
+    ensures there { result ≢ Err Lack.NoSubmodel }
+    ensures no_element { (m : Missing) → (result ≡ Err (Lack.NoElement m)) ↔ LeadsNowhere submodel.now path.now.steps m }
+{
+    match row_at(submodel, path) {
+        Ok(row) => match rank_of(submodel, path) {
+            Some(rank) => Ok((rank, row)),
+            None => unreachable!(),
+        },
+        Err(lack) => Err(lack),
+    }
+}
+
 /// The children of what is at the path, the submodel's own at the empty path.
 pub(crate) fn children_at<'a>(submodel: &'a Submodel, path: &Path) -> &'a [Element]
     ensures { result.now ≡ children_at submodel.now path.now.steps }

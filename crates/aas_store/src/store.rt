@@ -130,6 +130,15 @@ pub trait Store {
         ensures no_submodel { (result ≡ Err Lack.NoSubmodel) ↔ (map.get (documents self.now).submodels id.now ≡ None) }
         ensures no_element { (m : Missing) → (result ≡ Err (Lack.NoElement m)) ↔ Holds (documents self.now) id.now (λ s. LeadsNowhere s path.now.steps m) };
 
+    /// The rank and the row of the element to which the path leads in the submodel of the identifier; the empty path leads
+    /// to none.
+    fn find_row(&self, id: &str, path: &Path) -> Result<(u64, RowView<'_>), Lack>
+        requires { IfSome (map.get (documents self.now).submodels id.now) (λ s. element_count s ≤ 65536) }
+        ensures ranked { IfOk result (λ found. Holds (documents self.now) id.now (λ s. rank_at s path.now.steps ≡ Some found.0)) }
+        ensures found { IfOk result (λ found. Holds (documents self.now) id.now (λ s. MatchOption (element_at s path.now.steps) ⊥ (λ e. IsRowOf e found.1))) }
+        ensures no_submodel { (result ≡ Err Lack.NoSubmodel) ↔ (map.get (documents self.now).submodels id.now ≡ None) }
+        ensures no_element { (m : Missing) → (result ≡ Err (Lack.NoElement m)) ↔ Holds (documents self.now) id.now (λ s. LeadsNowhere s path.now.steps m) };
+
     /// Whether what is at the path in the submodel of the identifier, the submodel itself at the empty path, has a child of
     /// the idShort.
     fn has_child(&self, id: &str, path: &Path, id_short: &Text) -> bool
@@ -188,8 +197,10 @@ pub trait Store {
         ensures ok { OnOk result (documents self.new ≡ with_changed (documents self.old) id.now (λ s. removed s path.now.steps)) }
         ensures err { OnErr result (documents self.new ≡ documents self.old) };
 
-    /// Patches the element at the path in the submodel of the identifier, the submodel itself at the empty path.
-    fn update(&mut self, id: &str, path: &Path, patch: Patch)
-        requires { Holds (documents self.old) id.now (λ s. FitsAt s path.now.steps patch.rows) }
+    /// Patches the element at the path in the submodel of the identifier, the submodel itself at the empty path. An element
+    /// whose rank is given isn't sought.
+    fn update(&mut self, id: &str, path: &Path, rank: Option<u64>, patch: Patch)
+        requires ranked { IfSome rank (λ r. Holds (documents self.old) id.now (λ s. rank_at s path.now.steps ≡ Some r)) }
+        requires fits { Holds (documents self.old) id.now (λ s. FitsAt s path.now.steps patch.rows) }
         ensures { documents self.new ≡ with_changed (documents self.old) id.now (λ s. patched_at s path.now.steps patch.rows) };
 }

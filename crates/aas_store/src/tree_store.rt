@@ -159,6 +159,13 @@ impl Store for TreeStore {
         }
     }
 
+    fn find_row(&self, id: &str, path: &Path) -> Result<(u64, RowView<'_>), Lack> {
+        match self.submodels.get(id) {
+            Some(submodel) => reads::find_row(submodel, path),
+            None => Err(Lack::NoSubmodel),
+        }
+    }
+
     fn has_child(&self, id: &str, path: &Path, id_short: &Text) -> bool {
         match self.submodels.get(id) {
             Some(submodel) => place_named(reads::children_at(submodel, path), id_short).is_some(),
@@ -227,7 +234,7 @@ impl Store for TreeStore {
         Ok(())
     }
 
-    fn update(&mut self, id: &str, path: &Path, patch: Patch) {
+    fn update(&mut self, id: &str, path: &Path, _rank: Option<u64>, patch: Patch) {
         if let Some(submodel) = self.submodels.get_mut(id) {
             patch_at(submodel, path, patch);
         }
