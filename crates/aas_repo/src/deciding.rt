@@ -22,7 +22,7 @@ use crate::replacing::replace_element;
 use crate::stored::Stored;
 use crate::updating::update;
 use aas_command::{Absent, Command, Refusal};
-use aas_model::{AssetInformation, Collection, Duplicate, NoMemory, Shell, Text};
+use aas_model::{AssetInformation, Boxed, Collection, Duplicate, NoMemory, Shell, Text};
 use aas_store::Store;
 use std::alloc::Global;
 
@@ -39,30 +39,16 @@ pub(crate) fn decide<S: Store>(
     ensures { IsDecision has_room (S.documents store.old) command (S.documents store.new) result }
 {
     match command {
-        Command::CreateShell { document } => {
-            create(alloc, store, document.into_inner(), has_room)
-        }
-        Command::CreateSubmodel { document } => {
-            create(alloc, store, document.into_inner(), has_room)
-        }
-        Command::CreateConcept { document } => {
-            create(alloc, store, document.into_inner(), has_room)
-        }
-        Command::ReplaceShell { document } => {
-            replace(alloc, store, document.into_inner(), has_room)
-        }
-        Command::ReplaceSubmodel { document } => {
-            replace(alloc, store, document.into_inner(), has_room)
-        }
-        Command::ReplaceConcept { document } => {
-            replace(alloc, store, document.into_inner(), has_room)
-        }
+        Command::CreateShell { document } => create(alloc, store, document, has_room),
+        Command::CreateSubmodel { document } => create(alloc, store, document, has_room),
+        Command::CreateConcept { document } => create(alloc, store, document, has_room),
+        Command::ReplaceShell { document } => replace(alloc, store, document, has_room),
+        Command::ReplaceSubmodel { document } => replace(alloc, store, document, has_room),
+        Command::ReplaceConcept { document } => replace(alloc, store, document, has_room),
         Command::DeleteShell { id } => delete(store, Collection::Shells, id, has_room),
         Command::DeleteSubmodel { id } => delete(store, Collection::Submodels, id, has_room),
         Command::DeleteConcept { id } => delete(store, Collection::Concepts, id, has_room),
-        Command::SetAsset { shell, asset } => {
-            set_asset(alloc, store, shell, asset.into_inner(), has_room)
-        }
+        Command::SetAsset { shell, asset } => set_asset(alloc, store, shell, asset, has_room),
         Command::AddReference { shell, reference } => {
             add_reference(alloc, store, shell, reference, has_room)
         }
@@ -73,12 +59,12 @@ pub(crate) fn decide<S: Store>(
             submodel,
             path,
             element,
-        } => insert_element(alloc, store, submodel, path, element.into_inner(), has_room),
+        } => insert_element(alloc, store, submodel, path, element, has_room),
         Command::ReplaceElement {
             submodel,
             path,
             element,
-        } => replace_element(alloc, store, submodel, path, element.into_inner(), has_room),
+        } => replace_element(alloc, store, submodel, path, element, has_room),
         Command::DeleteElement { submodel, path } => {
             delete_element(alloc, store, submodel, path, has_room)
         }
@@ -95,12 +81,13 @@ pub(crate) fn decide<S: Store>(
 fn create<S: Store, D: Stored>(
     alloc: Global,
     store: &mut S,
-    document: D,
+    document: Boxed<D>,
     has_room: bool,
 ) -> Decision
     requires { IsTrue (is_whole (D.document document)) }
     ensures { IsDecision has_room (S.documents store.old) (D.creating document) (S.documents store.new) result }
 {
+    let document = document.into_inner();
     if store.has(document.collection(), document.id()) {
         return Decision::Refused(Refusal::Conflict);
     }
@@ -111,12 +98,13 @@ fn create<S: Store, D: Stored>(
 fn replace<S: Store, D: Stored>(
     alloc: Global,
     store: &mut S,
-    document: D,
+    document: Boxed<D>,
     has_room: bool,
 ) -> Decision
     requires { IsTrue (is_whole (D.document document)) }
     ensures { IsDecision has_room (S.documents store.old) (D.replacing document) (S.documents store.new) result }
 {
+    let document = document.into_inner();
     if !store.has(document.collection(), document.id()) {
         return Decision::Refused(Refusal::NotFound {
             what: absent_of(document.collection()),
@@ -147,14 +135,14 @@ fn set_asset<S: Store>(
     alloc: Global,
     store: &mut S,
     id: Text,
-    asset: AssetInformation,
+    asset: Boxed<AssetInformation>,
     has_room: bool,
 ) -> Decision
     requires valid { AreValid (S.documents store.old) }
     requires whole { asset_informations.IsWhole limits asset }
     ensures { IsDecision has_room (S.documents store.old) (SetAsset id asset) (S.documents store.new) result }
 {
-    match with_asset(store.shell(id.as_str()), asset) {
+    match with_asset(store.shell(id.as_str()), asset.into_inner()) {
         Ok(Some(shell)) => put(alloc, store, shell, has_room),
         Ok(None) => Decision::Refused(Refusal::NotFound {
             what: Absent::Shell,

@@ -23,7 +23,7 @@ use crate::editing::{Insertion, make_edit};
 use crate::placing::{Parent, has_space, in_role, is_faultless, lost, parent_at};
 use aas_command::{Absent, Refusal};
 use aas_edit_faults::{edits_count, edits_keep_valid, inserted_elements_have_the_faults};
-use aas_model::{Collection, Element, NoMemory, Path, Payload, Reference, Role, Text};
+use aas_model::{Boxed, Collection, Element, NoMemory, Path, Payload, Reference, Role, Text};
 use aas_path::{fits_role, role_within};
 use aas_step::valid_submodels_are_storable;
 use aas_store::{Lack, Store};
@@ -36,13 +36,14 @@ pub(crate) fn insert_element<S: Store>(
     store: &mut S,
     id: Text,
     path: Path,
-    element: Element,
+    element: Boxed<Element>,
     has_room: bool,
 ) -> Decision
     requires valid { AreValid (S.documents store.old) }
     requires well_formed { IsWellFormed (InsertElement id path element) }
     ensures { IsDecision has_room (S.documents store.old) (InsertElement id path element) (S.documents store.new) result }
 {
+    let element = element.into_inner();
     match cause_in_place(alloc, store, &id, &path, &element) {
         Ok(Some(refusal)) => Decision::Refused(refusal),
         Ok(None) => insert_there(alloc, store, id, path, element, has_room),

@@ -24,7 +24,7 @@ use crate::editing::{Replacement, make_edit};
 use crate::placing::{has_space, in_role, is_faultless, lost, parent_at};
 use aas_command::{Absent, Refusal};
 use aas_edit_faults::{edits_count, edits_keep_valid, replacing_elements_have_the_faults};
-use aas_model::{Duplicate, Element, NoMemory, Path, Reference, Role, Text, same_text};
+use aas_model::{Boxed, Duplicate, Element, NoMemory, Path, Reference, Role, Text, same_text};
 use aas_path::fits_role;
 use aas_reference::equal;
 use aas_rows::RowView;
@@ -39,13 +39,14 @@ pub(crate) fn replace_element<S: Store>(
     store: &mut S,
     id: Text,
     path: Path,
-    element: Element,
+    element: Boxed<Element>,
     has_room: bool,
 ) -> Decision
     requires valid { AreValid (S.documents store.old) }
     requires well_formed { IsWellFormed (ReplaceElement id path element) }
     ensures { IsDecision has_room (S.documents store.old) (ReplaceElement id path element) (S.documents store.new) result }
 {
+    let element = element.into_inner();
     match cause_in_place(alloc, store, &id, &path, &element) {
         Ok(Some(refusal)) => Decision::Refused(refusal),
         Ok(None) => replace_there(alloc, store, id, path, element, has_room),

@@ -1,8 +1,11 @@
-use Rattle.std.proofs.Common.{sym, ◌∙◌}
+use Rattle.std.proofs.Common.{sym, ◌∙◌, subst}
+use Rattle.aas_command.specs.declared.command.Command.TheVariants.{ReplaceElement}
 use Rattle.aas_command.specs.Commands.{IsWellFormed}
 use Rattle.aas_repo.proofs.Caused.{replacement_refused}
 use Rattle.aas_repo.proofs.Reached.{has_steps}
 use Rattle.aas_repo.proofs.replacing.replace_element.Goals as goal
+use Rattle.aas_repo.specs.Decisions.{IsDecision}
+use Rattle.aas_repo.specs.declared.decision.Decision.TheVariants as decision
 
 pub cause_in_place-requires-clause-steps : goal.cause_in_place-requires-clause-steps
 unfolding IsWellFormed
@@ -10,5 +13,6 @@ cause_in_place-requires-clause-steps g c = has_steps c.args.path.steps c.require
 
 pub returns-in-Ok-Some : goal.returns-in-Ok-Some
 returns-in-Ok-Some g c =
-    replacement_refused (g.S.Store.documents c.args.store.now) c.args.id c.args.path c.args.element c.args.has_room c.in-Ok-Some.refusal
-    (sym c.in-Ok-Some.field-0-is ∙ c.in-Ok-Some.ensures)
+    let d = g.S.Store.documents c.args.store.now in
+    subst (λ e. IsDecision c.args.has_room d (ReplaceElement c.args.id c.args.path e) d (decision.Refused c.in-Ok-Some.refusal)) c.into_inner-element.ensures
+    (replacement_refused d c.args.id c.args.path c.into_inner-element.result c.args.has_room c.in-Ok-Some.refusal (sym c.in-Ok-Some.field-0-is ∙ c.in-Ok-Some.ensures))
