@@ -133,6 +133,12 @@ fn behind(read: usize, fault: PathFault) -> PathFault
     }
 }
 
+// How many steps the text writes, if it is that of a path. Nothing but the room for them rests on it.
+fn step_count(text: &[u8]) -> usize {
+    let leads = text.iter().filter(|byte| matches!(**byte, b'.' | b'['));
+    leads.count().saturating_add(1)
+}
+
 /// The path that the text writes: an idShort, and behind it any number of idShorts after `.` and of places in brackets.
 ///
 /// IDTA-01002-3-0, idShortPath.
@@ -142,6 +148,7 @@ pub fn parse_path(alloc: Global, text: &[u8]) -> Result<Path, PathFault>
     ensures bad { IfErr result (IsPathFault text.now) }
 {
     let mut steps = Many::new(alloc);
+    steps.reserve(step_count(text))?;
     let mut lead = b'.';
     let mut rest = text;
     loop {
