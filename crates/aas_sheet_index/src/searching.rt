@@ -1,4 +1,4 @@
-ghost use Rattle.std.specs.Prelude.{◌≡◌, ◌+◌, ◌-◌, take, drop, option_map, true, IsSome};
+ghost use Rattle.std.specs.Prelude.{◌≡◌, ◌≤◌, ◌+◌, ◌-◌, length, take, drop, option_map, true, IsSome};
 ghost use Rattle.std.specs.List.{position};
 ghost use Rattle.std.specs.Str.{chars};
 ghost use Rattle.aas_path_trees.specs.ElementAt.{is_text};
@@ -8,6 +8,9 @@ ghost use Rattle.aas_sheet_index.specs.Sides.{is_named_below};
 use crate::order::place_of_name;
 use crate::side::Side;
 use aas_model::same_text;
+
+/// How many sides are walked along, where an index of many more would have to be searched.
+const FEW: usize = 16;
 
 fn has_name(side: &Side, name: &str) -> bool
     ensures value { result ≡ is_text (chars name.now) side.now.id_short }
@@ -26,8 +29,53 @@ fn is_named_below(side: &Side, level: u32, name: &str) -> bool
     u64::from(side.level) == u64::from(level) + 1 && has_name(side, name)
 }
 
-/// The first rank from `first` to `end` one level below a level whose side has the idShort.
+fn place_named(sides: &[Side], level: u32, name: &str) -> Option<usize>
+    ensures { result ≡ position (is_named_below level (chars name.now)) sides.now }
+{
+    sides
+        .iter()
+        .position(|side| is_named_below(side, level, name))
+}
+
+/// The first rank from `first` to `end` one level below a level whose side has the idShort. A few sides are walked along.
 pub(crate) fn first_named(
+    sides: &[Side],
+    ranks: &[u32],
+    first: usize,
+    end: usize,
+    level: u32,
+    name: &str,
+) -> Option<usize>
+    requires { IsPart sides.now 0 ranks.now }
+    ensures { result ≡ option_map (λ i. first + i) (position (is_named_below level (chars name.now)) (take (end - first) (drop first sides.now))) }
+{
+    if first <= end && end <= sides.len() && end - first <= FEW {
+        first_named_walked(sides, first, end, level, name)
+    } else {
+        first_named_indexed(sides, ranks, first, end, level, name)
+    }
+}
+
+/// The same by a walk along the sides.
+fn first_named_walked(
+    sides: &[Side],
+    first: usize,
+    end: usize,
+    level: u32,
+    name: &str,
+) -> Option<usize>
+    requires ordered { first ≤ end }
+    requires within { end ≤ length sides.now }
+    ensures { result ≡ option_map (λ i. first + i) (position (is_named_below level (chars name.now)) (take (end - first) (drop first sides.now))) }
+{
+    match place_named(&sides[first..end], level, name) {
+        Some(place) => Some(first + place),
+        None => None,
+    }
+}
+
+/// The same by the index.
+fn first_named_indexed(
     sides: &[Side],
     ranks: &[u32],
     first: usize,

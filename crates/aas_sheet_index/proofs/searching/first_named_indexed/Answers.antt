@@ -5,7 +5,7 @@ use Rattle.std.proofs.lemmas.Str.{encodes-chars}
 use Rattle.aas_sheet_index.specs.Index.{compared, key, key_at}
 use Rattle.aas_sheet_index.specs.declared.side.Side.{Side}
 use Rattle.aas_sheet_index.proofs.Searched.{none_behind, none_other, none_past, some_there, Sought}
-use Rattle.aas_sheet_index.proofs.searching.first_named.Goals as goal
+use Rattle.aas_sheet_index.proofs.searching.first_named_indexed.Goals as goal
 
 sought : (ss : List Side) (ranks : List ℕ) (k k' : ℕ) (name : List ℕ) (first place : ℕ) → k' ≡ k → AllWithin (λ r. is_lt (compared (key_at ss r) r (key (k' + 1) name) first) ≡ true) ranks 0 place
     → AllWithin (λ r. is_lt (compared (key_at ss r) r (key (k + 1) name) first) ≡ true) ranks 0 place
