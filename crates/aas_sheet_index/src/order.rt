@@ -8,7 +8,7 @@ ghost use Rattle.aas_sheet_index.specs.Index.{compared, key, key_at, name_bytes,
 use crate::side::Side;
 use std::cmp::Ordering;
 
-/// How two idShorts stand to one another. Most differ in length, so that no byte of theirs is compared.
+/// How two idShorts stand to one another. Where they differ in length, no byte of theirs is compared.
 fn compare_names<'x>(a: &'x str, b: &'x str) -> Ordering
     ensures { result ≡ slice_cmp nat_cmp (length a.now ∷ a.now) (length b.now ∷ b.now) }
 {
