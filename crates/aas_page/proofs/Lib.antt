@@ -1,5 +1,6 @@
 pub mod Coding
 mod Following
+mod Open
 mod Paged
 mod Plain
 mod Walked

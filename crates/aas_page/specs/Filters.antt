@@ -1,7 +1,7 @@
 -- Which documents pass a filter (IDTA-01002-3-0, the queries for shells by idShort and assetIds, for submodels by idShort and
 -- semanticId, and for concept descriptions by idShort and isCaseOf). That references are compared by type and keys, and specific
 -- asset ids by name and value, and that what isn't for a collection counts for nothing in it, are this profile's own rules.
-use Rattle.std.specs.Prelude.{ℕ, List, Option, Some, None, codes, bytes_eq, Bool, true, false, ◌&&◌, ◌||◌}
+use Rattle.std.specs.Prelude.{◌≡◌, ℕ, List, [], Option, Some, None, codes, bytes_eq, Bool, true, false, ◌&&◌, ◌||◌}
 use Rattle.std.specs.List.{list_all, list_any}
 use Rattle.aas_model.specs.declared.asset.AssetInformation.{AssetInformation}
 use Rattle.aas_model.specs.declared.documents.Concept.{Concept}
@@ -45,6 +45,13 @@ is_global wanted = bytes_eq wanted.name (codes "globalAssetId")
 abbrev pub has_asset_id : AssetInformation → SpecificAssetId → Bool
 has_asset_id asset wanted =
     list_any (is_same_id wanted) asset.specific_asset_ids || (is_global wanted && is_text wanted.value asset.global_asset_id)
+
+-- nothing is asked for
+pub record AsksNothing (f : Filter) : Type 0 where
+  pub id_short : f.id_short ≡ None
+  pub semantic_id : f.semantic_id ≡ None
+  pub asset_ids : f.asset_ids ≡ []
+  pub is_case_of : f.is_case_of ≡ None
 
 -- ---- one row a collection
 

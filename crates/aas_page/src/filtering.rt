@@ -1,10 +1,11 @@
 // Whether a document passes a filter.
 ghost use Rattle.std.specs.Prelude.{◌≡◌};
+ghost use Rattle.std.specs.Bool.{OnTrue};
 ghost use Rattle.std.specs.List.{list_all, list_any};
 ghost use Rattle.aas_path_trees.specs.ElementAt.{is_text};
 ghost use Rattle.aas_reference.specs.Same.{same};
 ghost use Rattle.aas_page.specs.Filters.{has_asset_id, has_reference, has_reference_among, has_text, is_global, is_same_id};
-ghost use Rattle.aas_page.specs.Filters.{passes_concept, passes_shell, passes_submodel};
+ghost use Rattle.aas_page.specs.Filters.{AsksNothing, passes_concept, passes_shell, passes_submodel};
 
 use crate::filter::Filter;
 use aas_model::{
@@ -87,6 +88,16 @@ fn has_asset_ids(asset: &AssetInformation, wanted: &[SpecificAssetId]) -> bool
     ensures { result ≡ list_all (has_asset_id asset.now) wanted.now }
 {
     wanted.iter().all(|id| has_asset_id(asset, id))
+}
+
+/// Whether nothing is asked for.
+pub(crate) fn asks_nothing(filter: &Filter) -> bool
+    ensures { OnTrue result (AsksNothing filter.now) }
+{
+    filter.id_short.is_none()
+        && filter.semantic_id.is_none()
+        && filter.asset_ids.is_empty()
+        && filter.is_case_of.is_none()
 }
 
 pub(crate) fn passes_shell(filter: &Filter, shell: &Shell) -> bool

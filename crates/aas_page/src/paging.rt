@@ -1,17 +1,18 @@
-ghost use Rattle.std.specs.Prelude.{◌≡◌, IfOk};
+ghost use Rattle.std.specs.Prelude.{◌≡◌, true, IfOk};
 ghost use Rattle.std.specs.Option.{option_copied};
+ghost use Rattle.aas_store.specs.Documents.{has};
 ghost use Rattle.aas_page.specs.Pages.{page_of, passes_at, shown};
 ghost use Rattle.aas_page.specs.Walks.{ListsEachOnce};
 
 use crate::filter::Filter;
-use crate::filtering::{passes_concept, passes_shell, passes_submodel};
+use crate::filtering::{asks_nothing, passes_concept, passes_shell, passes_submodel};
 use crate::pages::Page;
 use aas_model::{Collection, Many, NoMemory, Text};
 use aas_store::Store;
 use std::alloc::Global;
 
 /// Whether the document of the identifier passes the filter.
-fn passes<S: Store>(store: &S, collection: Collection, filter: &Filter, id: &str) -> bool
+fn passes_at<S: Store>(store: &S, collection: Collection, filter: &Filter, id: &str) -> bool
     ensures { result ≡ passes_at collection filter.now id.now (S.documents store.now) }
 {
     match collection {
@@ -27,6 +28,19 @@ fn passes<S: Store>(store: &S, collection: Collection, filter: &Filter, id: &str
             Some(concept) => passes_concept(filter, concept),
             None => false,
         },
+    }
+}
+
+/// The same of a document that is there. Where nothing is asked for, it isn't looked up.
+#[tactic(auto, using(crate::proofs::Open::open_passes))]
+fn passes<S: Store>(store: &S, collection: Collection, filter: &Filter, id: &str) -> bool
+    requires { has collection id.now (S.documents store.now) ≡ true }
+    ensures { result ≡ passes_at collection filter.now id.now (S.documents store.now) }
+{
+    if asks_nothing(filter) {
+        true
+    } else {
+        passes_at(store, collection, filter, id)
     }
 }
 

@@ -4,6 +4,7 @@ use Rattle.std.specs.Str.{encode_utf8_all}
 use Rattle.std.proofs.lemmas.List.{length-append, length-map, map-append}
 use Rattle.aas_store.specs.Documents.{Identifier}
 use Rattle.aas_page.proofs.Paged.{fewer_behind, next_passed_over, next_passes, next_taken, no_next, page_is_all, page_is_full, passing}
+use Rattle.aas_page.proofs.Open.{next_is_there}
 use Rattle.aas_page.proofs.paging.page.Goals as goal
 use Rattle.aas_page.proofs.paging.page.Goals.{then-passes+else-len-limit+in_ok-from_str+in_ok-push, else-passes}
 
@@ -31,6 +32,10 @@ returns-then-len-limit g c =
     page_is_full k f after c.args.limit d taken id (passing k f (Some id) d)
     (next_passes k f d (passing k f after d) taken last id c.loop-id.invariant.so_far (sym c.in-Some.ensures) passed)
     (omega (arith, long))
+
+pub passes-requires : goal.passes-requires
+passes-requires g c =
+    next_is_there c.args.collection (option_copied c.loop-id.last) (g.S.Store.documents c.args.store.now) c.in-Some.id.now (sym c.in-Some.ensures)
 
 pub loop-id-smaller : goal.loop-id-smaller
 loop-id-smaller g c =
