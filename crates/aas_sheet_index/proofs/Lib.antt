@@ -1,4 +1,5 @@
 pub mod Above
+pub mod Counted
 pub mod Dropped
 pub mod Measures
 pub mod Merged

@@ -1,9 +1,10 @@
-ghost use Rattle.std.specs.Prelude.{◌≡◌, ◌≤◌, ◌+◌, ◌-◌, length, take, drop, option_map, true, IsSome};
+ghost use Rattle.std.specs.Prelude.{◌≡◌, ◌<◌, ◌≤◌, ◌+◌, ◌-◌, ◌^◌, length, take, drop, option_map, true, IsSome, IfSome};
 ghost use Rattle.std.specs.List.{position};
 ghost use Rattle.std.specs.Str.{chars};
 ghost use Rattle.aas_path_trees.specs.ElementAt.{is_text};
 ghost use Rattle.aas_sheet_index.specs.Index.{name_bytes, IsPart};
-ghost use Rattle.aas_sheet_index.specs.Sides.{is_named_below};
+ghost use Rattle.aas_rows.specs.Children.{nth_where};
+ghost use Rattle.aas_sheet_index.specs.Sides.{is_below, is_named_below, AreMeasured};
 
 use crate::order::place_of_name;
 use crate::side::Side;
@@ -22,11 +23,17 @@ fn has_name(side: &Side, name: &str) -> bool
     }
 }
 
+fn is_below(side: &Side, level: u32) -> bool
+    ensures { result ≡ is_below level side.now }
+{
+    u64::from(side.level) == u64::from(level) + 1
+}
+
 fn is_named_below(side: &Side, level: u32, name: &str) -> bool
     ensures value { result ≡ is_named_below level (chars name.now) side.now }
     ensures bytes { IsSome side.now.id_short → side.now.level ≡ level + 1 → name_bytes side.now.id_short ≡ name.now → result ≡ true }
 {
-    u64::from(side.level) == u64::from(level) + 1 && has_name(side, name)
+    is_below(side, level) && has_name(side, name)
 }
 
 fn place_named(sides: &[Side], level: u32, name: &str) -> Option<usize>
@@ -99,4 +106,35 @@ fn first_named_indexed(
     } else {
         None
     }
+}
+
+/// The nth rank from `first` to `end` one level below a level. Of each before it, all below is passed at once.
+pub(crate) fn nth_below(
+    sides: &[Side],
+    first: usize,
+    end: usize,
+    level: u32,
+    place: u64,
+) -> Option<usize>
+    requires sized { AreMeasured sides.now }
+    requires few { length sides.now ≤ 2 ^ 31 }
+    requires within { end ≤ length sides.now }
+    ensures value { result ≡ option_map (λ i. first + i) (nth_where (is_below level) place (take (end - first) (drop first sides.now))) }
+    ensures inside { IfSome result (λ r. r < end) }
+{
+    let mut left = place;
+    let mut rank = first;
+    while rank < end {
+        let side = &sides[rank];
+        if is_below(side, level) {
+            if left == 0 {
+                return Some(rank);
+            }
+            left -= 1;
+            rank += side.size;
+        } else {
+            rank += 1;
+        }
+    }
+    None
 }

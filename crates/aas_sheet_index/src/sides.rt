@@ -1,14 +1,15 @@
-ghost use Rattle.std.specs.Prelude.{◌≡◌, ◌+◌, ◌-◌, ◌≤◌, ◌++◌, ◌^◌, length, take, drop, option_map, IfOk, OnErr, OnOk};
+ghost use Rattle.std.specs.Prelude.{◌≡◌, ◌+◌, ◌-◌, ◌<◌, ◌≤◌, ◌++◌, ◌^◌, length, take, drop, option_map, IfOk, IfSome, OnErr, OnOk};
 ghost use Rattle.std.specs.List.{position, remove_range, replace_range};
 ghost use Rattle.std.specs.Str.{chars};
 ghost use Rattle.aas_sheet_index.specs.Index.{Enlarged, IsIndex, Waiting};
-ghost use Rattle.aas_sheet_index.specs.Sides.{is_named_below, measured, AreMeasured, HaveLevels};
+ghost use Rattle.aas_rows.specs.Children.{nth_where};
+ghost use Rattle.aas_sheet_index.specs.Sides.{is_below, is_named_below, measured, AreMeasured, HaveLevels};
 
 use crate::listing::{add_ranks, sorted_ranks};
 use crate::measuring::{level_at, measure, measure_edited};
 use crate::merging::merge;
 use crate::moving::renumber;
-use crate::searching::first_named;
+use crate::searching::{first_named, nth_below};
 use crate::side::Side;
 use crate::splicing::{append, splice, truncate};
 use aas_model::{Many, NoMemory};
@@ -131,6 +132,15 @@ impl Sides {
     {
         let sides = self.sides.as_slice();
         first_named(sides, self.ranks.as_slice(), first, end, level, name)
+    }
+
+    /// The nth rank from `first` to `end` one level below a level, counted from 0. It looks at no side below those before it.
+    pub fn nth_below(&self, first: usize, end: usize, level: u32, place: u64) -> Option<usize>
+        requires { end ≤ length self.now }
+        ensures value { result ≡ option_map (λ i. first + i) (nth_where (is_below level) place (take (end - first) (drop first self.now))) }
+        ensures inside { IfSome result (λ r. r < end) }
+    {
+        nth_below(self.sides.as_slice(), first, end, level, place)
     }
 
     /// Puts these sides into the place of those from `first` to `end`. Each has its size then.

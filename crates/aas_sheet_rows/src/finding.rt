@@ -3,11 +3,10 @@ ghost use Rattle.std.specs.Option.{IfSome};
 ghost use Rattle.aas_model.specs.declared.element.Element.{Element};
 ghost use Rattle.aas_path_trees.specs.Children.{is_list_payload};
 ghost use Rattle.aas_path_trees.specs.ElementAt.{depth_among};
-ghost use Rattle.aas_rows.specs.Children.{nth_where};
 ghost use Rattle.aas_rows.specs.Edits.{rank_among};
 ghost use Rattle.aas_sheet_rows.specs.Found.{side_of_step, Among};
 ghost use Rattle.aas_sheet_rows.specs.Table.{IsTable};
-ghost use Rattle.aas_sheet_index.specs.Sides.{is_below, sizes_of};
+ghost use Rattle.aas_sheet_index.specs.Sides.{sizes_of};
 ghost use Rattle.aas_store.specs.Spots.{spot_among, step_of};
 
 use crate::row::Kept;
@@ -30,40 +29,6 @@ pub(crate) fn is_list(payload: &Payload) -> bool
     ensures { result ≡ is_list_payload payload.now }
 {
     matches!(payload, Payload::SubmodelElementList { .. })
-}
-
-fn is_below(side: &Side, level: u32) -> bool
-    ensures { result ≡ is_below level side.now }
-{
-    u64::from(side.level) == u64::from(level) + 1
-}
-
-fn nth_below(sides: &[Side], level: u32, place: u64) -> Option<usize>
-    ensures { result ≡ nth_where (is_below level) place sides.now }
-{
-    let mut left = place;
-    for i in 0..sides.len() {
-        if is_below(&sides[i], level) {
-            if left == 0 {
-                return Some(i);
-            }
-            left -= 1;
-        }
-    }
-    None
-}
-
-/// The rank from `first` to `end` that is the nth one level below a level.
-fn nth_rank(sides: &[Side], first: usize, end: usize, level: u32, place: u64) -> Option<usize>
-    requires ordered { first ≤ end }
-    requires within { end ≤ length sides.now }
-    ensures value { result ≡ option_map (λ i. first + i) (nth_where (is_below level) place (take (end - first) (drop first sides.now))) }
-    ensures inside { IfSome result (λ r. r < end) }
-{
-    match nth_below(&sides[first..end], level, place) {
-        Some(place) => Some(first + place),
-        None => None,
-    }
 }
 
 /// The rank to which a step leads among the rows from `first` to `end`, which stand below one of a level.
@@ -90,7 +55,7 @@ pub(crate) fn rank_of_step(
         },
         StepRef::Place(place) => {
             if in_list {
-                nth_rank(sides.as_slice(), first, end, level, place)
+                sides.nth_below(first, end, level, place)
             } else {
                 None
             }

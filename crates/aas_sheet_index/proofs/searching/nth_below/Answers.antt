@@ -1,0 +1,56 @@
+use Rattle.std.proofs.Common.{◌≡◌, ◌+◌, ◌-◌, ◌<◌, ◌≤◌, ℕ, suc, length, get_or, List, Some, slice_get, sym, ap, ◌∙◌, arith, rules}
+use Rattle.std.proofs.lemmas.Option.{slice_get-get_or}
+use Rattle.aas_sheet_index.specs.Sides.{is_below}
+use Rattle.aas_sheet_index.specs.declared.side.Side.{Side}
+use Rattle.aas_sheet_index.proofs.Counted.{deeper_is_not_below, found_here, nth_from, passed_all, passed_by, size_within}
+use Rattle.aas_sheet_index.proofs.searching.nth_below.Goals as goal
+
+there : (ss : List Side) (rank : ℕ) (s : Side) → rank < length ss → s ≡ get_or ss rank s → slice_get ss rank ≡ Some s
+there ss rank s inside is = slice_get-get_or ss rank s inside ∙ ap (λ (s : Side). Some s) (sym is)
+
+pub returns-then-left-eq0-clause-value : goal.returns-then-left-eq0-clause-value
+returns-then-left-eq0-clause-value c =
+    let ss : List Side = c.args.sides.now in
+    let l = c.loop-rank in
+    let inside = c.loop-rank-test.true in
+    let at : slice_get ss l.rank ≡ Some c.index-sides-rank.result = there ss l.rank c.index-sides-rank.result (omega (arith, inside, c.requires.within)) c.index-sides-rank.is in
+    let none : l.left ≡ 0 = c.if-left-eq0.true in
+    sym (l.invariant ∙ ap (nth_from (is_below c.args.level) ss c.args.end l.rank) none ∙ found_here (is_below c.args.level) ss c.args.end l.rank c.index-sides-rank.result inside at (sym c.is_below.ensures ∙ c.if-is_below.true))
+
+pub overflow_add-rank : goal.overflow_add-rank
+overflow_add-rank c =
+    let ss : List Side = c.args.sides.now in
+    let inside = c.loop-rank-test.true in
+    let fits = size_within ss c.loop-rank.rank c.index-sides-rank.result c.requires.sized (there ss c.loop-rank.rank c.index-sides-rank.result (omega (arith, inside, c.requires.within)) c.index-sides-rank.is) in
+    let sum = fits.1 in
+    let small : c.loop-rank.rank + c.index-sides-rank.result.size ≤ 18446744073709551615 = omega (arith, sum, c.requires.few) in
+    search rules
+
+pub loop-rank-smaller-then-is_below : goal.loop-rank-smaller-then-is_below
+loop-rank-smaller-then-is_below c =
+    let ss : List Side = c.args.sides.now in
+    let inside = c.loop-rank-test.true in
+    let fits = size_within ss c.loop-rank.rank c.index-sides-rank.result c.requires.sized (there ss c.loop-rank.rank c.index-sides-rank.result (omega (arith, inside, c.requires.within)) c.index-sides-rank.is) in
+    let some = fits.0 in
+    omega (arith, inside, some)
+
+pub loop-rank-preserved-then-is_below : goal.loop-rank-preserved-then-is_below
+loop-rank-preserved-then-is_below c =
+    let ss : List Side = c.args.sides.now in
+    let l = c.loop-rank in
+    let s : Side = c.index-sides-rank.result in
+    let inside = c.loop-rank-test.true in
+    let at = there ss l.rank s (omega (arith, inside, c.requires.within)) c.index-sides-rank.is in
+    let holds = sym c.is_below.ensures ∙ c.if-is_below.true in
+    let some : l.left ≡ suc (l.left - 1) = omega (arith, c.if-left-eq0.false) in
+    l.invariant ∙ ap (nth_from (is_below c.args.level) ss c.args.end l.rank) some
+    ∙ passed_all (is_below c.args.level) ss c.args.end l.rank s inside at (l.left - 1) holds (deeper_is_not_below c.args.level s holds) c.requires.sized
+
+pub loop-rank-preserved : goal.loop-rank-preserved
+loop-rank-preserved c =
+    let ss : List Side = c.args.sides.now in
+    let l = c.loop-rank in
+    let s : Side = c.index-sides-rank.result in
+    let inside = c.loop-rank-test.true in
+    let at = there ss l.rank s (omega (arith, inside, c.requires.within)) c.index-sides-rank.is in
+    l.invariant ∙ passed_by (is_below c.args.level) ss c.args.end l.rank s inside at l.left (sym c.is_below.ensures ∙ c.if-is_below.false)
