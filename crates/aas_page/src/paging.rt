@@ -46,7 +46,7 @@ fn passes<S: Store>(store: &S, collection: Collection, filter: &Filter, id: &str
 
 /// The documents of a collection above an identifier that pass a filter, up to a limit, and whether a further one follows.
 ///
-/// IDTA-01002-3-0, pagination. It looks at each document that it lists or passes over once.
+/// IDTA-01002-3-0, pagination. It looks at each document that it lists or passes over at most once.
 pub fn page<S: Store>(
     alloc: Global,
     store: &S,

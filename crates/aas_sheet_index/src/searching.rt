@@ -1,5 +1,6 @@
 ghost use Rattle.std.specs.Prelude.{◌≡◌, ◌<◌, ◌≤◌, ◌+◌, ◌-◌, ◌^◌, length, take, drop, option_map, true, IsSome, IfSome};
 ghost use Rattle.std.specs.List.{position};
+ghost use Rattle.std.specs.Bool.{OnTrue};
 ghost use Rattle.std.specs.Str.{chars};
 ghost use Rattle.aas_path_trees.specs.ElementAt.{is_text};
 ghost use Rattle.aas_sheet_index.specs.Index.{name_bytes, IsPart};
@@ -108,7 +109,15 @@ fn first_named_indexed(
     }
 }
 
-/// The nth rank from `first` to `end` one level below a level. Of each before it, all below is passed at once.
+/// Whether the side stands one level below a level, and nothing below it.
+fn is_leaf_below(side: &Side, level: u32) -> bool
+    ensures { OnTrue result ((is_below level side.now ≡ true) × (side.now.size ≡ 1)) }
+{
+    is_below(side, level) && side.size == 1
+}
+
+/// The nth rank from `first` to `end` one level below a level. Of each before it, all below is passed at once. Where
+/// nothing stands below several, the next is looked at before the size of the one before it is known.
 pub(crate) fn nth_below(
     sides: &[Side],
     first: usize,
@@ -133,6 +142,10 @@ pub(crate) fn nth_below(
             left -= 1;
             rank += side.size;
         } else {
+            rank += 1;
+        }
+        while left > 0 && rank < end && is_leaf_below(&sides[rank], level) {
+            left -= 1;
             rank += 1;
         }
     }

@@ -1,9 +1,10 @@
-use Rattle.std.proofs.Common.{◌≡◌, ◌+◌, ◌-◌, ◌<◌, ◌≤◌, ℕ, suc, length, get_or, List, Some, slice_get, sym, ap, ◌∙◌, arith, rules}
+use Rattle.std.proofs.Common.{◌≡◌, ◌+◌, ◌-◌, ◌<◌, ◌≤◌, ℕ, suc, length, get_or, List, Some, slice_get, true, sym, ap, ap₂, ◌∙◌, arith, rules}
 use Rattle.std.proofs.lemmas.Option.{slice_get-get_or}
 use Rattle.aas_sheet_index.specs.Sides.{is_below}
 use Rattle.aas_sheet_index.specs.declared.side.Side.{Side}
 use Rattle.aas_sheet_index.proofs.Counted.{deeper_is_not_below, found_here, nth_from, passed_all, passed_by, size_within}
 use Rattle.aas_sheet_index.proofs.searching.nth_below.Goals as goal
+use Rattle.aas_sheet_index.proofs.searching.nth_below.Goals.{then-is_below+else-left-eq0, else-is_below}
 
 there : (ss : List Side) (rank : ℕ) (s : Side) → rank < length ss → s ≡ get_or ss rank s → slice_get ss rank ≡ Some s
 there ss rank s inside is = slice_get-get_or ss rank s inside ∙ ap (λ (s : Side). Some s) (sym is)
@@ -26,31 +27,67 @@ overflow_add-rank c =
     let small : c.loop-rank.rank + c.index-sides-rank.result.size ≤ 18446744073709551615 = omega (arith, sum, c.requires.few) in
     search rules
 
-pub loop-rank-smaller-then-is_below : goal.loop-rank-smaller-then-is_below
-loop-rank-smaller-then-is_below c =
+pub loop-left-init : goal.loop-left-init
+loop-left-init c =
+    let ss : List Side = c.args.sides.now in
+    let l = c.loop-rank in
+    let s : Side = c.index-sides-rank.result in
+    let inside = c.loop-rank-test.true in
+    let at = there ss l.rank s (omega (arith, inside, c.requires.within)) c.index-sides-rank.is in
+    let p = is_below c.args.level in
+    elim c.if-is_below.branch [
+      | then-is_below+else-left-eq0 w ↦
+          let holds = sym c.is_below.ensures ∙ w.if-is_below.true in
+          let some : l.left ≡ suc (l.left - 1) = omega (arith, w.if-left-eq0.false) in record {
+            same = l.invariant ∙ ap (nth_from p ss c.args.end l.rank) some
+                ∙ passed_all p ss c.args.end l.rank s inside at (l.left - 1) holds (deeper_is_not_below c.args.level s holds) c.requires.sized
+                ∙ sym (ap₂ (nth_from p ss c.args.end) w.rank-is w.left-is);
+            on = omega arith;
+          }
+      | else-is_below w ↦ record {
+        same = l.invariant ∙ passed_by p ss c.args.end l.rank s inside at l.left (sym c.is_below.ensures ∙ w.if-is_below.false)
+            ∙ sym (ap₂ (nth_from p ss c.args.end) w.rank-is w.left-is);
+        on = omega arith;
+      }
+    ]
+
+pub loop-rank-smaller-else-is_leaf_below : goal.loop-rank-smaller-else-is_leaf_below
+loop-rank-smaller-else-is_leaf_below c =
     let ss : List Side = c.args.sides.now in
     let inside = c.loop-rank-test.true in
+    let on = c.loop-left.invariant.on in
     let fits = size_within ss c.loop-rank.rank c.index-sides-rank.result c.requires.sized (there ss c.loop-rank.rank c.index-sides-rank.result (omega (arith, inside, c.requires.within)) c.index-sides-rank.is) in
     let some = fits.0 in
-    omega (arith, inside, some)
+    elim c.if-is_below.branch [
+      | then-is_below+else-left-eq0 w ↦ let is = w.rank-is in omega (arith, inside, on, is, some)
+      | else-is_below w ↦ let is = w.rank-is in omega (arith, inside, on, is)
+    ]
 
-pub loop-rank-preserved-then-is_below : goal.loop-rank-preserved-then-is_below
-loop-rank-preserved-then-is_below c =
+pub loop-rank-smaller : goal.loop-rank-smaller
+loop-rank-smaller c =
     let ss : List Side = c.args.sides.now in
-    let l = c.loop-rank in
-    let s : Side = c.index-sides-rank.result in
     let inside = c.loop-rank-test.true in
-    let at = there ss l.rank s (omega (arith, inside, c.requires.within)) c.index-sides-rank.is in
-    let holds = sym c.is_below.ensures ∙ c.if-is_below.true in
-    let some : l.left ≡ suc (l.left - 1) = omega (arith, c.if-left-eq0.false) in
-    l.invariant ∙ ap (nth_from (is_below c.args.level) ss c.args.end l.rank) some
-    ∙ passed_all (is_below c.args.level) ss c.args.end l.rank s inside at (l.left - 1) holds (deeper_is_not_below c.args.level s holds) c.requires.sized
+    let on = c.loop-left.invariant.on in
+    let fits = size_within ss c.loop-rank.rank c.index-sides-rank.result c.requires.sized (there ss c.loop-rank.rank c.index-sides-rank.result (omega (arith, inside, c.requires.within)) c.index-sides-rank.is) in
+    let some = fits.0 in
+    elim c.if-is_below.branch [
+      | then-is_below+else-left-eq0 w ↦ let is = w.rank-is in omega (arith, inside, on, is, some)
+      | else-is_below w ↦ let is = w.rank-is in omega (arith, inside, on, is)
+    ]
 
-pub loop-rank-preserved : goal.loop-rank-preserved
-loop-rank-preserved c =
+pub loop-left-preserved : goal.loop-left-preserved
+loop-left-preserved c =
     let ss : List Side = c.args.sides.now in
-    let l = c.loop-rank in
-    let s : Side = c.index-sides-rank.result in
-    let inside = c.loop-rank-test.true in
-    let at = there ss l.rank s (omega (arith, inside, c.requires.within)) c.index-sides-rank.is in
-    l.invariant ∙ passed_by (is_below c.args.level) ss c.args.end l.rank s inside at l.left (sym c.is_below.ensures ∙ c.if-is_below.false)
+    let l = c.loop-left in
+    let s : Side = c.index-sides-rank-then-rank-end.result in
+    let inside = c.if-rank-end.true in
+    let at = there ss l.rank s (omega (arith, inside, c.requires.within)) c.index-sides-rank-then-rank-end.is in
+    let p = is_below c.args.level in
+    let leaf : (p s ≡ true) × (s.size ≡ 1) = c.if-is_leaf_below.ensures in
+    let some : l.left ≡ suc (l.left - 1) = omega (arith, c.loop-left-test.true) in
+    let on = l.invariant.on in record {
+      same = l.invariant.same ∙ ap (nth_from p ss c.args.end l.rank) some
+          ∙ passed_all p ss c.args.end l.rank s inside at (l.left - 1) leaf.0 (deeper_is_not_below c.args.level s leaf.0) c.requires.sized
+          ∙ ap (λ n. nth_from p ss c.args.end (l.rank + n) (l.left - 1)) leaf.1;
+      on = omega (arith, on);
+    }
