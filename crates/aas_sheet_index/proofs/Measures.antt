@@ -1,10 +1,12 @@
 -- Sizes from levels, from the last row to the first.
 use Rattle.std.proofs.Common.{◌≡◌, ℕ, zero, suc, ◌+◌, ◌-◌, ◌<◌, ◌≤◌, Bool, true, false, nat_lt, List, [], ◌∷◌, ◌++◌, length, take, drop, get_or, Some, slice_get, slice_index_or, slice_set, refl, subst, sym, ap, ap₂, ◌∙◌, arith, if◌then◌else◌, length-drop, le-ltb, lt-ltb}
+use Rattle.std.specs.List.{All}
 use Rattle.std.proofs.lemmas.Bool.Decides.{Decides-ltb}
 use Rattle.std.proofs.lemmas.List.{drop_all, take-append-drop, take-set, length-set}
 use Rattle.std.proofs.lemmas.List.Elements.{All-cons, All-head, All-tail}
 use Rattle.aas_lemmas.proofs.Lists.{drop_at}
 use Rattle.aas_rows.specs.Rows.{count_deeper, sizes}
+use Rattle.aas_sheet_index.specs.Index.{AreKeyed, IsKeyed}
 use Rattle.aas_sheet_index.specs.Sides.{levels, measured, sizes_of, AreMeasured, HaveLevels}
 use Rattle.aas_sheet_index.specs.declared.side.Side.{Side}
 
@@ -125,12 +127,18 @@ known_behind ss start n is = ap sizes_of is ∙ measured_sizes (drop n start) �
 pub sized_measured : (ss : List Side) → AreMeasured (measured ss)
 sized_measured ss = measured_sizes ss ∙ ap sizes (sym (measured_levels ss))
 
+-- what holds of a side, whatever its size
+kept_measured : (P : Side → Type 0) → ((s : Side) (n : ℕ) → P s → P (record s { size = n })) → (ss : List Side) → All P ss → All P (measured ss)
+kept_measured P h [] all = all
+kept_measured P h (s ∷ ss) all =
+    let n : ℕ = 1 + count_deeper s.level (levels ss) in
+    All-cons P (record s { size = n }) (measured ss) (h s n (All-head P s ss all)) (kept_measured P h ss (All-tail P s ss all))
+
 pub have_measured : (ss : List Side) → HaveLevels ss → HaveLevels (measured ss)
-have_measured [] deep = deep
-have_measured (s ∷ ss) deep =
-    let P : Side → Type 0 = λ s. 0 < s.level in
-    All-cons P (record s { size = 1 + count_deeper s.level (levels ss) }) (measured ss) (All-head P s ss deep)
-    (have_measured ss (All-tail P s ss deep))
+have_measured = kept_measured (λ s. 0 < s.level) (λ s n h. h)
+
+pub keyed_measured : (ss : List Side) → AreKeyed ss → AreKeyed (measured ss)
+keyed_measured = kept_measured IsKeyed (λ s n h. h)
 
 -- sizes depend on what stands behind alone
 pub measured_back : (xs ys : List Side) → AreMeasured (xs ++ ys) → AreMeasured ys

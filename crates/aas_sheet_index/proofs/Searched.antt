@@ -1,5 +1,5 @@
 -- What a look-up by name finds.
-use Rattle.std.proofs.Common.{◌≡◌, ℕ, zero, suc, ◌+◌, ◌-◌, ◌<◌, ◌≤◌, Bool, true, false, nat_lt, ◌==◌, ◌&&◌, get_or, List, [], ◌∷◌, length, take, drop, slice_get, Option, Some, None, IsSome, option_map, refl, sym, ap, ap₂, ◌∙◌, arith, if◌then◌else◌}
+use Rattle.std.proofs.Common.{◌≡◌, ℕ, zero, suc, ◌+◌, ◌-◌, ◌<◌, ◌≤◌, Bool, true, false, nat_lt, ◌==◌, ◌&&◌, get_or, List, [], ◌∷◌, length, take, drop, slice_get, Option, Some, None, IsSome, option_map, refl, sym, subst, ap, ap₂, ◌∙◌, arith, if◌then◌else◌}
 use Rattle.std.specs.Cmp.Lexicographic.{slice_cmp}
 use Rattle.std.specs.FinMap.{nat_cmp-IsAntisymmetric, slice_cmp-IsAntisymmetric}
 use Rattle.std.specs.List.{AllWithin, list_any, position}
@@ -13,12 +13,12 @@ use Rattle.std.proofs.lemmas.Cmp.{nat_list_cmp_total, tied_itself}
 use Rattle.std.proofs.lemmas.List.{get_or_default}
 use Rattle.std.proofs.lemmas.List.Folds.{Any-from_list_any, list_any_at}
 use Rattle.std.proofs.lemmas.List.Sorted.{sorted_far}
-use Rattle.std.proofs.lemmas.Option.{slice_get-get_or, slice_get_within}
+use Rattle.std.proofs.lemmas.Option.{get_or_from_slice_get, slice_get-get_or, slice_get_within}
 use Rattle.std.proofs.lemmas.Slice.Eq.{bytes_eq-Decides}
 use Rattle.aas_lemmas.proofs.Truth.{and_right}
 use Rattle.aas_path_trees.specs.ElementAt.{is_text}
 use Rattle.aas_rows.proofs.Stepping.{first_where, position_first}
-use Rattle.aas_sheet_index.specs.Index.{compared, has_name, is_between, key, key_at, key_of, name_bytes, IsPart}
+use Rattle.aas_sheet_index.specs.Index.{compared, has_name, is_between, key, key_at, key_of, name_bytes, short_key, AreKeyed, IsKeyed, IsPart}
 use Rattle.aas_sheet_index.specs.Sides.{is_named_below}
 use Rattle.aas_sheet_index.specs.declared.side.Side.{Side}
 use Rattle.aas_sheet_index.proofs.Ranks.{within}
@@ -61,9 +61,20 @@ is_named k name t e = by (t.level == k + 1) refl t.id_short refl e
 -- the place in an index behind all that stand before what is looked for
 pub record Sought (ss : List Side) (ranks : List ℕ) (k : ℕ) (name : List ℕ) (first place : ℕ) : Type 0 where
   pub index : IsPart ss 0 ranks
+  pub keyed : AreKeyed ss
   pub spelled : encode_utf8_all (chars name) ≡ name
   pub before : AllWithin (λ r. is_lt (compared (key_at ss r) r (key (k + 1) name) first) ≡ true) ranks 0 place
   pub behind : AllWithin (λ r. is_lt (compared (key_at ss r) r (key (k + 1) name) first) ≡ false) ranks place (length ranks)
+
+keyed_at : (ss : List Side) (q : ℕ) (t : Side) → AreKeyed ss → slice_get ss q ≡ Some t → IsKeyed t
+keyed_at ss q t keyed at = subst IsKeyed (get_or_from_slice_get ss q t t at) (keyed q t (slice_get_within ss q t at))
+
+-- the key of a side that is looked for
+own_key : (ss : List Side) (k : ℕ) (name : List ℕ) (q : ℕ) (t : Side) → AreKeyed ss → encode_utf8_all (chars name) ≡ name → slice_get ss q ≡ Some t → Named k name t → key_at ss q ≡ key (k + 1) name
+own_key ss k name q t keyed spelled at n =
+    let kept : t.short_key ≡ short_key t.level (name_bytes t.id_short) = keyed_at ss q t keyed at in
+    let bytes : name_bytes t.id_short ≡ name = ap name_bytes n.id_short ∙ spelled in
+    ap key_of at ∙ ap (λ a. a ∷ t.level ∷ name_bytes t.id_short) kept ∙ ap₂ key n.level bytes
 
 -- a rank of an index, and its side
 pub record There (ss : List Side) (r : ℕ) : Type 0 where
@@ -93,7 +104,7 @@ later : (ss : List Side) (ranks : List ℕ) (k : ℕ) (name : List ℕ) (first p
 later ss ranks k name first place q t x le at named =
     let n = is_named k name t named in
     let wanted : List ℕ = key (k + 1) name in
-    let own : key_at ss q ≡ wanted = ap key_of at ∙ ap₂ key n.level (ap name_bytes n.id_short ∙ x.spelled) in
+    let own : key_at ss q ≡ wanted = own_key ss k name q t x.keyed x.spelled at n in
     let has : list_any (λ r. r == q) ranks ≡ true =
     x.index.listed q ∙ ap₂ (λ b c. b && c) (within 0 (length ss) q (omega arith) (slice_get_within ss q t at)) (ap has_name at ∙ some t (chars name) n.id_short) in
     let e = Any-from_list_any (λ r. r == q) ranks has in
@@ -227,7 +238,7 @@ module _ (ss : List Side) (ranks : List ℕ) (k : ℕ) (name : List ℕ) (first 
       let same : t.side ≡ side = let here = t.at in cc in
       none_walked ss (is_named_below k (chars name)) first end (λ q s le lt at_q holds.
       let l = later ss ranks k name first place q s x le at_q holds in
-      let same_key : key side.level (name_bytes side.id_short) ≡ key (k + 1) name = sym (ap key_of at) ∙ l.own_key in
+      let same_key : side.short_key ∷ side.level ∷ name_bytes side.id_short ≡ key (k + 1) name = sym (ap key_of at) ∙ l.own_key in
       let level : side.level ≡ k + 1 = cc in
       let bytes : name_bytes side.id_short ≡ name = cc in
       let passes = says (ap (λ (s : Side). has_name (Some s)) (sym same) ∙ t.named) level bytes in
@@ -239,7 +250,7 @@ module _ (ss : List Side) (ranks : List ℕ) (k : ℕ) (name : List ℕ) (first 
       let r : ℕ = get_or ranks place 0 in
       let at = at_place inside side is in
       let n = is_named k name side holds in
-      let own : key_at ss r ≡ key (k + 1) name = ap key_of at ∙ ap₂ key n.level (ap name_bytes n.id_short ∙ x.spelled) in
+      let own : key_at ss r ≡ key (k + 1) name = own_key ss k name r side x.keyed x.spelled at n in
       let not_less : nat_lt r first ≡ false = sym (ap (λ a. is_lt (compared a r (key (k + 1) name) first)) own ∙ tied (key (k + 1) name) r first) ∙ x.behind place 0 (omega arith) inside in
       some_walked ss (is_named_below k (chars name)) first end r side (ltb-false r first not_less) high at holds
       (λ q s le lt at_q passes. let l = later ss ranks k name first place q s x le at_q passes in let later_on = l.high in absurd (omega (arith, later_on, lt)))

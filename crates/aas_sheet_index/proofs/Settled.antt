@@ -1,6 +1,6 @@
 -- Sides that come into the place of others, and their index.
 use Rattle.std.proofs.Common.{◌≡◌, ℕ, zero, suc, ◌+◌, ◌-◌, ◌<◌, ◌≤◌, ◌^◌, ◌==◌, ◌&&◌, List, [], ◌∷◌, ◌++◌, length, map, take, drop, slice_get, refl, sym, ap, ap₂, ◌∙◌, subst, append_assoc, arith, length-append}
-use Rattle.std.specs.List.{filter, replace_range}
+use Rattle.std.specs.List.{All, filter, replace_range}
 use Rattle.std.specs.List.Sorted.{IsPermutation, IsSorted}
 use Rattle.std.specs.Ordering.{is_lt}
 use Rattle.std.proofs.Math.Seq.{take-length}
@@ -8,12 +8,12 @@ use Rattle.std.proofs.lemmas.List.{append-nil, map-append}
 use Rattle.std.proofs.lemmas.List.Elements.{filter-append, All-append, All-drop, All-take}
 use Rattle.std.proofs.lemmas.List.Sorted.{list_any-IsPermutation}
 use Rattle.aas_model_text.specs.Many.{filled}
-use Rattle.aas_sheet_index.specs.Index.{compared, has_name, is_between, key_of, order, Enlarged, IsColumn, IsIndex, IsPart, Listed, Waiting}
+use Rattle.aas_sheet_index.specs.Index.{compared, has_name, is_between, key_of, order, AreKeyed, Enlarged, IsColumn, IsIndex, IsPart, Listed, Waiting}
 use Rattle.aas_sheet_index.specs.Measuring.{Begins, StandFor}
 use Rattle.aas_sheet_index.specs.Moving.{moved, renumbered, stays}
 use Rattle.aas_sheet_index.specs.Sides.{measured, AreMeasured, HaveLevels}
 use Rattle.aas_sheet_index.specs.declared.side.Side.{Side}
-use Rattle.aas_sheet_index.proofs.Measures.{have_measured, measured_back, measured_long, sized_measured}
+use Rattle.aas_sheet_index.proofs.Measures.{have_measured, keyed_measured, measured_back, measured_long, sized_measured}
 use Rattle.aas_sheet_index.proofs.Moved.{back_long, back_sorted, front_sorted, listed, Cut}
 use Rattle.aas_sheet_index.proofs.Ordered.{is_less}
 use Rattle.aas_sheet_index.proofs.Ranks.{listed_none}
@@ -148,29 +148,26 @@ module _ (ss : List Side) (first end count : ℕ) (p : Parts ss first end count)
       begins_front [] ys h = tt
       begins_front (x ∷ xs) ys h = h
 
--- ---- levels
+-- ---- what holds of each side
 
-levels_replaced : (old more : List Side) (first end : ℕ) → HaveLevels old → HaveLevels more
-    → HaveLevels (replace_range old first end more)
-levels_replaced old more first end deep also =
-    let P : Side → Type 0 = λ s. 0 < s.level in
-    All-append P (take first old ++ more) (drop end old) (All-append P (take first old) more (All-take P first old deep) also)
-    (All-drop P end old deep)
+module _ (P : Side → Type 0) where
+  all_replaced : (old more : List Side) (first end : ℕ) → All P old → All P more → All P (replace_range old first end more)
+  all_replaced old more first end all also =
+      All-append P (take first old ++ more) (drop end old) (All-append P (take first old) more (All-take P first old all) also)
+      (All-drop P end old all)
 
-pub levels_spliced : (ss : List Side) (first end count : ℕ) → HaveLevels ss
-    → HaveLevels (replace_range (take count ss) first end (drop count ss))
-levels_spliced ss first end count deep =
-    let P : Side → Type 0 = λ s. 0 < s.level in
-    levels_replaced (take count ss) (drop count ss) first end (All-take P count ss deep) (All-drop P count ss deep)
+  pub all_spliced : (ss : List Side) (first end count : ℕ) → All P ss → All P (replace_range (take count ss) first end (drop count ss))
+  all_spliced ss first end count all = all_replaced (take count ss) (drop count ss) first end (All-take P count ss all) (All-drop P count ss all)
 
-pub levels_more : (old more all : List Side) → all ≡ old ++ more → HaveLevels old → HaveLevels more → HaveLevels all
-levels_more old more all is deep also = subst HaveLevels (sym is) (All-append (λ (s : Side). 0 < s.level) old more deep also)
+  pub all_more : (old more ss : List Side) → ss ≡ old ++ more → All P old → All P more → All P ss
+  all_more old more ss is all also = subst (All P) (sym is) (All-append P old more all also)
 
-pub column : (ss new : List Side) (ranks : List ℕ) → new ≡ measured ss → HaveLevels ss → IsIndex new ranks → IsColumn new ranks
-column ss new ranks is deep index = record {
+pub column : (ss new : List Side) (ranks : List ℕ) → new ≡ measured ss → HaveLevels ss → AreKeyed ss → IsIndex new ranks → IsColumn new ranks
+column ss new ranks is deep keyed index = record {
   index = index;
   sized = subst AreMeasured (sym is) (sized_measured ss);
   levels = subst HaveLevels (sym is) (have_measured ss deep);
+  keyed = subst AreKeyed (sym is) (keyed_measured ss keyed);
 }
 
 -- ---- merged

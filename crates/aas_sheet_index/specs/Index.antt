@@ -1,9 +1,10 @@
--- The index of a column of sides: the ranks of those that have an idShort, by level, then by the length of the idShort, then
--- by its bytes, then by rank. So the child of a name is the first rank behind its parent's that has its level and its idShort.
+-- The index of a column of sides: the ranks of those that have an idShort, by its short key, then by level, then by its bytes,
+-- then by rank. So the child of a name is the first rank behind its parent's that has its level and its idShort.
 -- The index knows no parent, and stays in order when rows move together. This profile's own rule.
-use Rattle.std.specs.Prelude.{◌≡◌, ℕ, ◌++◌, ◌≤◌, ◌^◌, ◌==◌, ◌&&◌, not, nat_lt, Bool, false, List, [], ◌∷◌, length, slice_get, take, Option, Some, None}
+use Rattle.std.specs.Prelude.{◌≡◌, ℕ, ◌++◌, ◌≤◌, ◌^◌, ◌==◌, ◌&&◌, not, nat_lt, get_or, if◌then◌else◌, Bool, false, List, [], ◌∷◌, length, slice_get, take, Option, Some, None}
 use Rattle.std.specs.Cmp.Lexicographic.{slice_cmp}
-use Rattle.std.specs.List.{list_any}
+use Rattle.std.specs.Int.{from_be_bytes, w64}
+use Rattle.std.specs.List.{All, list_any}
 use Rattle.std.specs.List.Sorted.{IsSorted}
 use Rattle.std.specs.Option.{is_some}
 use Rattle.std.specs.Ordering.{nat_cmp, ordering_then}
@@ -16,13 +17,30 @@ abbrev pub name_bytes : Option (List ℕ) → List ℕ
 name_bytes None = []
 name_bytes (Some n) = encode_utf8_all n
 
+abbrev pub capped : ℕ → ℕ
+capped n = if nat_lt n 255 then n else 255
+
+-- the level, the length of the idShort and its first six bytes, each in a byte of one number: most idShorts differ in it
+abbrev pub short_key : ℕ → List ℕ → ℕ
+short_key level name =
+    from_be_bytes w64
+    (capped level ∷ capped (length name) ∷ get_or name 0 0 ∷ get_or name 1 0 ∷ get_or name 2 0 ∷ get_or name 3 0 ∷ get_or name 4 0 ∷ get_or name 5 0 ∷ [])
+
 -- by what an idShort of a level stands in its place
 abbrev pub key : ℕ → List ℕ → List ℕ
-key level name = level ∷ length name ∷ name
+key level name = short_key level name ∷ level ∷ name
 
+-- the same of a side, by the short key that it keeps
 abbrev pub key_of : Option Side → List ℕ
 key_of None = []
-key_of (Some s) = key s.level (name_bytes s.id_short)
+key_of (Some s) = s.short_key ∷ s.level ∷ name_bytes s.id_short
+
+-- the short key that a side keeps is that of its level and its idShort
+abbrev pub IsKeyed : Side → Type 0
+IsKeyed s = s.short_key ≡ short_key s.level (name_bytes s.id_short)
+
+abbrev pub AreKeyed : List Side → Type 0
+AreKeyed ss = All IsKeyed ss
 
 -- by what a rank stands in its place, but for the rank itself
 abbrev pub key_at : List Side → ℕ → List ℕ
@@ -61,6 +79,7 @@ pub record IsColumn (ss : List Side) (ranks : List ℕ) : Type 0 where
   pub index : IsIndex ss ranks
   pub sized : AreMeasured ss
   pub levels : HaveLevels ss
+  pub keyed : AreKeyed ss
 
 -- ranks with those of the sides from first on behind
 pub record Enlarged (ss : List Side) (first : ℕ) (old new : List ℕ) (added : ℕ) : Type 0 where

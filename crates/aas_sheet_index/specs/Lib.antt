@@ -1,4 +1,5 @@
 pub mod Index
+pub mod Keys
 pub mod Measuring
 pub mod Merging
 pub mod Moving

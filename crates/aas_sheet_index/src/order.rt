@@ -1,35 +1,61 @@
-ghost use Rattle.std.specs.Prelude.{◌≡◌, ◌≤◌, ◌∷◌, length, true, false};
+ghost use Rattle.std.specs.Prelude.{◌≡◌, ◌≤◌, length, true, false, Some};
 ghost use Rattle.std.specs.Cmp.Lexicographic.{slice_cmp};
 ghost use Rattle.std.specs.List.{AllWithin};
 ghost use Rattle.std.specs.List.Sorted.{IsSorted};
 ghost use Rattle.std.specs.Ordering.{nat_cmp, is_lt};
-ghost use Rattle.aas_sheet_index.specs.Index.{compared, key, key_at, name_bytes, order};
+ghost use Rattle.aas_sheet_index.specs.Index.{compared, key, key_at, key_of, name_bytes, order};
+ghost use Rattle.aas_sheet_index.specs.Keys.{listed};
 
-use crate::side::Side;
+use crate::side::{Side, short_key};
 use std::cmp::Ordering;
 
-/// How two idShorts stand to one another. Where they differ in length, no byte of theirs is compared.
-fn compare_names<'x>(a: &'x str, b: &'x str) -> Ordering
-    ensures { result ≡ slice_cmp nat_cmp (length a.now ∷ a.now) (length b.now ∷ b.now) }
-{
-    if a.len() != b.len() {
-        return a.len().cmp(&b.len());
-    }
-    Ord::cmp(&a, &b)
+/// By what a rank stands in its place in the index, but for the rank itself.
+#[derive(Drop)]
+pub(crate) struct Key<'x> {
+    short_key: u64,
+    level: u64,
+    name: &'x str,
 }
 
-/// How an idShort of a level stands to another of another.
-fn compare_keys<'x>(level: u64, name: &'x str, other_level: u64, other: &'x str) -> Ordering
-    ensures { result ≡ slice_cmp nat_cmp (key level name.now) (key other_level other.now) }
-{
-    if level != other_level {
-        return level.cmp(&other_level);
+impl<'x> Key<'x> {
+    /// That of a level and an idShort.
+    pub(crate) fn new(level: u64, name: &'x str) -> Key<'x>
+        ensures { listed result ≡ key level name.now }
+    {
+        Key {
+            short_key: short_key(level, name),
+            level,
+            name,
+        }
     }
-    compare_names(name, other)
+
+    /// That of a side.
+    fn of_side(side: &'x Side) -> Key<'x>
+        ensures { listed result ≡ key_of (Some side.now) }
+    {
+        Key {
+            short_key: side.short_key,
+            level: side.level.into(),
+            name: name_of(side),
+        }
+    }
+
+    /// How it stands to another. Where they differ in the short key, as most do, no byte of an idShort is compared.
+    fn compare(&self, other: &Key<'x>) -> Ordering
+        ensures { result ≡ slice_cmp nat_cmp (listed self.now) (listed other.now) }
+    {
+        if self.short_key != other.short_key {
+            return self.short_key.cmp(&other.short_key);
+        }
+        if self.level != other.level {
+            return self.level.cmp(&other.level);
+        }
+        Ord::cmp(&self.name, &other.name)
+    }
 }
 
 /// The idShort, or the empty text where there is none.
-pub(crate) fn name_of(side: &Side) -> &str
+fn name_of(side: &Side) -> &str
     ensures { result.now ≡ name_bytes side.now.id_short }
 {
     match &side.id_short {
@@ -38,14 +64,14 @@ pub(crate) fn name_of(side: &Side) -> &str
     }
 }
 
-/// How a rank stands to another whose side has this level and this idShort.
-fn compare_to(sides: &[Side], rank: usize, level: u64, name: &str, other: usize) -> Ordering
-    ensures { result ≡ compared (key_at sides.now rank) rank (key level name.now) other }
+/// How a rank stands to another whose side has this key.
+fn compare_to(sides: &[Side], rank: usize, key: &Key<'_>, other: usize) -> Ordering
+    ensures { result ≡ compared (key_at sides.now rank) rank (listed key.now) other }
 {
     let Some(side) = sides.get(rank) else {
         return Ordering::Less;
     };
-    match compare_keys(side.level.into(), name_of(side), level, name) {
+    match Key::of_side(side).compare(key) {
         Ordering::Less => Ordering::Less,
         Ordering::Equal => rank.cmp(&other),
         Ordering::Greater => Ordering::Greater,
@@ -57,10 +83,7 @@ pub(crate) fn compare_ranks(sides: &[Side], rank: u32, other: u32) -> Ordering
     ensures { result ≡ order sides.now rank other }
 {
     match sides.get(other as usize) {
-        Some(side) => {
-            let level = u64::from(side.level);
-            compare_to(sides, rank as usize, level, name_of(side), other as usize)
-        },
+        Some(side) => compare_to(sides, rank as usize, &Key::of_side(side), other as usize),
         None => match sides.get(rank as usize) {
             Some(_) => Ordering::Greater,
             None => rank.cmp(&other),
@@ -68,20 +91,14 @@ pub(crate) fn compare_ranks(sides: &[Side], rank: u32, other: u32) -> Ordering
     }
 }
 
-/// How many of these ranks stand before one whose side has this level and this idShort.
-pub(crate) fn place_of_name(
-    sides: &[Side],
-    ranks: &[u32],
-    level: u64,
-    name: &str,
-    other: usize,
-) -> usize
+/// How many of these ranks stand before one whose side has this key.
+pub(crate) fn place_of_key(sides: &[Side], ranks: &[u32], key: &Key<'_>, other: usize) -> usize
     requires { IsSorted (order sides.now) ranks.now }
     ensures inside { result ≤ length ranks.now }
-    ensures before { AllWithin (λ r. is_lt (compared (key_at sides.now r) r (key level name.now) other) ≡ true) ranks.now 0 result }
-    ensures behind { AllWithin (λ r. is_lt (compared (key_at sides.now r) r (key level name.now) other) ≡ false) ranks.now result (length ranks.now) }
+    ensures before { AllWithin (λ r. is_lt (compared (key_at sides.now r) r (listed key.now) other) ≡ true) ranks.now 0 result }
+    ensures behind { AllWithin (λ r. is_lt (compared (key_at sides.now r) r (listed key.now) other) ≡ false) ranks.now result (length ranks.now) }
 {
-    ranks.partition_point(|rank| compare_to(sides, *rank as usize, level, name, other).is_lt())
+    ranks.partition_point(|rank| compare_to(sides, *rank as usize, key, other).is_lt())
 }
 
 /// How many of these ranks stand before another.

@@ -3,11 +3,11 @@ ghost use Rattle.std.specs.List.{position};
 ghost use Rattle.std.specs.Bool.{OnTrue};
 ghost use Rattle.std.specs.Str.{chars};
 ghost use Rattle.aas_path_trees.specs.ElementAt.{is_text};
-ghost use Rattle.aas_sheet_index.specs.Index.{name_bytes, IsPart};
+ghost use Rattle.aas_sheet_index.specs.Index.{name_bytes, AreKeyed, IsPart};
 ghost use Rattle.aas_rows.specs.Children.{nth_where};
 ghost use Rattle.aas_sheet_index.specs.Sides.{is_below, is_named_below, AreMeasured};
 
-use crate::order::place_of_name;
+use crate::order::{Key, place_of_key};
 use crate::side::Side;
 use aas_model::same_text;
 
@@ -54,7 +54,8 @@ pub(crate) fn first_named(
     level: u32,
     name: &str,
 ) -> Option<usize>
-    requires { IsPart sides.now 0 ranks.now }
+    requires index { IsPart sides.now 0 ranks.now }
+    requires keyed { AreKeyed sides.now }
     ensures { result ≡ option_map (λ i. first + i) (position (is_named_below level (chars name.now)) (take (end - first) (drop first sides.now))) }
 {
     if first <= end && end <= sides.len() && end - first <= FEW {
@@ -91,10 +92,12 @@ fn first_named_indexed(
     level: u32,
     name: &str,
 ) -> Option<usize>
-    requires { IsPart sides.now 0 ranks.now }
+    requires index { IsPart sides.now 0 ranks.now }
+    requires keyed { AreKeyed sides.now }
     ensures { result ≡ option_map (λ i. first + i) (position (is_named_below level (chars name.now)) (take (end - first) (drop first sides.now))) }
 {
-    let place = place_of_name(sides, ranks, u64::from(level) + 1, name, first);
+    let key = Key::new(u64::from(level) + 1, name);
+    let place = place_of_key(sides, ranks, &key, first);
     if place >= ranks.len() {
         return None;
     }

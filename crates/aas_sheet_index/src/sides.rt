@@ -1,7 +1,7 @@
 ghost use Rattle.std.specs.Prelude.{◌≡◌, ◌+◌, ◌-◌, ◌<◌, ◌≤◌, ◌++◌, ◌^◌, length, take, drop, option_map, IfOk, IfSome, OnErr, OnOk};
 ghost use Rattle.std.specs.List.{position, remove_range, replace_range};
 ghost use Rattle.std.specs.Str.{chars};
-ghost use Rattle.aas_sheet_index.specs.Index.{Enlarged, IsIndex, Waiting};
+ghost use Rattle.aas_sheet_index.specs.Index.{AreKeyed, Enlarged, IsIndex, Waiting};
 ghost use Rattle.aas_rows.specs.Children.{nth_where};
 ghost use Rattle.aas_sheet_index.specs.Sides.{is_below, is_named_below, measured, AreMeasured, HaveLevels};
 
@@ -72,7 +72,7 @@ fn settle(
 
 /// What stands beside the rows of a table, with an index by level and idShort.
 ///
-/// Contracts see it as the list of the sides. A look-up by name compares some 17 idShorts among 65,536. An edit takes a
+/// Contracts see it as the list of the sides. A look-up by name compares some 17 short keys among 65,536. An edit takes a
 /// few ranks out of the index by as many comparisons each, and merges the new ones in. It looks at every rank only where
 /// many sides go, or where those behind the place move. It measures the new sides and adds to the sizes of those above the
 /// place. Where it isn't told which these are, it measures the sides before the place too, up to a child of the submodel.
@@ -103,6 +103,7 @@ impl Sides {
     pub fn new(sides: Many<Side>) -> Result<Sides, NoMemory>
         requires few { length sides ≤ 2 ^ 31 }
         requires levels { HaveLevels sides }
+        requires keyed { AreKeyed sides }
         ensures { IfOk result (λ made. made ≡ measured sides) }
     {
         let mut sides = sides;
@@ -158,6 +159,7 @@ impl Sides {
         requires within { end ≤ length self.old }
         requires few { length (replace_range self.old first end more) ≤ 2 ^ 31 }
         requires levels { HaveLevels more }
+        requires keyed { AreKeyed more }
         ensures ok { OnOk result (self.new ≡ measured (replace_range self.old first end more)) }
         ensures err { OnErr result (self.new ≡ self.old) }
     {

@@ -182,7 +182,7 @@ abbrev pub spot_of : ℕ → List Element → Child → Spot
 spot_of first ks c = record { rank = first + length (elements_of_all (take c.0 ks)); kind = kind_of c.1 }
 
 pub no_side : Side
-no_side = record { id_short = None; level = 0; size = 0 }
+no_side = record { id_short = None; level = 0; size = 0; short_key = 0 }
 
 pub own_side : (ss : List Side) (n : ℕ) (d : Side) → get_or ss n d ≡ get_or ss n (get_or ss n d)
 own_side [] n d = refl

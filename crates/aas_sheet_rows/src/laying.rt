@@ -2,6 +2,7 @@ ghost use Rattle.std.specs.Prelude.{◌≡◌, ◌<◌, ◌+◌, ◌≤◌, ◌+
 ghost use Rattle.aas_path_trees.specs.Children.{kids_of};
 ghost use Rattle.aas_rows.specs.Edits.{count};
 ghost use Rattle.aas_rows.specs.Rows.{all_at, line_at, rows_of_all};
+ghost use Rattle.aas_sheet_index.specs.Index.{AreKeyed};
 ghost use Rattle.aas_sheet_rows.specs.Growing.{placed_of};
 ghost use Rattle.aas_sheet_rows.specs.Table.{lines_of};
 
@@ -28,6 +29,7 @@ fn lay(rows: &mut Many<Kept>, sides: &mut Many<Side>, tree: Tree) -> Result<Many
     ensures kids { IfOk result (λ kids. kids ≡ kids_of tree.element) }
     ensures lines { IfOk result (λ _. lines_of rows.new sides.new ≡ lines_of rows.old sides.old ++ line_at tree.level tree.element ∷ []) }
     ensures long { IfOk result (λ _. length rows.new ≡ length sides.new) }
+    ensures keyed { IfOk result (λ _. AreKeyed sides.old → AreKeyed sides.new) }
 {
     let Tree { level, element } = tree;
     let Element {
@@ -46,11 +48,7 @@ fn lay(rows: &mut Many<Kept>, sides: &mut Many<Side>, tree: Tree) -> Result<Many
         },
     )?;
     rows.push(row)?;
-    sides.push(Side {
-        id_short,
-        level,
-        size: 1,
-    })?;
+    sides.push(Side::new(id_short, level))?;
     Ok(kids)
 }
 
@@ -66,6 +64,7 @@ pub(crate) fn lay_all(
     requires low { level + count elements ≤ 4294967295 }
     ensures lines { OnOk result (lines_of rows.new sides.new ≡ lines_of rows.old sides.old ++ rows_of_all elements level) }
     ensures long { OnOk result (length rows.new ≡ length sides.new) }
+    ensures keyed { OnOk result (AreKeyed sides.old → AreKeyed sides.new) }
 {
     let mut waiting = Many::new(rows.alloc());
     stack(&mut waiting, level, elements)?;

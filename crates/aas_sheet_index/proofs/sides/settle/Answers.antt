@@ -1,4 +1,4 @@
-use Rattle.std.proofs.Common.{◌≡◌, ◌≤◌, ◌-◌, ℕ, List, ◌++◌, drop, length, take, refl, sym, ap, ◌∙◌, subst, arith}
+use Rattle.std.proofs.Common.{◌≡◌, ◌<◌, ◌≤◌, ◌-◌, ℕ, List, ◌++◌, drop, length, take, refl, sym, ap, ◌∙◌, subst, arith}
 use Rattle.std.specs.List.{replace_range}
 use Rattle.std.specs.List.Sorted.{IsPermutation, IsSorted}
 use Rattle.std.proofs.lemmas.List.Sorted.{length_permutation}
@@ -7,7 +7,7 @@ use Rattle.aas_sheet_index.specs.Measuring.{Begins}
 use Rattle.aas_sheet_index.specs.Moving.{renumbered}
 use Rattle.aas_sheet_index.specs.Sides.{measured, HaveLevels}
 use Rattle.aas_sheet_index.specs.declared.side.Side.{Side}
-use Rattle.aas_sheet_index.proofs.Settled.{ends, fits, levels_spliced, measured_in, meeting, merged, renewed, stand}
+use Rattle.aas_sheet_index.proofs.Settled.{all_spliced, ends, fits, measured_in, meeting, merged, renewed, stand}
 use Rattle.aas_sheet_index.proofs.Spliced.{parts, take_seam}
 use Rattle.aas_sheet_index.proofs.sides.settle.Goals as goal
 
@@ -58,7 +58,7 @@ pub measure_edited-requires-clause-levels : goal.measure_edited-requires-clause-
 measure_edited-requires-clause-levels c =
     let a = c.args in
     subst HaveLevels (sym (c.as_mut_slice-2.ensures.value ∙ c.splice.ensures))
-    (levels_spliced a.sides.now a.first a.end a.count c.requires.levels)
+    (all_spliced (λ (s : Side). 0 < s.level) a.sides.now a.first a.end a.count c.requires.levels)
 
 pub measure_edited-requires-clause-back : goal.measure_edited-requires-clause-back
 measure_edited-requires-clause-back c =

@@ -1,7 +1,8 @@
-use Rattle.std.proofs.Common.{ℕ, List, drop, take}
+use Rattle.std.proofs.Common.{◌<◌, ℕ, List, drop, take}
 use Rattle.std.specs.List.{replace_range}
+use Rattle.aas_sheet_index.specs.Index.{IsKeyed}
 use Rattle.aas_sheet_index.specs.declared.side.Side.{Side}
-use Rattle.aas_sheet_index.proofs.Settled.{column, levels_spliced, waiting_none}
+use Rattle.aas_sheet_index.proofs.Settled.{all_spliced, column, waiting_none}
 use Rattle.aas_sheet_index.proofs.sides.Sides.remove.Goals as goal
 
 pub settle-requires-clause-waiting : goal.settle-requires-clause-waiting
@@ -13,5 +14,6 @@ invariant_of-self c =
     let a = c.args in
     let ss : List Side = c.self.inside.sides in
     let count : ℕ = c.len-count.result in
+    let level : Side → Type 0 = λ s. 0 < s.level in
     column (replace_range (take count ss) a.first a.end (drop count ss)) c.settle.new.sides c.settle.new.ranks.items c.settle.ensures.value
-    (levels_spliced ss a.first a.end count c.self.invariant.levels) c.settle.ensures.index
+    (all_spliced level ss a.first a.end count c.self.invariant.levels) (all_spliced IsKeyed ss a.first a.end count c.self.invariant.keyed) c.settle.ensures.index
