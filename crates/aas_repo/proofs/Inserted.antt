@@ -1,5 +1,5 @@
 -- What the insertion of an element comes to, where it is accepted by its place.
-use Rattle.std.proofs.Common.{◌≡◌, ⊎_elim, ℕ, ◌+◌, ◌≤◌, Bool, true, false, List, [], ◌∷◌, ◌++◌, length, map as each, flat_map, Option, Some, None, option_and_then, inl, refl, sym, ap, ap₂, ◌∙◌, arith}
+use Rattle.std.proofs.Common.{◌≡◌, ⊎_elim, ℕ, ◌+◌, ◌≤◌, Bool, true, false, List, [], ◌∷◌, ◌++◌, length, map as each, flat_map, Option, Some, None, option_and_then, inl, inr, refl, sym, ap, ap₂, ◌∙◌, arith}
 use Rattle.std.proofs.lemmas.Bool.Decides.{nat_tests}
 use Rattle.std.specs.Prelude.{◌&&◌, IfSome, IsSome, MatchOption, is_some, nat_lt, option_map}
 use Rattle.std.specs.FinMap as map
@@ -140,6 +140,11 @@ no_conflict None z true false takes none = refl
 named_as : (e child : Element) (r : Role) → child ≡ with_role e r → id_short_of child ≡ id_short_of e
 named_as e child r same = ap id_short_of same ∙ ap (λ (c : Common). c.id_short) (common_with_role e r)
 
+-- the role says nothing of what leads an element
+lead_as : (s : Submodel) (p : List PathStep) (a : Option Own) (e child : Element) (r : Role) (lead : Option Reference) → child ≡ with_role e r → IsLead p a e lead s → IsLead p a child lead s
+lead_as s p a e child r lead same (inl h) = inl h
+lead_as s p a e child r lead same (inr h) = inr (h.0, λ in_list. ap (λ x. semantics_of (own_of x)) same ∙ ap (λ (c : Common). c.semantics.semantic_id) (common_with_role e r) ∙ h.1 in_list)
+
 new_there : (s : Submodel) (p : List PathStep) (e : Element) (r : Role) → role_at s p e ≡ Some r → first_of (insert_causes p e s) ≡ None
     → is_named_among (id_short_of e) (children_at s p) ≡ false
 new_there s p e r role none = no_conflict _ _ (is_container s p) _ (takes_children s p e r role) none
@@ -155,13 +160,13 @@ pub is_insertable : (d : Documents) (id : List ℕ) (p : Path) (x : Parent) (e c
     → is_whole_element (at_level (length p.steps + 1)) e ≡ true → Some r ≡ role_below (own_of_parent x) e → child ≡ with_role e r
     → Holds d (encode_utf8_all id) (IsParent p.steps x) → (stands_in_list (own_of_parent x) ≡ true → id_short_of e ≡ None)
     → IfSome (map.get d.submodels (encode_utf8_all id)) (λ s. element_count s + length (kinds e) ≤ 65536)
-    → IfSome (map.get d.submodels (encode_utf8_all id)) (IsLead p.steps (own_of_parent x) child lead) → IsFaultless x lead child → IsInsertable d id p.steps e
+    → IfSome (map.get d.submodels (encode_utf8_all id)) (IsLead p.steps (own_of_parent x) e lead) → IsFaultless x lead child → IsInsertable d id p.steps e
 is_insertable d id p x e child r lead law keep count valid clear whole role same parent unnamed few lead_is faultless =
     by_submodel (map.get d.submodels (encode_utf8_all id)) refl parent few lead_is
   where
     by_submodel : (found : Option Submodel) → map.get d.submodels (encode_utf8_all id) ≡ found
         → MatchOption found ⊥ (IsParent p.steps x) → IfSome found (λ s. element_count s + length (kinds e) ≤ 65536)
-        → IfSome found (IsLead p.steps (own_of_parent x) child lead) → MatchOption found ⊥ (IsAccepted (insert_causes p.steps e) (λ s. inserted s p.steps e))
+        → IfSome found (IsLead p.steps (own_of_parent x) e lead) → MatchOption found ⊥ (IsAccepted (insert_causes p.steps e) (λ s. inserted s p.steps e))
     by_submodel None is parent few lead_is = absurd parent
     by_submodel (Some s) is parent few lead_is =
         let role_at_is : role_at s p.steps e ≡ Some r = role_is s p.steps (own_of_parent x) e parent.above ∙ sym role in
@@ -170,7 +175,7 @@ is_insertable d id p x e child r lead law keep count valid clear whole role same
         let faultless_there =
         none_as_child s p.steps x child lead law parent
         (ap (λ n. is_named_among n (children_at s p.steps)) name ∙ new_there s p.steps e r role_at_is none)
-        (λ list. name ∙ unnamed list) lead_is faultless in record {
+        (λ list. name ∙ unnamed list) (lead_as s p.steps (own_of_parent x) e child r lead same lead_is) faultless in record {
           no_cause = none;
           valid = keep.inserted s p.steps e r (valid.submodels (encode_utf8_all id) s is).valid role_at_is whole
               (ap (faults_as_child s p.steps (children_at s p.steps)) (sym same) ∙ faultless_there);

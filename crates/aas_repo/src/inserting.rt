@@ -20,7 +20,7 @@ ghost use Rattle.aas_repo.specs.Placing.{IsInsertable, IsLead, IsParent, IsTakin
 use crate::count::ELEMENT_LIMIT;
 use crate::decision::Decision;
 use crate::editing::{Insertion, make_edit};
-use crate::placing::{Parent, has_space, in_role, is_faultless, lost, parent_at};
+use crate::placing::{Parent, has_space, is_faultless_in_role, lost, parent_at};
 use aas_command::{Absent, Refusal};
 use aas_edit_faults::{edits_count, edits_keep_valid, inserted_elements_have_the_faults};
 use aas_model::{Boxed, Collection, Element, NoMemory, Path, Payload, Reference, Role, Text};
@@ -213,9 +213,8 @@ fn is_accepted_below<S: Store>(
     if !has_space(store, id, element, ELEMENT_LIMIT) {
         return Ok(false);
     }
-    let child = in_role(element, role)?;
-    let lead = lead_of(store, id, path, &child, parent);
-    Ok(is_faultless(alloc, &child, parent, lead)?)
+    let lead = lead_of(store, id, path, element, parent);
+    Ok(is_faultless_in_role(alloc, element, role, parent, lead)?)
 }
 
 /// The role that the element has as a new child of the parent, if that takes it.
@@ -245,16 +244,16 @@ fn lead_of<'a, S: Store>(
     store: &'a S,
     id: &Text,
     path: &Path,
-    child: &Element,
+    element: &Element,
     parent: &Parent,
 ) -> Option<&'a Reference>
     ensures { IfSome (map.get (S.documents store.now).submodels (encode_utf8_all id.now))
-        (IsLead path.now.steps (own_of_parent parent.now) child.now (option_copied result)) }
+        (IsLead path.now.steps (own_of_parent parent.now) element.now (option_copied result)) }
 {
     if !is_list(parent) {
         return None;
     }
-    if child.common.semantics.semantic_id.is_none() {
+    if element.common.semantics.semantic_id.is_none() {
         return None;
     }
     store.first_semantic_id(id.as_str(), path)

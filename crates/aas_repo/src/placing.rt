@@ -73,7 +73,7 @@ pub(crate) fn lost(alloc: Global, path: &Path, missing: Missing) -> Result<Refus
 
 /// Whether the element and all below it have no fault below the parent, where `lead` is the first semanticId among the
 /// earlier siblings, none of which has the element's idShort.
-pub(crate) fn is_faultless(
+fn is_faultless(
     alloc: Global,
     element: &Element,
     parent: &Parent,
@@ -86,6 +86,23 @@ pub(crate) fn is_faultless(
         Some(_) => Ok(false),
         None => Ok(true),
     }
+}
+
+/// The same of the element in a role. It is copied only where it has another one.
+pub(crate) fn is_faultless_in_role(
+    alloc: Global,
+    element: &Element,
+    role: Role,
+    parent: &Parent,
+    lead: Option<&Reference>,
+) -> Result<bool, NoMemory>
+    ensures { IfOk result (λ is. is ≡ true → IsFaultless parent.now (option_copied lead.entry) (with_role element.now role)) }
+{
+    if element.role == role {
+        return Ok(is_faultless(alloc, element, parent, lead)?);
+    }
+    let child = in_role(element, role)?;
+    Ok(is_faultless(alloc, &child, parent, lead)?)
 }
 
 /// Whether the submodel has at most `limit` elements together with the element and all below it.
@@ -104,7 +121,7 @@ pub(crate) fn has_space<S: Store>(store: &S, id: &Text, element: &Element, limit
 }
 
 /// A copy of the element in the role.
-pub(crate) fn in_role(element: &Element, role: Role) -> Result<Element, NoMemory>
+fn in_role(element: &Element, role: Role) -> Result<Element, NoMemory>
     ensures { IfOk result (λ e. e ≡ with_role element.now role) }
 {
     let mut copy = element.copy()?;

@@ -21,7 +21,7 @@ ghost use Rattle.aas_repo.specs.Placing.{IsAlikeAt, IsReplaceable};
 use crate::count::ELEMENT_LIMIT;
 use crate::decision::Decision;
 use crate::editing::{Replacement, make_edit};
-use crate::placing::{has_space, in_role, is_faultless, lost, parent_at};
+use crate::placing::{has_space, is_faultless_in_role, lost, parent_at};
 use aas_command::{Absent, Refusal};
 use aas_edit_faults::{edits_count, edits_keep_valid, replacing_elements_have_the_faults};
 use aas_model::{Boxed, Duplicate, Element, NoMemory, Path, Reference, Role, Text, same_text};
@@ -153,12 +153,11 @@ fn is_replaceable<S: Store>(
     if !has_space(store, id, element, ELEMENT_LIMIT + 1) {
         return Ok(false);
     }
-    let child = in_role(element, role)?;
     let above = parent_path(path)?;
     let Some(parent) = parent_at(alloc, store, id, &above)? else {
         return Ok(false);
     };
-    Ok(is_faultless(alloc, &child, &parent, None)?)
+    Ok(is_faultless_in_role(alloc, element, role, &parent, None)?)
 }
 
 /// The role of the element at the path, where the new one fits it, and has the idShort and the semanticId of the old one.

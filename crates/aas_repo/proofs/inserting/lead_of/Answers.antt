@@ -7,4 +7,4 @@ use Rattle.aas_repo.specs.Placing.{own_of_parent}
 pub returns : goal.returns
 returns g c =
     in_list (g.S.Store.documents c.args.store.now) (encode_utf8_all c.args.id.now) c.as_str.result.now c.args.path.now.steps (own_of_parent c.args.parent.now)
-    c.args.child.now _ c.as_str.ensures.bytes (sym c.is_list.ensures ∙ c.if-not-is_list.false) c.first_semantic_id.ensures
+    c.args.element.now _ c.as_str.ensures.bytes (sym c.is_list.ensures ∙ c.if-not-is_list.false) c.first_semantic_id.ensures
