@@ -4,7 +4,7 @@ ghost use Rattle.aas_model.specs.declared.element.Element.{Element};
 ghost use Rattle.aas_path_trees.specs.Children.{is_list_payload};
 ghost use Rattle.aas_path_trees.specs.ElementAt.{depth_among};
 ghost use Rattle.aas_rows.specs.Edits.{rank_among};
-ghost use Rattle.aas_sheet_rows.specs.Found.{side_of_step, Among};
+ghost use Rattle.aas_sheet_rows.specs.Found.{all_rows, side_of_step, Among};
 ghost use Rattle.aas_sheet_rows.specs.Table.{IsTable};
 ghost use Rattle.aas_sheet_index.specs.Sides.{sizes_of};
 ghost use Rattle.aas_store.specs.Spots.{spot_among, step_of};
@@ -17,6 +17,25 @@ use arrayvec::ArrayVec;
 
 /// The ranks of the elements that a path passes, the first 30.
 pub(crate) type Passed = ArrayVec<usize, 30>;
+
+/// Rows from `first` to `end`, which stand below one of a level.
+#[derive(Clone, Copy)]
+pub(crate) struct Span {
+    pub(crate) first: usize,
+    pub(crate) end: usize,
+    pub(crate) level: u32,
+}
+
+/// All rows, which stand below the submodel itself.
+pub(crate) fn all_rows(sides: &Sides) -> Span
+    ensures { result ≡ all_rows sides.now }
+{
+    Span {
+        first: 0,
+        end: sides.len(),
+        level: 0,
+    }
+}
 
 /// Adds a rank, where there is room.
 pub(crate) fn pass(passed: &mut Passed, rank: usize) {
@@ -31,20 +50,19 @@ pub(crate) fn is_list(payload: &Payload) -> bool
     matches!(payload, Payload::SubmodelElementList { .. })
 }
 
-/// The rank to which a step leads among the rows from `first` to `end`, which stand below one of a level.
+/// The rank to which a step leads among the rows of a span.
 pub(crate) fn rank_of_step(
     sides: &Sides,
-    first: usize,
-    end: usize,
-    level: u32,
+    span: Span,
     in_list: bool,
     step: StepRef<'_>,
 ) -> Option<usize>
-    requires ordered { first ≤ end }
-    requires within { end ≤ length sides.now }
-    ensures value { result ≡ option_map (λ i. first + i) (side_of_step in_list (step_of step.entry) level (take (end - first) (drop first sides.now))) }
-    ensures inside { IfSome result (λ r. r < end) }
+    requires ordered { span.first ≤ span.end }
+    requires within { span.end ≤ length sides.now }
+    ensures value { result ≡ option_map (λ i. span.first + i) (side_of_step in_list (step_of step.entry) span.level (take (span.end - span.first) (drop span.first sides.now))) }
+    ensures inside { IfSome result (λ r. r < span.end) }
 {
+    let Span { first, end, level } = span;
     match step {
         StepRef::Name(name) => {
             if in_list {
@@ -74,26 +92,24 @@ pub(crate) fn rank_behind(rows: &[Kept], sides: &[Side], rank: usize) -> usize
     rank + sides[rank].size
 }
 
-/// The rank of the element to which a step and then a path lead from the rows from `first` to `end`, which stand below
-/// one of a level. Adds the ranks of the elements on the way there.
+/// The rank of the element to which a step and then a path lead from the rows of a span. Adds the ranks of the elements on
+/// the way there.
 pub(crate) fn find_among(
     rows: &[Kept],
     sides: &Sides,
-    first: usize,
-    end: usize,
-    level: u32,
+    span: Span,
     in_list: bool,
     step: &PathStep,
     path: &[PathStep],
     passed: &mut Passed,
 ) -> Option<usize>
     requires table { IsTable rows.now sides.now }
-    requires ordered { first ≤ end }
-    requires within { end ≤ length sides.now }
-    ensures value { (ks : List Element) → Among rows.now sides.now first end level ks → result ≡ option_map (λ r. first + r) (rank_among in_list step.now path.now ks) }
+    requires ordered { span.first ≤ span.end }
+    requires within { span.end ≤ length sides.now }
+    ensures value { (ks : List Element) → Among rows.now sides.now span.first span.end span.level ks → result ≡ option_map (λ r. span.first + r) (rank_among in_list step.now path.now ks) }
     ensures inside { IfSome result (λ r. r < length sides.now) }
 {
-    let Some(rank) = rank_of_step(sides, first, end, level, in_list, step_ref(step)) else {
+    let Some(rank) = rank_of_step(sides, span, in_list, step_ref(step)) else {
         return None;
     };
     match path.split_first() {
@@ -101,73 +117,65 @@ pub(crate) fn find_among(
         Some((next, rest)) => {
             pass(passed, rank);
             let all = sides.as_slice();
-            let level = all[rank].level;
             let in_list = is_list(&rows[rank].get().payload);
-            let end = rank_behind(rows, all, rank);
-            find_among(
-                rows,
-                sides,
-                rank + 1,
-                end,
-                level,
-                in_list,
-                next,
-                rest,
-                passed,
-            )
+            let span = Span {
+                first: rank + 1,
+                end: rank_behind(rows, all, rank),
+                level: all[rank].level,
+            };
+            find_among(rows, sides, span, in_list, next, rest, passed)
         },
     }
 }
 
-/// How many of these steps lead to an element from the rows from `first` to `end`, which stand below one of a level.
+/// How many of these steps lead to an element from the rows of a span.
 pub(crate) fn depth_among(
     rows: &[Kept],
     sides: &Sides,
-    first: usize,
-    end: usize,
-    level: u32,
+    span: Span,
     in_list: bool,
     step: &PathStep,
     path: &[PathStep],
 ) -> usize
     requires table { IsTable rows.now sides.now }
-    requires ordered { first ≤ end }
-    requires within { end ≤ length sides.now }
+    requires ordered { span.first ≤ span.end }
+    requires within { span.end ≤ length sides.now }
     requires short { length path.now < 2 ^ 63 }
-    ensures value { (ks : List Element) → Among rows.now sides.now first end level ks → result ≡ depth_among in_list step.now path.now ks }
+    ensures value { (ks : List Element) → Among rows.now sides.now span.first span.end span.level ks → result ≡ depth_among in_list step.now path.now ks }
     ensures bound { result ≤ length path.now + 1 }
 {
-    let Some(rank) = rank_of_step(sides, first, end, level, in_list, step_ref(step)) else {
+    let Some(rank) = rank_of_step(sides, span, in_list, step_ref(step)) else {
         return 0;
     };
     match path.split_first() {
         None => 1,
         Some((next, rest)) => {
             let all = sides.as_slice();
-            let level = all[rank].level;
             let in_list = is_list(&rows[rank].get().payload);
-            let end = rank_behind(rows, all, rank);
-            depth_among(rows, sides, rank + 1, end, level, in_list, next, rest) + 1
+            let span = Span {
+                first: rank + 1,
+                end: rank_behind(rows, all, rank),
+                level: all[rank].level,
+            };
+            depth_among(rows, sides, span, in_list, next, rest) + 1
         },
     }
 }
 
-/// The child to which a step leads from the rows from `first` to `end`, which stand below one of a level.
+/// The child to which a step leads from the rows of a span.
 pub(crate) fn child_among(
     rows: &[Kept],
     sides: &Sides,
-    first: usize,
-    end: usize,
-    level: u32,
+    span: Span,
     in_list: bool,
     step: StepRef<'_>,
 ) -> Option<Spot>
     requires table { IsTable rows.now sides.now }
-    requires ordered { first ≤ end }
-    requires within { end ≤ length sides.now }
-    ensures { (ks : List Element) → Among rows.now sides.now first end level ks → result ≡ spot_among in_list ks first (step_of step.entry) }
+    requires ordered { span.first ≤ span.end }
+    requires within { span.end ≤ length sides.now }
+    ensures { (ks : List Element) → Among rows.now sides.now span.first span.end span.level ks → result ≡ spot_among in_list ks span.first (step_of step.entry) }
 {
-    match rank_of_step(sides, first, end, level, in_list, step) {
+    match rank_of_step(sides, span, in_list, step) {
         Some(rank) => Some(Spot {
             rank: rank as u64,
             kind: rows[rank].get().payload.kind(),

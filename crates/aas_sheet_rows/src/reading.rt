@@ -8,18 +8,10 @@ ghost use Rattle.aas_sheet_rows.specs.Table.{IsTable};
 ghost use Rattle.aas_path_trees.specs.ElementAt.{children_at};
 ghost use Rattle.aas_store.specs.Reads.{first_semantic_id};
 
-use crate::finding::{Passed, find_among, rank_behind};
+use crate::finding::{Passed, Span, all_rows, find_among, rank_behind};
 use crate::row::Kept;
 use aas_model::{Path, Reference};
 use aas_sheet_index::{Side, Sides};
-
-/// Rows from `first` to `end`, which stand below one of a level.
-#[derive(Clone, Copy)]
-pub(crate) struct Span {
-    pub(crate) first: usize,
-    pub(crate) end: usize,
-    pub(crate) level: u32,
-}
 
 /// The rows below what is at the path, all rows at the empty path.
 pub(crate) fn below(rows: &[Kept], sides: &Sides, path: &Path) -> Option<Span>
@@ -29,29 +21,15 @@ pub(crate) fn below(rows: &[Kept], sides: &Sides, path: &Path) -> Option<Span>
     ensures inside { IfSome result (λ b. b.end ≤ length sides.now) }
 {
     let Some((step, rest)) = path.steps.as_slice().split_first() else {
-        return Some(Span {
-            first: 0,
-            end: sides.len(),
-            level: 0,
-        });
+        return Some(all_rows(sides));
     };
     let mut passed = Passed::new();
-    let rank = find_among(
-        rows,
-        sides,
-        0,
-        sides.len(),
-        0,
-        false,
-        step,
-        rest,
-        &mut passed,
-    )?;
+    let span = all_rows(sides);
+    let rank = find_among(rows, sides, span, false, step, rest, &mut passed)?;
     let all = sides.as_slice();
-    let end = rank_behind(rows, all, rank);
     Some(Span {
         first: rank + 1,
-        end,
+        end: rank_behind(rows, all, rank),
         level: all[rank].level,
     })
 }

@@ -3,7 +3,8 @@ ghost use Rattle.std.specs.Option.{option_copied};
 
 use crate::editing::{put_rows, remove_rows};
 use crate::finding::{
-    Passed, child_among, depth_among, find_among, is_list, pass, rank_behind, rank_of_step,
+    Passed, Span, all_rows, child_among, depth_among, find_among, is_list, pass, rank_behind,
+    rank_of_step,
 };
 use crate::growing::{element_from, grow};
 use crate::laying::lay_all;
@@ -159,8 +160,8 @@ impl Sheet {
             return None;
         };
         let rows = self.rows.as_slice();
-        let end = self.sides.len();
-        find_among(rows, &self.sides, 0, end, 0, false, step, rest, passed)
+        let span = all_rows(&self.sides);
+        find_among(rows, &self.sides, span, false, step, rest, passed)
     }
 
     /// How many steps of the path lead to an element.
@@ -171,7 +172,7 @@ impl Sheet {
             return 0;
         };
         let rows = self.rows.as_slice();
-        depth_among(rows, &self.sides, 0, self.sides.len(), 0, false, step, rest)
+        depth_among(rows, &self.sides, all_rows(&self.sides), false, step, rest)
     }
 
     /// The rank and the row of the element to which the path leads.
@@ -213,8 +214,7 @@ impl Sheet {
             return false;
         };
         let name = StepRef::Name(id_short.as_str());
-        let (first, end) = (found.first, found.end);
-        child_among(rows, &self.sides, first, end, found.level, false, name).is_some()
+        child_among(rows, &self.sides, found, false, name).is_some()
     }
 
     /// The first semanticId among the children of what is at the path, the submodel itself at the empty path.
@@ -259,7 +259,7 @@ impl Sheet {
             };
         }
         let step = StepRef::Place(place);
-        rank_of_step(&self.sides, 0, count, 0, true, step)
+        rank_of_step(&self.sides, all_rows(&self.sides), true, step)
     }
 
     /// The child to which the step leads from the element of the rank, or from the submodel.
@@ -268,7 +268,7 @@ impl Sheet {
     {
         let rows = self.rows.as_slice();
         match parent {
-            None => child_among(rows, &self.sides, 0, self.sides.len(), 0, false, step),
+            None => child_among(rows, &self.sides, all_rows(&self.sides), false, step),
             Some(rank) => self.child_of_rank(rank as usize, step),
         }
     }
@@ -281,10 +281,13 @@ impl Sheet {
         if rank >= sides.len() {
             return None;
         }
-        let level = sides[rank].level;
         let in_list = is_list(&rows[rank].get().payload);
-        let end = rank_behind(rows, sides, rank);
-        child_among(rows, &self.sides, rank + 1, end, level, in_list, step)
+        let span = Span {
+            first: rank + 1,
+            end: rank_behind(rows, sides, rank),
+            level: sides[rank].level,
+        };
+        child_among(rows, &self.sides, span, in_list, step)
     }
 
     /// The row of a rank, to be written in place, or `None` past the end.

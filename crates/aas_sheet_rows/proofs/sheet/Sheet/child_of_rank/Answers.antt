@@ -25,5 +25,5 @@ returns c =
     let row : Row = get_or rs rank c.index-rows-rank.result in
     let side : Side = get_or ss rank c.index-sides-rank.result in
     let inside : rank < length ss = search rules in
-    spot_of_rank t.head rs ss d v.0 v.1 rank c.rank_behind-end.result row side (step_of c.args.step) c.is_list-in_list.result c.child_among.result inside (ap (get_or rs rank) c.index-rows-rank.is)
-    (ap (get_or ss rank) c.index-sides-rank.is) c.rank_behind-end.ensures.value c.rank_behind-end.ensures.above (c.is_list-in_list.ensures ∙ ap (λ (r : Row). is_list_payload r.payload) (c.get.ensures ∙ c.index-rows-rank.is)) (λ ks a. c.child_among.ensures ks (subst (λ (ss : List Side). Among rs ss (rank + 1) c.rank_behind-end.result side.level ks) c.as_slice-sides.ensures a))
+    spot_of_rank t.head rs ss d v.0 v.1 rank c.rank_behind.result row side (step_of c.args.step) c.is_list-in_list.result c.child_among.result inside (ap (get_or rs rank) c.index-rows-rank.is)
+    (ap (get_or ss rank) c.index-sides-rank.is) c.rank_behind.ensures.value c.rank_behind.ensures.above (c.is_list-in_list.ensures ∙ ap (λ (r : Row). is_list_payload r.payload) (c.get.ensures ∙ c.index-rows-rank.is)) (λ ks a. c.child_among.ensures ks (subst (λ (ss : List Side). Among rs ss (rank + 1) c.rank_behind.result side.level ks) c.as_slice-sides.ensures a))

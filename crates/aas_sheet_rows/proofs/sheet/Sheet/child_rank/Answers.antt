@@ -1,6 +1,7 @@
 use Rattle.std.proofs.Common.{◌≡◌, ℕ, ◌+◌, ◌-◌, ◌<◌, ◌≤◌, true, length, drop, option_map, take, sym, ◌∙◌, subst, arith}
 use Rattle.aas_model.specs.declared.path.PathStep.TheVariants.{Place}
 use Rattle.aas_sheet_rows.specs.Found.{side_of_step}
+use Rattle.aas_sheet_rows.specs.declared.finding.Span.{Span}
 use Rattle.aas_sheet_rows.specs.Table.{children_in}
 use Rattle.aas_sheet_rows.proofs.Children.{no_rank_past, rank_of_place}
 use Rattle.aas_sheet_rows.proofs.Standing.{rank_in_place}
@@ -9,7 +10,7 @@ use Rattle.aas_sheet_rows.proofs.sheet.Sheet.child_rank.Goals as goal
 pub returns : goal.returns
 returns c =
     let t = c.self.inside in
-    subst (λ (n : ℕ). c.rank_of_step.result ≡ option_map (λ i. 0 + i) (side_of_step true (Place c.args.place) 0 (take (n - 0) (drop 0 t.sides)))) c.len-count.ensures c.rank_of_step.ensures.value
+    subst (λ (b : Span). c.rank_of_step.result ≡ option_map (λ i. b.first + i) (side_of_step true (Place c.args.place) b.level (take (b.end - b.first) (drop b.first t.sides)))) c.all_rows.ensures c.rank_of_step.ensures.value
     ∙ rank_in_place t.head t.rows t.sides c.args.self.now c.self.invariant.0 c.self.view_is c.args.place
 
 pub returns-then-place-count : goal.returns-then-place-count

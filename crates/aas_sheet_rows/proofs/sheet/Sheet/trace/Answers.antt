@@ -1,8 +1,9 @@
-use Rattle.std.proofs.Common.{ℕ, List, false, refl, sym, ap, ◌∙◌, subst}
+use Rattle.std.proofs.Common.{◌+◌, List, false, option_map, refl, sym, ap, ◌∙◌, subst}
 use Rattle.aas_rows.specs.Edits.{rank_among}
 use Rattle.aas_store.specs.Spots.{rank_at}
 use Rattle.aas_store.proofs.Paths.{from_zero}
 use Rattle.aas_sheet_rows.specs.Found.{Among}
+use Rattle.aas_sheet_rows.specs.declared.finding.Span.{Span}
 use Rattle.aas_sheet_rows.specs.declared.row.Row.{Row}
 use Rattle.aas_sheet_rows.proofs.Standing.{all_among, viewed}
 use Rattle.aas_sheet_rows.proofs.sheet.Sheet.trace.Goals as goal
@@ -13,5 +14,6 @@ returns c =
     let d = c.args.self.now in
     let rs : List Row = c.as_slice-rows.result.now in
     let v = viewed t.head t.rows rs t.sides t.sides d c.self.invariant.0 c.self.view_is c.as_slice-rows.ensures refl in
-    c.find_among.ensures.value d.kids (subst (λ (n : ℕ). Among rs t.sides 0 n 0 d.kids) (sym c.len-end.ensures) (all_among t.head rs t.sides d v.0 v.1)) ∙ from_zero (rank_among false c.in-Some.step.now c.in-Some.rest.now d.kids)
+    c.find_among.ensures.value d.kids (subst (λ (b : Span). Among rs t.sides b.first b.end b.level d.kids) (sym c.all_rows-span.ensures) (all_among t.head rs t.sides d v.0 v.1))
+    ∙ ap (λ (b : Span). option_map (λ r. b.first + r) (rank_among false c.in-Some.step.now c.in-Some.rest.now d.kids)) c.all_rows-span.ensures ∙ from_zero (rank_among false c.in-Some.step.now c.in-Some.rest.now d.kids)
     ∙ ap (rank_at d) (sym c.in-Some.ensures.cases.0 ∙ c.as_slice.ensures)
