@@ -1,5 +1,4 @@
 ghost use Rattle.std.specs.Prelude.{◌≡◌, get_or};
-ghost use Rattle.std.specs.Str.{encode_utf8_all};
 ghost use Rattle.aas_sheet_index.specs.Index.{capped, name_bytes, short_key};
 
 use aas_model::Text;
