@@ -3,7 +3,7 @@ use crate::document::as_sent;
 use crate::text::text;
 use aas_command::Refusal;
 use aas_json_input::read_value;
-use aas_json_read::read_specific;
+use aas_json_parts::read_specific;
 use aas_model::{ReadFault, Reference, SpecificAssetId};
 use aas_reference::{read_reference, same, write_reference};
 use serde_json::Value;

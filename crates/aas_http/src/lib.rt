@@ -16,6 +16,3 @@ pub use length::whole_length;
 pub use replies::Reply;
 pub use request::{Request, Step, is_blank, next_request};
 pub use send::{put_reply, reply};
-
-#[cfg(test)]
-mod tests;

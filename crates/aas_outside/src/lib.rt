@@ -30,6 +30,3 @@ pub use memory_link::MemLink;
 pub use memory_wire::MemWire;
 pub use reserved::append_reserved;
 pub use wire::Wire;
-
-#[cfg(test)]
-mod tests;

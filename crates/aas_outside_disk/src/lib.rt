@@ -21,6 +21,3 @@ pub use disk::Disk;
 pub use memory_disk::MemDisk;
 pub use part::Part;
 pub use read_ahead::ReadAhead;
-
-#[cfg(test)]
-mod tests;

@@ -15,6 +15,6 @@ pub use filter::{Filter, Selection, Span};
 pub use pages::Page;
 pub use paging::{page, walks_list_each_once};
 pub use segment::{
-    SegmentFault, from_base64url, id_from_cursor, id_from_segment, id_to_segment, percent_decoded,
-    segments_stand_for_one,
+    SegmentFault, from_base64url, id_from_base64url, id_from_cursor, id_from_segment,
+    id_to_segment, percent_decoded, segments_stand_for_one,
 };

@@ -67,7 +67,7 @@ pub fn id_from_cursor(alloc: Global, cursor: &[u8]) -> Result<Option<Text>, NoMe
 }
 
 /// The identifier for which base64url stands, with all its padding or with none. Nothing where it stands for none.
-fn id_from_base64url(alloc: Global, text: &[u8]) -> Result<Option<Text>, NoMemory>
+pub fn id_from_base64url(alloc: Global, text: &[u8]) -> Result<Option<Text>, NoMemory>
     ensures some { IfOk result (λ found. IfSome found (IsIdentifierCode text.now)) }
     ensures none { IfOk result (λ found. IfNone found ((id : List ℕ) → ¬ IsIdentifierCode text.now id)) }
 {

@@ -17,6 +17,3 @@ pub use dangling_references::dangling;
 pub use laws::references_lead_back;
 pub use resolution::resolve;
 pub use target::{Target, Unresolved};
-
-#[cfg(test)]
-mod tests;

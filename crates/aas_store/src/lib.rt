@@ -26,6 +26,3 @@ pub use spot::{Spot, StepRef};
 pub use spots::step_ref;
 pub use store::Store;
 pub use tree_store::TreeStore;
-
-#[cfg(test)]
-mod tests;

@@ -13,7 +13,7 @@ ghost use Rattle.aas_value_patch.specs.Faults.{Judges, misfit_of};
 
 use crate::canonical::has_empty_list;
 use crate::fault::Misfit;
-use aas_json_read::read_specific;
+use aas_json_parts::read_specific;
 use aas_json_table::table::member;
 use aas_model::{Duplicate, Many, ReadFault, Reference, SpecificAssetId, copy_option};
 use aas_reference::read_reference;
