@@ -1,5 +1,5 @@
 #!/usr/bin/env python3
-"""Time and memory of `aasd import`, `export` and `checkpoint` over growing files.
+"""Time and memory of `aasd import`, `export` and `checkpoint` over growing files, and time of `aasd conform`.
 
 A file is an environment in its canonical text: one submodel with so many properties, or so many small submodels. It is imported into a new folder, and
 exported and made a checkpoint of in a folder that has it. Each run opens the journal first; the record of an import is read back by the next command, so
@@ -9,9 +9,11 @@ file itself, and the length of the record.
 Printed are the file's size, the time that passed and the part of it that the program itself ran, each the least of some runs and less that of the same
 command without documents, that part for a byte, and the peak memory, looked at every millisecond, with its ratio to the file. The script ends with
 status 1 where, from a tenth of the size to the whole, the time that was run for a byte grows past 2 times, or the peak memory for a byte does, less
-that without documents. It wants an idle machine. The program's files are kept in memory where the system has a folder for that, so no disk is measured.
+that without documents; and where a submodel of 65,536 properties isn't compared with a template that has 1,000 in less than a second, without the
+replay of the journal. It wants an idle machine. The program's files are kept in memory where the system has a folder for that, so no disk is measured.
 """
 import argparse
+import base64
 import filecmp
 import os
 import random
@@ -27,6 +29,9 @@ GROWTH = 2
 FOLDER = '/dev/shm' if os.path.isdir('/dev/shm') else None
 # How many submodels are created one by one.
 CREATED = 100_000
+# How many properties a template has, and a submodel that conforms to it; and in how many seconds it is to be told.
+WANTED, COMPARED = 1_000, 65_536
+LONGEST = 1
 # What a record of an import and the file around it have beside the text: the tag, its length, and header, gates and length.
 AROUND = 19
 
@@ -178,6 +183,48 @@ def created_in_any_order(options):
     return took
 
 
+def template_property_text(number):
+    cardinality = '{"type":"SMT/Cardinality","value":"OneToMany","valueType":"xs:string"}'
+    return f'{{"idShort":"P{number}","modelType":"Property","qualifiers":[{cardinality}],"valueType":"xs:int"}}'
+
+
+def compared_property_text(number):
+    return f'{{"idShort":"P{number % WANTED}_{number // WANTED}","modelType":"Property","valueType":"xs:int"}}'
+
+
+def submodel_with(id, kind, item, count):
+    return f'{{"id":"{id}","kind":"{kind}","modelType":"Submodel","submodelElements":[{"".join(listed(item, count))}]}}'
+
+
+def least(program, words, folder, runs, wanted):
+    """The least seconds of some runs that passed, and that the program ran. It must end with this status and print this line."""
+    times = []
+    for _ in range(runs):
+        before, begun = resource.getrusage(resource.RUSAGE_CHILDREN), time.perf_counter()
+        told = subprocess.run([program, *words], cwd=folder, stdin=subprocess.DEVNULL, stdout=subprocess.PIPE, check=False)
+        passed, after = time.perf_counter() - begun, resource.getrusage(resource.RUSAGE_CHILDREN)
+        if (told.returncode, told.stdout) != wanted:
+            sys.exit(f'{words[0]}: status {told.returncode}, or it printed something else than it must')
+        times.append((passed, after.ru_utime + after.ru_stime - before.ru_utime - before.ru_stime))
+    return [min(figures) for figures in zip(*times)]
+
+
+def conforming(options):
+    """The seconds that pass to compare a submodel with a template, and those that the program runs, both without the replay of the journal."""
+    program = os.path.abspath(options.program)
+    template = submodel_with('urn:template', 'Template', template_property_text, WANTED)
+    instance = submodel_with('urn:instance', 'Instance', compared_property_text, COMPARED)
+    given = f'{{"submodels":[{template},{instance}]}}'.encode()
+    words = [base64.urlsafe_b64encode(name).decode() for name in (b'urn:template', b'urn:instance')]
+    with tempfile.TemporaryDirectory(dir=FOLDER) as folder:
+        for word in ('init', 'import'):
+            subprocess.run([program, word], cwd=folder, input=given, stdout=subprocess.DEVNULL, check=True)
+        whole = least(program, ['conform', *words], folder, options.runs, (0, b'conforms\n'))
+        # Words that stand for no identifiers are refused once the journal has been read.
+        opened = least(program, ['conform', '*', '*'], folder, options.runs, (7, b'aasd: refused 6 bad identifier\n'))
+    return [all_of_it - before for all_of_it, before in zip(whole, opened)]
+
+
 def main():
     parser = argparse.ArgumentParser(description=__doc__, formatter_class=argparse.RawDescriptionHelpFormatter)
     parser.add_argument('--program', default=PROGRAM, help='the program (the script aasd)')
@@ -202,7 +249,9 @@ def main():
             print(f'  grew for a byte {time_grew:.2f} times in time, {memory_grew:.2f} times in memory')
     created, opened = created_in_any_order(options)
     print(f'{CREATED} submodels created in an order of chance: {created / CREATED * 1e6:.1f} us run for each, and {opened:.2f} s to open their journal')
-    sys.exit(0 if good else 1)
+    passed, ran = conforming(options)
+    print(f'conform, {COMPARED} properties and a template with {WANTED}: {passed * 1000:.1f} ms, {ran * 1000:.1f} of them run, without the replay')
+    sys.exit(0 if good and passed < LONGEST else 1)
 
 
 if __name__ == '__main__':

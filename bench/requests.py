@@ -8,7 +8,7 @@ next. So the program keeps between so many submodels and 100 more while it is ti
 All these submodels are also listed, in pages of 100, each of which begins behind the last submodel of the one before.
 
 Then so many elements are put into one submodel, right below it or in the innermost of ten collections, and the last of them is read and updated through
-its value form, and another one is added behind it and deleted again. Those right below it are listed, too. At last it is printed how much memory a
+its value form, gets other metadata, and another one is added behind it and deleted again. Those right below it are listed, too. At last it is printed how much memory a
 property takes that is stored.
 
 Printed are the microseconds for a request with 10, 100, 1,000 and 10,000 submodels, and with 10, 1,000 and 65,536 elements, those that passed and those
@@ -159,6 +159,11 @@ class Elements:
     def update(self, value):
         return request(f'PATCH {self.target(self.last)}/$value', str(value)), reply('204 No Content')
 
+    def describe(self, number):
+        """The metadata of the last element, with another category."""
+        form = f'{{"category":"{number}","idShort":"P{self.last:x}","modelType":"Property","valueType":"xs:int"}}'
+        return request(f'PATCH {self.target(self.last)}/$metadata', form), reply('204 No Content')
+
     def add(self):
         text = self.element(self.last + 1)
         return request(f'POST {self.at}{self.inside}', text), reply('201 Created', text)
@@ -270,7 +275,7 @@ def one_run(program, count):
 def element_run(program, count, depth):
     """What each batch of requests of a kind took, with so many elements so deep."""
     asked = Elements(count, depth)
-    times = {name: [] for name in ('GET of $value', 'PATCH of $value', 'POST of an element', 'DELETE of an element')}
+    times = {name: [] for name in ('GET of $value', 'PATCH of $value', 'PATCH of $metadata', 'POST of an element', 'DELETE of an element')}
     with tempfile.TemporaryDirectory(dir=FOLDER) as folder:
         pipe = Pipe(program, folder)
         pipe.exchange([asked.create()])
@@ -280,6 +285,8 @@ def element_run(program, count, depth):
             value = 1000 * (turn + 1)
             times['PATCH of $value'].append(pipe.exchange([asked.update(value + n) for n in range(BATCH)]))
             times['GET of $value'].append(pipe.exchange([asked.get(value + BATCH - 1)] * BATCH))
+            times['PATCH of $metadata'].append(pipe.exchange([asked.describe(value + n) for n in range(BATCH)]))
+            pipe.exchange([asked.get(value + BATCH - 1)])
             for _ in range(BATCH // 20):
                 times['POST of an element'].append(pipe.exchange([asked.add()]))
                 times['DELETE of an element'].append(pipe.exchange([asked.remove()]))

@@ -1,4 +1,4 @@
--- What a request asks for: a command or a question, or why it is refused. Causes are tried in this order: no such path, the method, the
+-- What a request asks for: a command, a question or new metadata, or why it is refused. Causes are tried in this order: no such path, the method, the
 -- identifiers, the path of an element, the query, the body, and then that the body's identifier or name isn't the path's. This profile's
 -- own rule.
 use Rattle.std.specs.Prelude.{◌≡◌, ◌⊎◌, ℕ, ◌+◌, List, [], length, bytes_eq, Bool, true, if◌then◌else◌, Option, Some, None, Result, Ok, Err}
@@ -11,6 +11,7 @@ use Rattle.aas_json_table.specs.TooDeep.{Levels, limits}
 use Rattle.aas_json_spelling.specs.Spells.{Trees}
 use Rattle.aas_json_spelling.specs.Reading.{reading}
 use Rattle.aas_json_spelling.specs.Reads.{IsPointer, ReadsBytes}
+use Rattle.aas_json_mapping.specs.Metadata.{metadata_forms, submodel_metadata_forms}
 use Rattle.aas_json_mapping.specs.Trees.{asset_informations, elements}
 use Rattle.aas_reference.specs.Trees.{references}
 use Rattle.aas_model.specs.declared.element.Element.{Element as ElementTree}
@@ -44,7 +45,8 @@ use Rattle.aas_target.specs.declared.routes.Resource.TheVariants.{Shells, Shells
 use Rattle.aas_api.specs.Interfaces.{Interface, shell_interface, submodel_interface, concept_interface}
 use Rattle.aas_api.specs.Numbers.{broken_number}
 use Rattle.aas_api.specs.declared.ask.Ask.{Ask}
-use Rattle.aas_api.specs.declared.ask.Ask.TheVariants.{Act, Answer}
+use Rattle.aas_api.specs.declared.ask.Ask.TheVariants.{Act, Answer, Describe}
+use Rattle.aas_api.specs.declared.ask.Metadata.TheVariants as metadata
 use Rattle.aas_api.specs.declared.ask.Call.{Call}
 
 -- what is asked, or the refusal
@@ -109,8 +111,8 @@ abbrev pub BySent : List ℕ → (Data → Asked) → Asked → Type 0
 BySent body asks = IsBySent asks (reading body)
 
 -- what is put has the identifier or the name of the path
-abbrev pub if_same : Bool → Command → Asked
-if_same same c = if same then Ok (Act c) else Err IdMismatch
+abbrev pub if_same : Bool → Ask → Asked
+if_same same ask = if same then Ok ask else Err IdMismatch
 
 -- the element has this name, where a path ends with one
 abbrev pub has_last : Option PathStep → ElementTree → Bool
@@ -127,7 +129,7 @@ AsksCollection i resource query body method asked = ⊥
 abbrev pub AsksDocument : {D : Type 0} → Interface D → Resource → List ℕ → List ℕ → List ℕ → Method → Asked → Type 0
 AsksDocument i resource segment query body Get asked = ById segment (λ id. Shows resource query (i.get id)) asked
 AsksDocument i resource segment query body Put asked =
-    ById segment (λ id. ByBody i.documents limits body (λ d. if_same (bytes_eq id (i.id_of d)) (i.replace d))) asked
+    ById segment (λ id. ByBody i.documents limits body (λ d. if_same (bytes_eq id (i.id_of d)) (Act (i.replace d)))) asked
 AsksDocument i resource segment query body Delete asked = ById segment (λ id. IsCommand (i.delete id)) asked
 AsksDocument i resource segment query body method asked = ⊥
 
@@ -150,11 +152,20 @@ Inserts id path body = ByBody elements (at_level (length path.steps + 1)) body (
 -- it takes the place of the element to which the path leads
 abbrev pub Replaces : List ℕ → Path → List ℕ → Asked → Type 0
 Replaces id path body =
-    ByBody elements (at_level (length path.steps)) body (λ e. if_same (has_last (last_or None path.steps) e) (ReplaceElement id path e))
+    ByBody elements (at_level (length path.steps)) body (λ e. if_same (has_last (last_or None path.steps) e) (Act (ReplaceElement id path e)))
 
 -- the value that a body sends updates those of the element to which a path leads, or of the submodel where the path is empty
 abbrev pub Updates : List ℕ → Path → List ℕ → Asked → Type 0
 Updates id path body = BySent body (λ v. Ok (Act (UpdateValue id path v)))
+
+-- The metadata form that a body spells takes the place of that of the submodel, which has its identifier, ...
+abbrev pub DescribesSubmodel : List ℕ → List ℕ → Asked → Type 0
+DescribesSubmodel id body = ByBody submodel_metadata_forms limits body (λ d. if_same (bytes_eq id d.head.id) (Describe (metadata.Submodel d)))
+
+-- ... or of the element to which a path leads, which has its name
+abbrev pub DescribesElement : List ℕ → Path → List ℕ → Asked → Type 0
+DescribesElement id path body =
+    ByBody metadata_forms limits body (λ e. if_same (has_last (last_or None path.steps) e) (Describe (metadata.Element id path e)))
 
 -- the submodel itself
 abbrev pub root : Path
@@ -172,6 +183,16 @@ AsksElement t query body Post asked = AtElement t (λ id p. Inserts id p body) a
 AsksElement t query body Put asked = AtElement t (λ id p. Replaces id p body) asked
 AsksElement t query body Delete asked = AtElement t (λ id p. IsCommand (DeleteElement id p)) asked
 AsksElement t query body method asked = ⊥
+
+abbrev pub AsksSubmodelMetadata : List ℕ → List ℕ → Method → Asked → Type 0
+AsksSubmodelMetadata segment body Get asked = ById segment (λ id. IsQuestion (question.SubmodelMetadata id)) asked
+AsksSubmodelMetadata segment body Patch asked = ById segment (λ id. DescribesSubmodel id body) asked
+AsksSubmodelMetadata segment body method asked = ⊥
+
+abbrev pub AsksElementMetadata : Texts → List ℕ → Method → Asked → Type 0
+AsksElementMetadata t body Get asked = AtElement t (λ id p. IsQuestion (question.ElementMetadata id p)) asked
+AsksElementMetadata t body Patch asked = AtElement t (λ id p. DescribesElement id p body) asked
+AsksElementMetadata t body method asked = ⊥
 
 abbrev pub AsksSubmodelValue : List ℕ → List ℕ → List ℕ → Method → Asked → Type 0
 AsksSubmodelValue segment query body Get asked =
@@ -202,7 +223,7 @@ AsksResource SubmodelsValue t query body method =
     Shows SubmodelsValue query (λ g. question.SubmodelsValue (selection_of g) (level_of g) (extent_of g))
 AsksResource SubmodelsReference t query body method = Shows SubmodelsReference query (λ g. question.SubmodelsReference (selection_of g))
 AsksResource Submodel t query body method = AsksDocument submodel_interface Submodel t.id query body method
-AsksResource SubmodelMetadata t query body method = ById t.id (λ id. IsQuestion (question.SubmodelMetadata id))
+AsksResource SubmodelMetadata t query body method = AsksSubmodelMetadata t.id body method
 AsksResource SubmodelValue t query body method = AsksSubmodelValue t.id query body method
 AsksResource SubmodelReference t query body method = ById t.id (λ id. IsQuestion (question.SubmodelReference id))
 AsksResource SubmodelPaths t query body method = ById t.id (λ id. Shows SubmodelPaths query (λ g. question.SubmodelPaths id (level_of g)))
@@ -212,7 +233,7 @@ AsksResource ElementsMetadata t query body method =
 AsksResource ElementsReference t query body method =
     ById t.id (λ id. Shows ElementsReference query (λ g. question.ElementsReference id (span_of g)))
 AsksResource Element t query body method = AsksElement t query body method
-AsksResource ElementMetadata t query body method = AtElement t (λ id p. IsQuestion (question.ElementMetadata id p))
+AsksResource ElementMetadata t query body method = AsksElementMetadata t body method
 AsksResource ElementValue t query body method = AsksElementValue t query body method
 AsksResource ElementReference t query body method = AtElement t (λ id p. IsQuestion (question.ElementReference id p))
 AsksResource ElementPaths t query body method =

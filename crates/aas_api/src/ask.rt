@@ -1,10 +1,10 @@
 // What requests ask for.
 ghost use Rattle.std.specs.Prelude.{◌≡◌};
 ghost use Rattle.std.specs.Option.{option_copied};
-ghost use Rattle.aas_api.specs.Submodels.{submodel_changed, submodel_told};
+ghost use Rattle.aas_api.specs.Submodels.{submodel_changed, submodel_described, submodel_told};
 
 use aas_command::Command;
-use aas_model::Text;
+use aas_model::{Boxed, Element, Path, Submodel, Text};
 use aas_question::Question;
 
 /// What a request asks for.
@@ -14,6 +14,24 @@ pub enum Ask {
     Act { command: Command },
     /// That a question be answered.
     Answer { question: Question },
+    /// That metadata be put in the place of what there is.
+    Describe { metadata: Metadata },
+}
+
+/// The metadata form that takes the place of that of a submodel or an element (PatchSubmodel and
+/// PatchSubmodelElementByPath, Metadata).
+#[derive(Drop)]
+pub enum Metadata {
+    /// Of the submodel that has its identifier.
+    Submodel {
+        form: Boxed<Submodel>,
+    },
+    /// Of the element to which the path leads.
+    Element {
+        submodel: Text,
+        path: Path,
+        form: Boxed<Element>,
+    },
 }
 
 /// What a request asks for, and through which shell.
@@ -36,6 +54,7 @@ impl Ask {
         match self {
             Ask::Act { command } => submodel_changed(command),
             Ask::Answer { question } => submodel_told(question),
+            Ask::Describe { metadata } => submodel_described(metadata),
         }
     }
 }
@@ -50,6 +69,15 @@ fn submodel_changed(command: &Command) -> Option<&Text>
         | Command::DeleteElement { submodel, .. }
         | Command::UpdateValue { submodel, .. } => Some(submodel),
         _ => None,
+    }
+}
+
+fn submodel_described(metadata: &Metadata) -> Option<&Text>
+    ensures { option_copied result ≡ submodel_described metadata.now }
+{
+    match metadata {
+        Metadata::Submodel { form } => Some(&form.get().head.id),
+        Metadata::Element { submodel, .. } => Some(submodel),
     }
 }
 

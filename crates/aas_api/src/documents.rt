@@ -245,7 +245,7 @@ fn get<D: Document>(
 
 fn replace<D: Document>(alloc: Global, segment: &[u8], body: &[u8]) -> Result<Ask, Refusal>
     ensures { OrNoMemory (ById segment.now (λ id. ByBody D.interface.documents limits body.now
-        (λ document. if_same (bytes_eq id (D.interface.id_of document)) (D.interface.replace document)))) result }
+        (λ document. if_same (bytes_eq id (D.interface.id_of document)) (Act (D.interface.replace document))))) result }
 {
     let id = identifier(alloc, segment)?;
     let document = D::read(alloc, body)?;

@@ -9,6 +9,7 @@ ghost use Rattle.aas_target.specs.Routes.{IsOneOf};
 ghost use Rattle.aas_target.specs.Seen.{texts_of};
 ghost use Rattle.aas_target.specs.declared.method.Method.TheVariants.{Get, Post, Put, Delete};
 ghost use Rattle.aas_target.specs.declared.routes.Resource.TheVariants as resource;
+ghost use Rattle.aas_api.specs.declared.ask.Ask.TheVariants.{Act};
 ghost use Rattle.aas_api.specs.Asked.{AsksElement, AsksElements, AtElement, ById, Inserts, IsCommand, IsQuestion, OrNoMemory, Replaces, Shows, has_last, if_same, root};
 
 use crate::ask::Ask;
@@ -94,17 +95,6 @@ pub(crate) fn ask_element(
         Method::Delete => delete_element(alloc, texts),
         _ => unreachable!(),
     }
-}
-
-/// What is asked of the element's metadata form.
-pub(crate) fn ask_element_metadata(alloc: Global, texts: Texts<'_>) -> Result<Ask, Refusal>
-    ensures { OrNoMemory (AtElement (texts_of texts.entry) (λ id path. IsQuestion (question.ElementMetadata id path))) result }
-{
-    let id = identifier(alloc, texts.id)?;
-    let path = element_path(alloc, texts.path)?;
-    Ok(Ask::Answer {
-        question: Question::ElementMetadata { id, path },
-    })
 }
 
 /// What is asked of the reference to the element.
@@ -241,7 +231,7 @@ fn replace(alloc: Global, submodel: Text, path: Path, body: &[u8]) -> Result<Ask
 /// Puts the element in the place of that to which the path leads, if it has the name with which the path ends.
 #[tactic(auto, using(crate::proofs::LastSteps::last_is))]
 fn if_same(submodel: Text, path: Path, element: Boxed<Element>) -> Result<Ask, Refusal>
-    ensures { result ≡ if_same (has_last (last_or None path.steps) element) (ReplaceElement submodel path element) }
+    ensures { result ≡ if_same (has_last (last_or None path.steps) element) (Act (ReplaceElement submodel path element)) }
 {
     if !has_last(path.steps.as_slice().last(), element.get()) {
         return Err(Refusal::IdMismatch);
@@ -256,7 +246,7 @@ fn if_same(submodel: Text, path: Path, element: Boxed<Element>) -> Result<Ask, R
 }
 
 /// Whether the element has this name, if a path ends with one.
-fn has_last(last: Option<&PathStep>, element: &Element) -> bool
+pub(crate) fn has_last(last: Option<&PathStep>, element: &Element) -> bool
     ensures { result ≡ has_last (option_copied last.entry) element.now }
 {
     match last {

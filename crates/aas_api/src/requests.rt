@@ -10,16 +10,17 @@ ghost use Rattle.aas_api.specs.Asked.{AsksResource, IsAsked, OrNoMemory, Through
 use crate::ask::{Ask, Call};
 use crate::documents::{ask_collection, ask_document};
 use crate::elements::{
-    ask_element, ask_element_metadata, ask_element_paths, ask_element_reference, ask_elements,
-    ask_elements_metadata, ask_elements_reference,
+    ask_element, ask_element_paths, ask_element_reference, ask_elements, ask_elements_metadata,
+    ask_elements_reference,
 };
+use crate::metadata::{ask_element_metadata, ask_submodel_metadata};
 use crate::segments::identifier;
 use crate::shells::{
     ask_asset, ask_references, ask_shell_reference, ask_shells_reference, drop_reference,
 };
 use crate::submodels::{
-    ask_submodel_metadata, ask_submodel_paths, ask_submodel_reference, ask_submodels_metadata,
-    ask_submodels_reference, ask_submodels_value,
+    ask_submodel_paths, ask_submodel_reference, ask_submodels_metadata, ask_submodels_reference,
+    ask_submodels_value,
 };
 use crate::values::{ask_element_value, ask_submodel_value};
 use aas_command::Refusal;
@@ -97,7 +98,7 @@ fn ask_resource(
         Resource::Submodel => {
             ask_document::<Submodel>(alloc, resource, texts.id, method, query, body)
         }
-        Resource::SubmodelMetadata => ask_submodel_metadata(alloc, texts.id),
+        Resource::SubmodelMetadata => ask_submodel_metadata(alloc, texts.id, method, body),
         Resource::SubmodelValue => ask_submodel_value(alloc, texts.id, method, query, body),
         Resource::SubmodelReference => ask_submodel_reference(alloc, texts.id),
         Resource::SubmodelPaths => ask_submodel_paths(alloc, texts.id, query),
@@ -105,7 +106,7 @@ fn ask_resource(
         Resource::ElementsMetadata => ask_elements_metadata(alloc, texts.id, query),
         Resource::ElementsReference => ask_elements_reference(alloc, texts.id, query),
         Resource::Element => ask_element(alloc, texts, method, query, body),
-        Resource::ElementMetadata => ask_element_metadata(alloc, texts),
+        Resource::ElementMetadata => ask_element_metadata(alloc, texts, method, body),
         Resource::ElementValue => ask_element_value(alloc, texts, method, query, body),
         Resource::ElementReference => ask_element_reference(alloc, texts),
         Resource::ElementPaths => ask_element_paths(alloc, texts, query),

@@ -52,16 +52,6 @@ pub(crate) fn ask_submodels_reference(alloc: Global, query: &[u8]) -> Result<Ask
     })
 }
 
-/// What is asked of the submodel's metadata form.
-pub(crate) fn ask_submodel_metadata(alloc: Global, segment: &[u8]) -> Result<Ask, Refusal>
-    ensures { OrNoMemory (ById segment.now (λ id. IsQuestion (question.SubmodelMetadata id))) result }
-{
-    let id = identifier(alloc, segment)?;
-    Ok(Ask::Answer {
-        question: Question::SubmodelMetadata { id },
-    })
-}
-
 /// What is asked of the reference to the submodel.
 pub(crate) fn ask_submodel_reference(alloc: Global, segment: &[u8]) -> Result<Ask, Refusal>
     ensures { OrNoMemory (ById segment.now (λ id. IsQuestion (question.SubmodelReference id))) result }

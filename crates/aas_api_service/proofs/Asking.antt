@@ -1,19 +1,17 @@
--- What holds of a command for which a request asks, by the forms that what is asked has.
+-- What holds of what a request asks for, by the forms that this has.
 use Rattle.std.proofs.Common.{◌≡◌, inl, inr, List, ℕ, Option, Some, None, Ok, Err, refl, subst, ap}
 use Rattle.aas_model.specs.declared.path.Path.{Path}
 use Rattle.aas_path_trees.specs.PathRule.{KeepsRule}
-use Rattle.aas_command.specs.declared.command.Command.{Command}
 use Rattle.aas_http.specs.FirstRequest.{Message}
 use Rattle.aas_target.specs.Routes.{Found, Texts, method_among, methods_of, path_in, query_in, resource_at}
 use Rattle.aas_target.specs.declared.method.Method.{Method}
 use Rattle.aas_api.specs.Asked.{Asked, AsksResource, AtElement, ById, ByPath, ByRoute, Called, IsAsked, IsByMethod, IsCall, Through}
 use Rattle.aas_api.specs.declared.ask.Ask.{Ask}
-use Rattle.aas_api.specs.declared.ask.Ask.TheVariants.{Act, Answer}
 
-module _ (Fact : Command → Type 0) (c : Command) where
-  -- where the command is asked for so, this holds of it
+module _ (Fact : Ask → Type 0) (a : Ask) where
+  -- where it is asked for so, this holds of it
   abbrev pub Implies : (Asked → Type 0) → Type 0
-  Implies Asks = Asks (Ok (Act c)) → Fact c
+  Implies Asks = Asks (Ok a) → Fact a
 
   pub by_id : (segment : List ℕ) (Asks : List ℕ → Asked → Type 0) → ((id : List ℕ) → Implies (Asks id)) → Implies (ById segment Asks)
   by_id segment Asks each (inl (id, stands, asks)) = each id asks
@@ -34,20 +32,18 @@ abbrev asked_in : Called → Option Ask
 asked_in (Ok call) = Some call.ask
 asked_in (Err why) = None
 
-module _ (Fact : Command → Type 0) (through : Option (List ℕ)) (c : Command) where
+module _ (Fact : Ask → Type 0) (through : Option (List ℕ)) (a : Ask) where
   -- where it is called for so, this holds of it
   abbrev CallImplies : (Called → Type 0) → Type 0
-  CallImplies Calls = Calls (Ok (record { through = through; ask = Act c })) → Fact c
+  CallImplies Calls = Calls (Ok (record { through = through; ask = a })) → Fact a
 
-  is_call : (shell : Option (List ℕ)) (Asks : Asked → Type 0) → ((d : Command) → Implies Fact d Asks) → CallImplies (IsCall shell Asks)
-  is_call shell Asks each (Ok (Act d), asks, is) =
-      let same_ask : Some (Act c) ≡ Some (Act d) = ap asked_in is in
-      let same : d ≡ c = cc in subst Fact same (each d asks)
-  is_call shell Asks each (Ok (Answer q), asks, is) =
-      let same_ask : Some (Act c) ≡ Some (Answer q) = ap asked_in is in absurd (cc)
+  is_call : (shell : Option (List ℕ)) (Asks : Asked → Type 0) → ((b : Ask) → Implies Fact b Asks) → CallImplies (IsCall shell Asks)
+  is_call shell Asks each (Ok b, asks, is) =
+      let same_ask : Some a ≡ Some b = ap asked_in is in
+      let same : b ≡ a = cc in subst Fact same (each b asks)
   is_call shell Asks each (Err why, asks, is) = absurd (cc)
 
-  by_shell : (segment : Option (List ℕ)) (Asks : Asked → Type 0) → ((d : Command) → Implies Fact d Asks)
+  by_shell : (segment : Option (List ℕ)) (Asks : Asked → Type 0) → ((b : Ask) → Implies Fact b Asks)
       → CallImplies (Through segment Asks)
   by_shell None Asks each calls = is_call None Asks each calls
   by_shell (Some segment) Asks each (inl (id, stands, calls)) = is_call (Some id) Asks each calls
@@ -58,11 +54,11 @@ module _ (Fact : Command → Type 0) (through : Option (List ℕ)) (c : Command)
   by_method None methods Calls each is = absurd (cc)
   by_method (Some method) methods Calls each calls = each method refl calls
 
-  -- it holds of each command for which the request asks by a method that a resource has
+  -- it holds of each thing for which the request asks by a method that a resource has
   abbrev pub HoldsByMethods : Message → Type 0
   HoldsByMethods m =
-      (found : Found) (method : Method) → method_among m.method (methods_of found) ≡ Some method → (d : Command)
-      → Implies Fact d (AsksResource found.resource found.texts (query_in m.target) m.body method)
+      (found : Found) (method : Method) → method_among m.method (methods_of found) ≡ Some method → (b : Ask)
+      → Implies Fact b (AsksResource found.resource found.texts (query_in m.target) m.body method)
 
   by_route : (found : Option Found) (m : Message) → HoldsByMethods m → CallImplies (ByRoute found m)
   by_route None m each is = absurd (cc)

@@ -1,6 +1,9 @@
 pub mod Asking
 pub mod OneOutcome
 pub mod Outcomes
+pub mod PutMetadata
 pub mod Safe
+pub mod SameNames
 pub mod Sessions
+pub mod WellDescribed
 pub mod WellFormed

@@ -2,6 +2,7 @@
 use Rattle.std.proofs.Common.{◌≡◌, ◌⊎◌, inl, inr, ℕ, ◌+◌, ◌<◌, List, [], ◌++◌, length, false, Option, Some, None, Result, Ok, Err, sym, ap, ◌∙◌, subst, arith}
 use Rattle.std.specs.Prelude.{bytes_eq, codes}
 use Rattle.std.specs.List.{last_or}
+use Rattle.std.specs.FinMap as map
 use Rattle.std.specs.Str.{chars, encode_utf8_all}
 use Rattle.percent_encoding.specs.Percent.{percent_decode}
 use Rattle.serde_json.specs.Data.{Data}
@@ -15,10 +16,12 @@ use Rattle.aas_json_spelling.specs.Reading.{reading}
 use Rattle.aas_json_spelling.specs.Reads.{IsFault, IsPointer, ReadsIf}
 use Rattle.aas_json_spelling.specs.Spells.{Trees, Spells}
 use Rattle.aas_json_spelling.proofs.Laws.{one_tree}
+use Rattle.aas_json_mapping.specs.Metadata.{IsMetadata, IsSubmodelMetadata, metadata_forms, submodel_metadata_forms}
 use Rattle.aas_json_mapping.specs.Shape.{IsShaped, IsShapedSubmodel}
 use Rattle.aas_json_mapping.specs.Trees.{asset_informations, concepts, elements, shells, submodels}
 use Rattle.aas_json_mapping.proofs.DocumentsLaws.{concepts_laws, shells_laws, submodels_laws}
 use Rattle.aas_json_mapping.proofs.ElementsLaws.{elements_laws}
+use Rattle.aas_json_mapping.proofs.MetadataLaws.{metadata_laws, submodel_metadata_laws}
 use Rattle.aas_json_mapping.proofs.PartsLaws.{asset_informations_laws}
 use Rattle.aas_reference.specs.Trees.{references}
 use Rattle.aas_reference.proofs.Facts.{laws as references_laws}
@@ -30,7 +33,8 @@ use Rattle.aas_path.specs.PathText.{IsNoPath}
 use Rattle.aas_path.proofs.PathSteps.{one_path}
 use Rattle.aas_edit_laws.specs.Laws.{at_level}
 use Rattle.aas_command.specs.declared.command.Command.{Command}
-use Rattle.aas_command.specs.declared.command.Command.TheVariants.{SetAsset, AddReference, DropReference, InsertElement, ReplaceElement, DeleteElement, UpdateValue}
+use Rattle.aas_command.specs.declared.command.Command.TheVariants.{SetAsset, AddReference, DropReference, InsertElement, ReplaceElement, DeleteElement, UpdateValue, ReplaceSubmodel}
+use Rattle.aas_command.specs.declared.refusal.Absent.TheVariants as absent
 use Rattle.aas_command.specs.declared.refusal.Refusal.{Refusal}
 use Rattle.aas_command.specs.declared.refusal.Refusal.TheVariants as refusal
 use Rattle.aas_question.specs.declared.question.Question.{Question}
@@ -38,6 +42,7 @@ use Rattle.aas_question.specs.declared.question.Question.TheVariants as question
 use Rattle.aas_http.specs.FirstRequest.{Message}
 use Rattle.aas_http.specs.declared.replies.Reply.{Reply}
 use Rattle.aas_page.specs.Laws.{SegmentsStandForOne}
+use Rattle.aas_meta_update.specs.WithMetadata.{with_submodel_metadata}
 use Rattle.aas_rule.specs.Rule.{Repository, Room, Outcome}
 use Rattle.aas_store.specs.Documents.{Documents}
 use Rattle.aas_step.specs.Causes.{Cause}
@@ -54,15 +59,21 @@ use Rattle.aas_target.specs.declared.method.Method.TheVariants.{Get, Post, Put, 
 use Rattle.aas_target.specs.declared.parameter.Parameter.{Parameter}
 use Rattle.aas_target.specs.declared.routes.Resource.{Resource}
 use Rattle.aas_target.specs.declared.routes.Resource.TheVariants.{Shells, ShellsReference, Shell, ShellReference, AssetInformation, ReferencesOf, ReferencesTo, Submodels, SubmodelsMetadata, SubmodelsValue, SubmodelsReference, Submodel, SubmodelMetadata, SubmodelValue, SubmodelReference, SubmodelPaths, Elements, ElementsMetadata, ElementsReference, Element, ElementMetadata, ElementValue, ElementReference, ElementPaths, Concepts, Concept}
-use Rattle.aas_api.specs.Asked.{Asked, AsksAsset, AsksCollection, AsksDocument, AsksElement, AsksElements, AsksElementValue, AsksReferences, AsksResource, AsksSubmodelValue, AtElement, ByBody, ById, ByPath, ByQuery, ByRoute, Called, Inserts, IsAsked, IsByMethod, IsByRead, IsBySent, IsCall, IsCommand, IsQuestion, Replaces, Shows, Through, UnlessBroken, Updates, as_call, has_last, if_same, root}
+use Rattle.aas_api.specs.Asked.{Asked, AsksAsset, AsksElementMetadata, AsksSubmodelMetadata, DescribesElement, DescribesSubmodel, AsksCollection, AsksDocument, AsksElement, AsksElements, AsksElementValue, AsksReferences, AsksResource, AsksSubmodelValue, AtElement, ByBody, ById, ByPath, ByQuery, ByRoute, Called, Inserts, IsAsked, IsByMethod, IsByRead, IsBySent, IsCall, IsCommand, IsQuestion, Replaces, Shows, Through, UnlessBroken, Updates, as_call, has_last, if_same, root}
 use Rattle.aas_api.specs.Interfaces.{Interface, concept_interface, shell_interface, submodel_interface}
 use Rattle.aas_api.specs.Numbers.{broken_number}
 use Rattle.aas_api_service.specs.Replies.{messages, refusal_reply}
 use Rattle.aas_api.specs.Submodels.{submodel_of}
 use Rattle.aas_api.specs.declared.ask.Ask.{Ask}
-use Rattle.aas_api.specs.declared.ask.Ask.TheVariants.{Act, Answer}
+use Rattle.aas_api.specs.declared.ask.Ask.TheVariants.{Act, Answer, Describe}
+use Rattle.aas_api.specs.declared.ask.Call.{Call}
+use Rattle.aas_api.specs.declared.ask.Metadata.{Metadata}
+use Rattle.aas_api.specs.declared.ask.Metadata.TheVariants as metadata
+use Rattle.aas_api_service.specs.Described.{ByFound, Described, IsDescribed, PutsElement, no_element}
+use Rattle.aas_model.specs.declared.element.Element.{Element as ElementTree}
+use Rattle.aas_path_trees.specs.ElementAt.{element_at}
 use Rattle.aas_api_service.specs.Laws.{OneOutcome}
-use Rattle.aas_api_service.specs.Turns.{AskComesTo, CallComesTo, CalledComesTo, ComesUnless, Turns, outcome_of, unchanged, unreached}
+use Rattle.aas_api_service.specs.Turns.{ActComesTo, AskComesTo, CallComesTo, CalledComesTo, ComesUnless, DescribedComesTo, Turns, outcome_of, unchanged, unreached}
 
 -- they ask for the same, or are refused with the same reply
 abbrev Same : {A : Type 0} → Result A Refusal → Result A Refusal → Type 0
@@ -85,6 +96,12 @@ concepts_once = one_tree concepts AnyShape concepts_laws
 
 elements_once : SpellsOnce elements
 elements_once = one_tree elements IsShaped elements_laws
+
+forms_once : SpellsOnce metadata_forms
+forms_once = one_tree metadata_forms IsMetadata metadata_laws
+
+submodel_forms_once : SpellsOnce submodel_metadata_forms
+submodel_forms_once = one_tree submodel_metadata_forms IsSubmodelMetadata submodel_metadata_laws
 
 assets_once : SpellsOnce asset_informations
 assets_once = one_tree asset_informations AnyShape asset_informations_laws
@@ -268,8 +285,8 @@ module _ (one_id : SegmentsStandForOne) (one_query : QueriesSayOne) (a b : Asked
       (method : Method) → Agree (AsksDocument i resource segment query body method)
   on_document i once resource segment query body Get = shown segment resource query i.get
   on_document i once resource segment query body Put =
-      by_id segment (λ id. ByBody i.documents limits body (λ d. if_same (bytes_eq id (i.id_of d)) (i.replace d)))
-      (λ id. same_by_body i.documents once limits (λ d. if_same (bytes_eq id (i.id_of d)) (i.replace d)) a b body)
+      by_id segment (λ id. ByBody i.documents limits body (λ d. if_same (bytes_eq id (i.id_of d)) (Act (i.replace d))))
+      (λ id. same_by_body i.documents once limits (λ d. if_same (bytes_eq id (i.id_of d)) (Act (i.replace d))) a b body)
   on_document i once resource segment query body Delete = by_id segment (λ id. IsCommand (i.delete id)) (λ id. agree_command (i.delete id))
   on_document i once resource segment query body Post = λ first second. absurd first
   on_document i once resource segment query body Patch = λ first second. absurd first
@@ -303,7 +320,7 @@ module _ (one_id : SegmentsStandForOne) (one_query : QueriesSayOne) (a b : Asked
   replaces : (id : List ℕ) (path : Path) (body : List ℕ) → Agree (Replaces id path body)
   replaces id path body =
       same_by_body elements elements_once (at_level (length path.steps))
-      (λ e. if_same (has_last (last_or None path.steps) e) (ReplaceElement id path e)) a b body
+      (λ e. if_same (has_last (last_or None path.steps) e) (Act (ReplaceElement id path e))) a b body
 
   updates : (id : List ℕ) (path : Path) (body : List ℕ) → Agree (Updates id path body)
   updates id path body = same_by_sent (reading body) (λ v. Ok (Act (UpdateValue id path v))) a b
@@ -321,6 +338,24 @@ module _ (one_id : SegmentsStandForOne) (one_query : QueriesSayOne) (a b : Asked
   on_element t query body Put = at_element t (λ id p. Replaces id p body) (λ id p. replaces id p body)
   on_element t query body Delete = at_element t (λ id p. IsCommand (DeleteElement id p)) (λ id p. agree_command (DeleteElement id p))
   on_element t query body Patch = λ first second. absurd first
+
+  on_submodel_metadata : (segment body : List ℕ) (method : Method) → Agree (AsksSubmodelMetadata segment body method)
+  on_submodel_metadata segment body Get = told segment question.SubmodelMetadata
+  on_submodel_metadata segment body Patch =
+      by_id segment (λ id. DescribesSubmodel id body)
+      (λ id. same_by_body submodel_metadata_forms submodel_forms_once limits (λ d. if_same (bytes_eq id d.head.id) (Describe (metadata.Submodel d))) a b body)
+  on_submodel_metadata segment body Post = λ first second. absurd first
+  on_submodel_metadata segment body Put = λ first second. absurd first
+  on_submodel_metadata segment body Delete = λ first second. absurd first
+
+  on_element_metadata : (t : Texts) (body : List ℕ) (method : Method) → Agree (AsksElementMetadata t body method)
+  on_element_metadata t body Get = told_at t question.ElementMetadata
+  on_element_metadata t body Patch =
+      at_element t (λ id p. DescribesElement id p body)
+      (λ id p. same_by_body metadata_forms forms_once limits (λ e. if_same (has_last (last_or None p.steps) e) (Describe (metadata.Element id p e))) a b body)
+  on_element_metadata t body Post = λ first second. absurd first
+  on_element_metadata t body Put = λ first second. absurd first
+  on_element_metadata t body Delete = λ first second. absurd first
 
   on_submodel_value : (segment query body : List ℕ) (method : Method) → Agree (AsksSubmodelValue segment query body method)
   on_submodel_value segment query body Get =
@@ -355,7 +390,7 @@ module _ (one_id : SegmentsStandForOne) (one_query : QueriesSayOne) (a b : Asked
       λ m. by_shown SubmodelsValue query (λ g. question.SubmodelsValue (selection_of g) (level_of g) (extent_of g))
   on_resource SubmodelsReference t query body = λ m. by_shown SubmodelsReference query (λ g. question.SubmodelsReference (selection_of g))
   on_resource Submodel t query body = on_document submodel_interface submodels_once Submodel t.id query body
-  on_resource SubmodelMetadata t query body = λ m. told t.id question.SubmodelMetadata
+  on_resource SubmodelMetadata t query body = on_submodel_metadata t.id body
   on_resource SubmodelValue t query body = on_submodel_value t.id query body
   on_resource SubmodelReference t query body = λ m. told t.id question.SubmodelReference
   on_resource SubmodelPaths t query body = λ m. shown t.id SubmodelPaths query (λ id g. question.SubmodelPaths id (level_of g))
@@ -363,7 +398,7 @@ module _ (one_id : SegmentsStandForOne) (one_query : QueriesSayOne) (a b : Asked
   on_resource ElementsMetadata t query body = λ m. shown t.id ElementsMetadata query (λ id g. question.ElementsMetadata id (span_of g))
   on_resource ElementsReference t query body = λ m. shown t.id ElementsReference query (λ id g. question.ElementsReference id (span_of g))
   on_resource Element t query body = on_element t query body
-  on_resource ElementMetadata t query body = λ m. told_at t question.ElementMetadata
+  on_resource ElementMetadata t query body = on_element_metadata t body
   on_resource ElementValue t query body = on_element_value t query body
   on_resource ElementReference t query body = λ m. told_at t question.ElementReference
   on_resource ElementPaths t query body = λ m. shown_at t ElementPaths query (λ id p g. question.ElementPaths id p (level_of g))
@@ -401,14 +436,57 @@ module _ (one_id : SegmentsStandForOne) (one_query : QueriesSayOne) (a b : Calle
       (λ x y. on_resource one_id one_query x y found.resource found.texts (query_in m.target) m.body method))
       first second
 
+-- a request asks for one call alone
+pub one_call : SegmentsStandForOne → QueriesSayOne → (m : Message) (call : Call) (other : Called) → IsAsked m (Ok call) → IsAsked m other → other ≡ Ok call
+unfolding IsAsked
+one_call one_id one_query m call other asked other_asked =
+    same_as (by_route one_id one_query (Ok call) other (resource_at (path_in m.target)) m asked other_asked)
+  where
+    same_as : Same (Ok call) other → other ≡ Ok call
+    same_as (inl is) = sym is
+    same_as (inr (why, another, is, other_is, same)) = absurd (cc)
+
 -- ---- outcomes
+
+-- a command comes to one thing alone
+one_of_act : OneResult → (room : Room) (r : Repository Documents) (c : Command) (x y : Outcome Documents Reply) → AreValid r.documents
+    → ActComesTo room r c x → ActComesTo room r c y → x ≡ y
+one_of_act one_result room r c x y valid (result, steps, read, is) (other, other_steps, other_read, other_is) =
+    is ∙ ap (λ (s : StepResult). outcome_of r c s) (one_result room r c result other valid steps other_steps) ∙ sym other_is
+
+one_described : OneResult → (room : Room) (r : Repository Documents) (c : Described) (x y : Outcome Documents Reply) → AreValid r.documents
+    → DescribedComesTo room r c x → DescribedComesTo room r c y → x ≡ y
+one_described one_result room r (Err why) x y valid first second = first ∙ sym second
+one_described one_result room r (Ok c) x y valid first second = one_of_act one_result room r c x y valid first.1 second.1
+
+-- metadata is put by one command alone, or refused by one cause
+one_found : {A : Type 0} (found : Option A) (why : Refusal) (Asks : A → Described → Type 0) (c d : Described) → ((a : A) → Asks a c → Asks a d → c ≡ d)
+    → ByFound found why Asks c → ByFound found why Asks d → c ≡ d
+one_found None why Asks c d each first second = first ∙ sym second
+one_found (Some a) why Asks c d each first second = each a first second
+
+one_put : (id : List ℕ) (p : Path) (m e : ElementTree) (c d : Described) → PutsElement id p m e c → PutsElement id p m e d → c ≡ d
+one_put id p m e c d (inl a) (inl b) = a.1 ∙ sym b.1
+one_put id p m e c d (inl a) (inr b) = absurd (b.0 a.0)
+one_put id p m e c d (inr a) (inl b) = absurd (a.0 b.0)
+one_put id p m e c d (inr a) (inr b) = a.1 ∙ sym b.1
+
+one_command : (documents : Documents) (m : Metadata) (c d : Described) → IsDescribed documents m c → IsDescribed documents m d → c ≡ d
+one_command documents (metadata.Submodel m) c d first second =
+    one_found (map.get documents.submodels (encode_utf8_all m.head.id)) (refusal.NotFound absent.Submodel)
+    (λ s command. command ≡ Ok (ReplaceSubmodel (with_submodel_metadata s m))) c d (λ s a b. a ∙ sym b) first second
+one_command documents (metadata.Element id p m) c d first second =
+    one_found (map.get documents.submodels (encode_utf8_all id)) (refusal.NotFound absent.Submodel)
+    (λ s. ByFound (element_at s p.steps) (no_element s p) (PutsElement id p m)) c d
+    (λ s a b. one_found (element_at s p.steps) (no_element s p) (PutsElement id p m) c d (λ e. one_put id p m e c d) a b) first second
 
 one_of_ask : OneResult → (room : Room) (r : Repository Documents) (ask : Ask) (x y : Outcome Documents Reply) → AreValid r.documents
     → AskComesTo room r ask x → AskComesTo room r ask y → x ≡ y
 unfolding AskComesTo
 one_of_ask one_result room r (Answer q) x y valid first second = first ∙ sym second
-one_of_ask one_result room r (Act c) x y valid (result, steps, read, is) (other, other_steps, other_read, other_is) =
-    is ∙ ap (λ (s : StepResult). outcome_of r c s) (one_result room r c result other valid steps other_steps) ∙ sym other_is
+one_of_ask one_result room r (Act c) x y valid first second = one_of_act one_result room r c x y valid first second
+one_of_ask one_result room r (Describe m) x y valid (c, by, comes) (d, other_by, other_comes) =
+    one_described one_result room r d x y valid (subst (λ e. DescribedComesTo room r e x) (one_command r.documents m c d by other_by) comes) other_comes
 
 one_unless : OneResult → (cause : Cause) (room : Room) (r : Repository Documents) (ask : Ask) (x y : Outcome Documents Reply)
     → AreValid r.documents → ComesUnless cause room r ask x → ComesUnless cause room r ask y → x ≡ y

@@ -1,6 +1,7 @@
 -- Answers have an outcome of what is asked.
 use Rattle.std.proofs.Common.{◌≡◌, inl, inr, ℕ, List, [], Some, None, Result, Ok, Err, refl, sym, subst}
 use Rattle.std.proofs.lemmas.List.{append-nil}
+use Rattle.aas_command.specs.Commands.{IsWellFormed}
 use Rattle.aas_command.specs.declared.command.Command.{Command}
 use Rattle.aas_question.specs.declared.question.Question.{Question}
 use Rattle.aas_command.specs.declared.refusal.Refusal.{Refusal}
@@ -20,8 +21,10 @@ use Rattle.aas_session.specs.declared.machine.Stop.TheVariants as stop
 use Rattle.aas_api.specs.Asked.{IsAsked, OrNoMemory}
 use Rattle.aas_api_service.specs.Replies.{refusal_reply}
 use Rattle.aas_api.specs.Submodels.{submodel_of}
-use Rattle.aas_api.specs.declared.ask.Ask.TheVariants.{Act, Answer}
+use Rattle.aas_api.specs.declared.ask.Ask.TheVariants.{Act, Answer, Describe}
+use Rattle.aas_api.specs.declared.ask.Metadata.{Metadata}
 use Rattle.aas_api.specs.declared.ask.Call.{Call}
+use Rattle.aas_api_service.proofs.WellDescribed.{OrNoCommand}
 use Rattle.aas_api_service.specs.Finished.{Finishes, IsRefused, IsReply}
 use Rattle.aas_api_service.specs.Turns.{AskComesTo, CallComesTo, Turns, answer_reply, outcome_of, success_reply, unchanged, unreached}
 
@@ -87,6 +90,34 @@ module _ {I : Type 0} (room : Room) (stands_for : I → List (List ℕ) → Type
       let P : Result Reply Stop → Type 0 = λ a. Answers (AskComesTo room) stands_for r (Act c) from now a in
       let still = holds_unchanged r (refusal_reply why) from now (acts.1 no_fault) in
       subst P (sym is) (outcome_of r c (refused why), (refused why, acts.2 no_fault some, tt, refl), refl, still)
+
+  -- ---- metadata
+
+  -- what the command comes to by which it is put
+  pub answers_described : (r : Repository Documents) (from : ℕ) (now : State Documents I) (m : Metadata) (c : Command) (answer : Result Reply Stop)
+      → OrNoCommand r.documents m (Ok c) → IsWellFormed c → Answers (AskComesTo room) stands_for r (Act c) from now answer
+      → Answers (AskComesTo room) stands_for r (Describe m) from now answer
+  unfolding AskComesTo
+  answers_described r from now m c answer (inl none) well answers = absurd (cc)
+  answers_described r from now m c (Ok reply) (inr by) well (outcome, comes, is, holds) = (outcome, (Ok c, by, (well, comes)), is, holds)
+  answers_described r from now m c (Err stop.NoMemory) (inr by) well holds = holds
+  answers_described r from now m c (Err stop.StorageFault) (inr by) well (outcome, comes, faulted) = (outcome, (Ok c, by, (well, comes)), faulted)
+
+  pub answers_undescribed : (state : State Documents I) (records : List (List ℕ)) → IsSettledState stands_for state records → (m : Metadata)
+      (why : Refusal) (answer : Result Reply Stop) → OrNoCommand state.documents m (Err why) → IsRefused why answer
+      → Answers (AskComesTo room) stands_for (repository_of state records) (Describe m) state.moment state answer
+  unfolding AskComesTo
+  answers_undescribed state records settled m why answer by (inl none) =
+      let P : Result Reply Stop → Type 0 =
+      λ a. Answers (AskComesTo room) stands_for (repository_of state records) (Describe m) state.moment state a in
+      subst P (sym none) (holds_still state records settled)
+  answers_undescribed state records settled m why answer (inl none) (inr (some, is)) = absurd (some (cc))
+  answers_undescribed state records settled m why answer (inr by) (inr (some, is)) =
+      let P : Result Reply Stop → Type 0 =
+      λ a. Answers (AskComesTo room) stands_for (repository_of state records) (Describe m) state.moment state a in
+      let r = repository_of state records in
+      let still = holds_unchanged r (refusal_reply why) state.moment state (holds_still state records settled) in
+      subst P (sym is) (unchanged r (refusal_reply why), (Err why, by, refl), refl, still)
 
   -- ---- calls
 

@@ -1,8 +1,7 @@
--- A GET asks a question, and never for a command.
+-- A GET asks a question.
 use Rattle.std.proofs.Common.{◌≡◌, inl, inr, List, [], ◌∷◌, ℕ, Bool, Option, Some, Ok, refl, sym, subst}
 use Rattle.std.specs.Prelude.{codes, is_some}
 use Rattle.aas_model.specs.declared.path.Path.{Path}
-use Rattle.aas_command.specs.declared.command.Command.{Command}
 use Rattle.aas_question.specs.declared.question.Question.{Question}
 use Rattle.aas_http.specs.FirstRequest.{Message}
 use Rattle.aas_rule.specs.State.{State}
@@ -15,43 +14,45 @@ use Rattle.aas_target.specs.declared.routes.Resource.{Resource}
 use Rattle.aas_target.specs.declared.routes.Resource.TheVariants.{Shells, ShellsReference, Shell, ShellReference, AssetInformation, ReferencesOf, ReferencesTo, Submodels, SubmodelsMetadata, SubmodelsValue, SubmodelsReference, Submodel, SubmodelMetadata, SubmodelValue, SubmodelReference, SubmodelPaths, Elements, ElementsMetadata, ElementsReference, Element, ElementMetadata, ElementValue, ElementReference, ElementPaths, Concepts, Concept}
 use Rattle.aas_api.specs.Asked.{Asked, AsksResource, AtElement, ById, IsAsked, IsQuestion, Shows}
 use Rattle.aas_api.specs.declared.ask.Ask.{Ask}
-use Rattle.aas_api.specs.declared.ask.Ask.TheVariants.{Act, Answer}
+use Rattle.aas_api.specs.declared.ask.Ask.TheVariants.{Act, Answer, Describe}
 use Rattle.aas_api_service.proofs.Asking.{Implies, at_element, by_id, by_request}
 
-abbrev Nothing : Command → Type 0
-Nothing c = ⊥
+-- it is a question
+abbrev pub IsTold : Ask → Type 0
+IsTold (Answer q) = Unit {0}
+IsTold ask = ⊥
 
-module _ (c : Command) where
-  -- the command isn't asked for so
-  abbrev pub Never : (Asked → Type 0) → Type 0
-  Never Asks = Implies Nothing c Asks
+module _ (a : Ask) where
+  -- what is asked for so is a question
+  abbrev pub Tells : (Asked → Type 0) → Type 0
+  Tells Asks = Implies IsTold a Asks
 
-  never_question : (q : Question) → Never (IsQuestion q)
-  never_question q is = cc
+  tells_question : (q : Question) → Tells (IsQuestion q)
+  tells_question q is = let same : Answer q ≡ a = cc in subst IsTold same tt
 
-  pub shows : (resource : Resource) (query : List ℕ) (ask : Given → Question) → Never (Shows resource query ask)
-  shows resource query ask (inl (g, gives, is)) = cc
-  shows resource query ask (inr (p, bad, is)) = cc
+  pub shows : (resource : Resource) (query : List ℕ) (ask : Given → Question) → Tells (Shows resource query ask)
+  shows resource query ask (inl (g, gives, is)) = tells_question (ask g) is
+  shows resource query ask (inr (p, bad, is)) = absurd (cc)
 
-  pub told : (segment : List ℕ) (ask : List ℕ → Question) → Never (ById segment (λ id. IsQuestion (ask id)))
-  told segment ask = by_id Nothing c segment (λ id. IsQuestion (ask id)) (λ id. never_question (ask id))
+  pub told : (segment : List ℕ) (ask : List ℕ → Question) → Tells (ById segment (λ id. IsQuestion (ask id)))
+  told segment ask = by_id IsTold a segment (λ id. IsQuestion (ask id)) (λ id. tells_question (ask id))
 
   pub shown : (segment : List ℕ) (resource : Resource) (query : List ℕ) (ask : List ℕ → Given → Question)
-      → Never (ById segment (λ id. Shows resource query (ask id)))
+      → Tells (ById segment (λ id. Shows resource query (ask id)))
   shown segment resource query ask =
-      by_id Nothing c segment (λ id. Shows resource query (ask id)) (λ id. shows resource query (ask id))
+      by_id IsTold a segment (λ id. Shows resource query (ask id)) (λ id. shows resource query (ask id))
 
-  pub told_at : (t : Texts) (ask : List ℕ → Path → Question) → Never (AtElement t (λ id p. IsQuestion (ask id p)))
-  told_at t ask = at_element Nothing c t (λ id p. IsQuestion (ask id p)) (λ id p rule. never_question (ask id p))
+  pub told_at : (t : Texts) (ask : List ℕ → Path → Question) → Tells (AtElement t (λ id p. IsQuestion (ask id p)))
+  told_at t ask = at_element IsTold a t (λ id p. IsQuestion (ask id p)) (λ id p rule. tells_question (ask id p))
 
   pub shown_at : (t : Texts) (resource : Resource) (query : List ℕ) (ask : List ℕ → Path → Given → Question)
-      → Never (AtElement t (λ id p. Shows resource query (ask id p)))
+      → Tells (AtElement t (λ id p. Shows resource query (ask id p)))
   shown_at t resource query ask =
-      at_element Nothing c t (λ id p. Shows resource query (ask id p)) (λ id p rule. shows resource query (ask id p))
+      at_element IsTold a t (λ id p. Shows resource query (ask id p)) (λ id p rule. shows resource query (ask id p))
 
   -- a GET of a resource that has it
   pub by_get : (resource : Resource) (is_through : Bool) → IsOneOf Get (methods_by resource is_through) → (t : Texts) (query body : List ℕ)
-      → Never (AsksResource resource t query body Get)
+      → Tells (AsksResource resource t query body Get)
   by_get Shells is_through has t query body = shows Shells query _
   by_get ShellsReference is_through has t query body = shows ShellsReference query _
   by_get Shell is_through has t query body = shown t.id Shell query _
@@ -92,19 +93,23 @@ named_get (Put ∷ others) method is = let rest = named_get others method is in 
 named_get (Patch ∷ others) method is = let rest = named_get others method is in (rest.0, inr rest.1)
 named_get (Delete ∷ others) method is = let rest = named_get others method is in (rest.0, inr rest.1)
 
-no_command : (m : Message) (through : Option (List ℕ)) (c : Command) → IsSafe m → ¬ IsAsked m (Ok (record { through = through; ask = Act c }))
-no_command m through c safe =
-    by_request Nothing through c m
-    (λ found method is d.
+tells : (m : Message) (through : Option (List ℕ)) (a : Ask) → IsSafe m → IsAsked m (Ok (record { through = through; ask = a })) → IsTold a
+tells m through a safe =
+    by_request IsTold through a m
+    (λ found method is b.
     let named : (Get ≡ method) × IsOneOf Get (methods_of found) =
     named_get (methods_of found) method (subst (λ (name : List ℕ). method_among name (methods_of found) ≡ Some method) safe is) in
-    subst (λ (by : Method). Never d (AsksResource found.resource found.texts (query_in m.target) m.body by)) named.0
-    (by_get d found.resource (is_some found.through) named.1 found.texts (query_in m.target) m.body))
+    subst (λ (by : Method). Tells b (AsksResource found.resource found.texts (query_in m.target) m.body by)) named.0
+    (by_get b found.resource (is_some found.through) named.1 found.texts (query_in m.target) m.body))
+
+by_told : (a : Ask) → IsTold a → (q : Question) × (a ≡ Answer q)
+by_told (Act c) told = absurd told
+by_told (Answer q) told = (q, refl)
+by_told (Describe m) told = absurd told
 
 pub asks_question : (m : Message) (through : Option (List ℕ)) (ask : Ask) → IsSafe m → IsAsked m (Ok (record { through = through; ask = ask }))
     → (q : Question) × (ask ≡ Answer q)
-asks_question m through (Act c) safe asked = absurd (no_command m through c safe asked)
-asks_question m through (Answer q) safe asked = (q, refl)
+asks_question m through ask safe asked = by_told ask (tells m through ask safe asked)
 
 -- ---- states
 

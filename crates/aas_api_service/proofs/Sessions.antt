@@ -17,7 +17,7 @@ use Rattle.aas_answer.specs.Answers.{answer_of}
 use Rattle.aas_api_service.specs.Replies.{refusal_reply}
 use Rattle.aas_api.specs.Submodels.{submodel_of}
 use Rattle.aas_api.specs.declared.ask.Ask.{Ask}
-use Rattle.aas_api.specs.declared.ask.Ask.TheVariants.{Act, Answer}
+use Rattle.aas_api.specs.declared.ask.Ask.TheVariants.{Act, Answer, Describe}
 use Rattle.aas_api_service.specs.Laws.{SessionsStayValid}
 use Rattle.aas_api_service.specs.Turns.{AskComesTo, CallComesTo, ComesUnless, Turns, answer_reply, outcome_of, unchanged, unreached}
 use Rattle.aas_api_service.specs.WellFormed.{IsWellFormedAsk}
@@ -76,6 +76,9 @@ module _ (room : Room) where
   by_ask r (Act c) outcome well (accepted new, steps, fields, is) = inr (c, new, well, steps, fields, is)
   by_ask r (Act c) outcome well (refused why, steps, read, is) = inl (refusal_reply why, is)
   by_ask r (Answer q) outcome well is = inl (answer_reply q (answer_of r.documents q), is)
+  by_ask r (Describe m) outcome well (Ok c, by, (takes, (accepted new, steps, fields, is))) = inr (c, new, takes, steps, fields, is)
+  by_ask r (Describe m) outcome well (Ok c, by, (takes, (refused why, steps, read, is))) = inl (refusal_reply why, is)
+  by_ask r (Describe m) outcome well (Err why, by, is) = inl (refusal_reply why, is)
 
   by_cause : (cause : Cause) (r : Repository Documents) (ask : Ask) (outcome : Outcome Documents Reply) → IsWellFormedAsk ask
       → ComesUnless cause room r ask outcome → Turned r outcome

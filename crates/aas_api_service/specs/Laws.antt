@@ -13,9 +13,12 @@ use Rattle.aas_session.specs.Session.{Place, Turn, TakesAll, repository, start}
 use Rattle.aas_store.specs.Documents.{Documents}
 use Rattle.aas_step.specs.Valid.{AreValid}
 use Rattle.aas_api.specs.Asked.{IsAsked}
-use Rattle.aas_api.specs.declared.ask.Ask.TheVariants.{Act}
+use Rattle.aas_api.specs.declared.ask.Ask.{Ask}
+use Rattle.aas_api.specs.declared.ask.Metadata.{Metadata}
+use Rattle.aas_api_service.specs.Described.{IsDescribed}
 use Rattle.aas_api_service.specs.Replies.{refusal_reply}
 use Rattle.aas_api_service.specs.Turns.{Turns}
+use Rattle.aas_api_service.specs.WellFormed.{IsWellFormedAsk, IsWellFormedMetadata}
 
 -- where documents are valid, a request comes to one thing alone
 abbrev pub OneOutcome : Type 0
@@ -23,10 +26,13 @@ OneOutcome =
     (room : Room) (r : Repository Documents) (m : Message) (x y : Outcome Documents Reply) → AreValid r.documents → Turns room r m x
     → Turns room r m y → x ≡ y
 
--- the command that a request asks for is well formed
+-- the command or the metadata that a request asks for is well formed
 abbrev pub AsksWellFormed : Type 0
-AsksWellFormed =
-    (m : Message) (through : Option (List ℕ)) (c : Command) → IsAsked m (Ok (record { through = through; ask = Act c })) → IsWellFormed c
+AsksWellFormed = (m : Message) (through : Option (List ℕ)) (ask : Ask) → IsAsked m (Ok (record { through = through; ask = ask })) → IsWellFormedAsk ask
+
+-- in valid documents metadata that is well formed is put by a command that is
+abbrev pub DescribedIsWellFormed : Type 0
+DescribedIsWellFormed = (d : Documents) (m : Metadata) (c : Command) → AreValid d → IsWellFormedMetadata m → IsDescribed d m (Ok c) → IsWellFormed c
 
 -- the turns of a session leave every constraint true
 abbrev pub SessionsStayValid : Type 0

@@ -10,6 +10,7 @@ use Rattle.aas_session.specs.declared.machine.Answer.{Answer}
 abbrev pub is_planned_ask : Ask → Bool
 is_planned_ask (ask.Act command) = false
 is_planned_ask (ask.Answer question) = is_planned question
+is_planned_ask (ask.Describe metadata) = false
 
 -- There is a plan exactly where what was asked is planned and was answered 200, and the reply's own body is empty then.
 pub record HasPlan (planned : Bool) (answer : Answer Plan) : Type 0 where

@@ -4,7 +4,7 @@ use Rattle.std.specs.Prelude.{◌≡◌, ◌^◌, ℕ, nat_lt, List, [], ◌∷�
 use Rattle.aas_json_spelling.specs.Spells.{canonical_text}
 use Rattle.aas_json_mapping.specs.Trees.{concepts, elements, shells, submodels}
 use Rattle.aas_reference.specs.Trees.{references}
-use Rattle.aas_command.specs.Commands.{payload_of}
+use Rattle.aas_command.specs.Commands.{IsWellFormed, payload_of}
 use Rattle.aas_command.specs.Encoding.{HasFields}
 use Rattle.aas_command.specs.declared.command.Command.{Command}
 use Rattle.aas_command.specs.declared.command.Command.TheVariants.{CreateShell, CreateSubmodel, CreateConcept, AddReference, InsertElement}
@@ -19,10 +19,11 @@ use Rattle.aas_answer.specs.Answers.{answer_of}
 use Rattle.aas_answer.specs.Plans.{is_planned}
 use Rattle.aas_question.specs.declared.question.Question.{Question}
 use Rattle.aas_api.specs.Asked.{Called, IsAsked}
+use Rattle.aas_api_service.specs.Described.{Described, IsDescribed}
 use Rattle.aas_api_service.specs.Replies.{refusal_reply, reply_too_long}
 use Rattle.aas_api.specs.Submodels.{submodel_of}
 use Rattle.aas_api.specs.declared.ask.Ask.{Ask}
-use Rattle.aas_api.specs.declared.ask.Ask.TheVariants.{Act, Answer}
+use Rattle.aas_api.specs.declared.ask.Ask.TheVariants.{Act, Answer, Describe}
 use Rattle.aas_api.specs.declared.ask.Call.{Call}
 
 -- ---- replies
@@ -64,10 +65,20 @@ abbrev pub CanBeRead : Command → StepResult → Type 0
 CanBeRead c (refused refusal) = ⊤
 CanBeRead c (accepted new) = HasFields c
 
+-- a command comes to
+abbrev pub ActComesTo : Room → Repository Documents → Command → Outcome Documents Reply → Type 0
+ActComesTo room r c outcome = (result : StepResult) × Steps room r c result × CanBeRead c result × (outcome ≡ outcome_of r c result)
+
+-- the command by which metadata is put, which is well formed, comes to; or the reply of the refusal
+abbrev pub DescribedComesTo : Room → Repository Documents → Described → Outcome Documents Reply → Type 0
+DescribedComesTo room r (Err refusal) outcome = outcome ≡ unchanged r (refusal_reply refusal)
+DescribedComesTo room r (Ok c) outcome = IsWellFormed c × ActComesTo room r c outcome
+
 -- what is asked comes to
 unfoldable pub AskComesTo : Room → Repository Documents → Ask → Outcome Documents Reply → Type 0
 AskComesTo room r (Answer q) outcome = outcome ≡ unchanged r (answer_reply q (answer_of r.documents q))
-AskComesTo room r (Act c) outcome = (result : StepResult) × Steps room r c result × CanBeRead c result × (outcome ≡ outcome_of r c result)
+AskComesTo room r (Act c) outcome = ActComesTo room r c outcome
+AskComesTo room r (Describe m) outcome = (command : Described) × IsDescribed r.documents m command × DescribedComesTo room r command outcome
 
 -- why a submodel isn't reached through a shell, if it is asked about through one
 abbrev pub unreached : Documents → Option (List ℕ) → Option (List ℕ) → Cause

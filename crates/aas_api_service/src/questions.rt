@@ -4,6 +4,7 @@ ghost use Rattle.aas_answer.specs.Answers.{answer_of};
 ghost use Rattle.aas_answer.specs.Plans.{is_planned, plan_text};
 ghost use Rattle.aas_http.specs.ReplyText.{phrase};
 ghost use Rattle.aas_session.specs.WholeReply.{IsMeasured, whole_reply};
+ghost use Rattle.aas_step.specs.Valid.{AreValid};
 ghost use Rattle.aas_store.specs.Documents.{Documents};
 ghost use Rattle.aas_api_service.specs.Finished.{IsReply, whole_of};
 ghost use Rattle.aas_api_service.specs.Planned.{HasPlan};
@@ -12,47 +13,42 @@ ghost use Rattle.aas_api_service.specs.Turns.{answer_reply, counted_reply, reply
 
 use crate::refusals::too_long;
 use crate::replies::{open_reply, refuse, told};
-use aas_answer::Plan;
+use aas_answer::{Plan, measure_plan};
 use aas_http::Reply;
 use aas_model::{Many, NoMemory};
-use aas_outside::Keeper;
 use aas_question::Question;
-use aas_repo::Repo;
 use aas_session::{Answer, Stop};
 use aas_store::Store;
 use std::alloc::Global;
 
 /// What a question is answered.
-pub(crate) fn tell<S: Store, K: Keeper>(
+pub(crate) fn tell<S: Store>(
     alloc: Global,
-    repo: &Repo<S, K>,
+    store: &S,
     question: &Question,
 ) -> Result<Answer<Plan>, Stop>
-    requires { repo.now.stopped ≡ false }
-    ensures told { IsReply (answer_reply question.now (answer_of repo.now.documents question.now)) (whole_of repo.now.documents result) }
+    requires { AreValid (S.documents store.now) }
+    ensures told { IsReply (answer_reply question.now (answer_of (S.documents store.now) question.now)) (whole_of (S.documents store.now) result) }
     ensures planned { IfOk result (HasPlan (is_planned question.now)) }
-    ensures measured { IfOk result (IsMeasured (plan_text repo.now.documents)) }
+    ensures measured { IfOk result (IsMeasured (plan_text (S.documents store.now))) }
     ensures phrase { IfOk result (λ answer. IsSome (phrase answer.reply.status)) }
 {
-    match repo.plan(question) {
-        Ok(Some(plan)) => tell_planned(alloc, repo, plan),
-        Ok(None) => whole(told(alloc, repo.ask(question))),
+    match aas_answer::plan(alloc, store, question) {
+        Ok(Some(plan)) => tell_planned(alloc, store, plan),
+        Ok(None) => whole(told(alloc, aas_answer::tell(alloc, store, question))),
         Err(refusal) => whole(refuse(alloc, refusal)),
     }
 }
 
 /// What is answered by a plan, unless that is too long.
-fn tell_planned<S: Store, K: Keeper>(
-    alloc: Global,
-    repo: &Repo<S, K>,
-    plan: Plan,
-) -> Result<Answer<Plan>, Stop>
-    ensures told { IsReply (counted_reply (plan_text repo.now.documents plan)) (whole_of repo.now.documents result) }
+fn tell_planned<S: Store>(alloc: Global, store: &S, plan: Plan) -> Result<Answer<Plan>, Stop>
+    requires { AreValid (S.documents store.now) }
+    ensures told { IsReply (counted_reply (plan_text (S.documents store.now) plan)) (whole_of (S.documents store.now) result) }
     ensures planned { IfOk result (HasPlan true) }
-    ensures measured { IfOk result (IsMeasured (plan_text repo.now.documents)) }
+    ensures measured { IfOk result (IsMeasured (plan_text (S.documents store.now))) }
     ensures phrase { IfOk result (λ answer. IsSome (phrase answer.reply.status)) }
 {
-    match repo.measure(&plan) {
+    match measure_plan(store, &plan) {
         Some(later) => match poured(alloc, plan, later) {
             Ok(answer) => Ok(answer),
             Err(NoMemory) => Err(Stop::NoMemory),

@@ -1,6 +1,6 @@
 // The repository behind its interface.
 ghost use Rattle.std.specs.Prelude.{◌≡◌, ◌≢◌, ◌≤◌, ℕ, List, false, None, Some, Err, IfOk, IsSome, MatchResult};
-ghost use Rattle.aas_api.specs.declared.ask.Ask.TheVariants.{Act};
+ghost use Rattle.aas_api.specs.declared.ask.Ask.TheVariants.{Act, Describe};
 ghost use Rattle.aas_command.specs.Commands.{IsWellFormed};
 ghost use Rattle.aas_http.specs.ReplyText.{phrase};
 ghost use Rattle.aas_outside.specs.Faults.{Rose};
@@ -15,12 +15,13 @@ ghost use Rattle.aas_api.specs.Submodels.{submodel_of};
 ghost use Rattle.aas_api_service.specs.Turns.{AskComesTo, CallComesTo, Turns, unreached};
 ghost use Rattle.aas_api_service.specs.Finished.{whole_of};
 ghost use Rattle.aas_api_service.specs.Planned.{HasPlan, is_planned_ask};
-ghost use Rattle.aas_api_service.specs.WellFormed.{IsWellFormedAsk};
+ghost use Rattle.aas_api_service.specs.WellFormed.{IsWellFormedAsk, IsWellFormedMetadata};
 
+use crate::describing::described;
 use crate::questions::{tell, whole};
 use crate::replies::{finish, refuse, success};
-use aas_answer::Plan;
-use aas_api::{Ask, Call, read_call};
+use aas_answer::{Plan, pour_plan};
+use aas_api::{Ask, Call, Metadata, read_call};
 use aas_command::{Command, Refusal};
 use aas_http::{Reply, Request};
 use aas_model::NoMemory;
@@ -81,7 +82,7 @@ impl<S: Store, K: Keeper> Machine for Service<S, K> {
     }
 
     fn pour<O: Out>(&self, plan: &Plan, out: &mut O) -> Result<(), Failed> {
-        self.repo.pour(plan, out)
+        pour_plan(self.repo.store(), plan, out)
     }
 }
 
@@ -158,7 +159,35 @@ fn answer_ask<S: Store, K: Keeper>(
 {
     match ask {
         Ask::Act { command } => whole(act(alloc, repo, command)),
-        Ask::Answer { question } => tell(alloc, repo, &question),
+        Ask::Answer { question } => tell(alloc, repo.store(), &question),
+        Ask::Describe { metadata } => whole(describe(alloc, repo, metadata)),
+    }
+}
+
+/// Puts metadata in the place of what there is, by a command.
+fn describe<S: Store, K: Keeper>(
+    alloc: Global,
+    repo: &mut Repo<S, K>,
+    metadata: Metadata,
+) -> Result<Reply, Stop>
+    requires open { repo.old.stopped ≡ false }
+    requires well_formed { IsWellFormedMetadata metadata }
+    ensures answered { (records : List (List ℕ)) →
+        IsSettledState K.stands_for (state_of K.kept K.moment K.left_at repo.old) records →
+        Answers (AskComesTo (K.room_behind repo.old.keeper)) K.stands_for
+        (repository_of (state_of K.kept K.moment K.left_at repo.old) records) (Describe metadata)
+        (K.moment repo.old.keeper) (state_of K.kept K.moment K.left_at repo.new) result }
+    ensures reply { IfOk result (λ reply. IsSome (phrase reply.status)) }
+    ensures no_more { IfOk result (λ reply. reply.later ≡ 0) }
+    ensures room { K.room_behind repo.new.keeper ≡ K.room_behind repo.old.keeper }
+    ensures past { PassesTo (state_of K.kept K.moment K.left_at repo.old) (state_of K.kept K.moment K.left_at repo.new) }
+    ensures stopped { result ≢ Err StorageFault → repo.new.stopped ≡ false }
+    ensures later { K.faults repo.old.keeper ≤ K.faults repo.new.keeper }
+    ensures fault { result ≡ Err StorageFault → Rose (K.faults repo.old.keeper) (K.faults repo.new.keeper) }
+{
+    match described(alloc, repo.store(), metadata) {
+        Ok(command) => act(alloc, repo, command),
+        Err(refusal) => refuse(alloc, refusal),
     }
 }
 

@@ -52,13 +52,13 @@ whole_at n left e whole is =
 
 -- ---- the elements of a submodel stand as those of a collection
 
-abbrev IsWholeElement : Element → Type 0
+abbrev pub IsWholeElement : Element → Type 0
 IsWholeElement = IsWholeUnder 30 p.SubmodelElementCollection
 
 abbrev AreElements : List Element → Type 0
 AreElements ks = AreWhole 30 p.SubmodelElementCollection ks
 
-each_element : (ks : List Element) → list_all (is_whole_element limits) ks ≡ true → Each IsWholeElement ks
+pub each_element : (ks : List Element) → list_all (is_whole_element limits) ks ≡ true → Each IsWholeElement ks
 each_element [] whole = tt
 each_element (k ∷ ks) whole =
     let first = and_left (is_whole_element limits k) (list_all (is_whole_element limits) ks) whole in

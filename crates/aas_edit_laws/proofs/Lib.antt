@@ -1,8 +1,8 @@
 pub mod Attributes
 pub mod Edits
 mod Found
-mod OneLevel
+pub mod OneLevel
 pub mod Others
-mod Siblings
+pub mod Siblings
 mod Steps
 mod Walks

@@ -28,17 +28,17 @@ abbrev HasParts : Element → Type 0
 HasParts k = has_whole_parts limits k ≡ true
 
 -- an element's own attributes are whole
-abbrev own : Common → Payload → Bool
+abbrev pub own : Common → Payload → Bool
 own c x = whole_common limits c && whole_payload limits x
 
 -- ---- from an element to its children
 
 -- what a whole element has: whole attributes, and whole children with a level less
-record Within (left : ℕ) (c : Common) (x : Payload) (ks : List Element) : Type 0 where
-  rest : ℕ
-  spent : left ≡ suc rest
-  attributes : own c x ≡ true
-  children : AreWhole rest x ks
+pub record Within (left : ℕ) (c : Common) (x : Payload) (ks : List Element) : Type 0 where
+  pub rest : ℕ
+  pub spent : left ≡ suc rest
+  pub attributes : own c x ≡ true
+  pub children : AreWhole rest x ks
 
 within : (left : ℕ) (c : Common) (x : Payload) (ks : List Element) → own c x ≡ true → AreStanding x ks → Each HasParts ks
     → suc (most (map element_levels ks)) ≤ left → Within left c x ks
@@ -57,7 +57,7 @@ within (suc n) c x ks attributes stand parts low =
       };
     }
 
-down : (left : ℕ) (r : Role) (c : Common) (x : Payload) (ks : List Element) → IsWhole left (made r c x ks) → Within left c x ks
+pub down : (left : ℕ) (r : Role) (c : Common) (x : Payload) (ks : List Element) → IsWhole left (made r c x ks) → Within left c x ks
 down left r c x ks whole =
     let inner : Bool = list_all (λ b. b) (map (has_whole_parts limits) ks) in
     let parts : own c x && inner ≡ true = sym (parts_at limits r c x ks) ∙ whole.parts in
@@ -67,7 +67,7 @@ down left r c x ks whole =
 
 -- ---- and back
 
-up : (left : ℕ) (r : Role) (c : Common) (x : Payload) (ks : List Element) → own c x ≡ true → AreWhole left x ks → IsWhole (suc left) (made r c x ks)
+pub up : (left : ℕ) (r : Role) (c : Common) (x : Payload) (ks : List Element) → own c x ≡ true → AreWhole left x ks → IsWhole (suc left) (made r c x ks)
 up left r c x ks attributes are =
     let Under = IsWholeUnder left x in
     let inner : Bool = list_all (λ b. b) (map (has_whole_parts limits) ks) in

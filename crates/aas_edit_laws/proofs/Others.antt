@@ -27,7 +27,7 @@ kids_there e ks s p =
     let out = out-roll-Element (record (out-Element e) { kids = ks }) in
     ap (λ (y : Element-F Element). element_among (is_list_payload y.payload) s p y.kids) out
 
-kids_named : (e : Element) (ks : List Element) → id_short_of (with_kids e ks) ≡ id_short_of e
+pub kids_named : (e : Element) (ks : List Element) → id_short_of (with_kids e ks) ≡ id_short_of e
 kids_named e ks = ap (λ (y : Element-F Element). y.common.id_short) (out-roll-Element (record (out-Element e) { kids = ks }))
 
 -- the child to which a step leads is as good as changed, where what stands below it is found there again
@@ -162,7 +162,7 @@ module _ (w o : Element) (same_name : id_short_of w ≡ id_short_of o) where
   with_path l [] ks = ks
   with_path l (s ∷ p) ks = with_among l s p ks w
 
-  changed_named : (p : List PathStep) (e : Element) → element_below p e ≡ Some o → id_short_of (with_below p e w) ≡ id_short_of e
+  pub changed_named : (p : List PathStep) (e : Element) → element_below p e ≡ Some o → id_short_of (with_below p e w) ≡ id_short_of e
   unfolding element_below with_below
   changed_named [] e is = let same : o ≡ e = cc in same_name ∙ ap id_short_of same
   changed_named (s ∷ p) e is = kids_named e (with_among (is_list e) s p (kids_of e) w)
@@ -182,7 +182,7 @@ module _ (w o : Element) (same_name : id_short_of w ≡ id_short_of o) where
   changed_kids d [] = refl
   changed_kids d (s ∷ p) = refl
 
-  change_aside : (d : Submodel) (a b c : List PathStep) (s t : PathStep) → element_at d (a ++ s ∷ b) ≡ Some o → s ≢ t
+  pub change_aside : (d : Submodel) (a b c : List PathStep) (s t : PathStep) → element_at d (a ++ s ∷ b) ≡ Some o → s ≢ t
       → element_at (with_element d (a ++ s ∷ b) w) (a ++ t ∷ c) ≡ element_at d (a ++ t ∷ c)
   unfolding changing
   change_aside d a b c s t there apart =
@@ -193,10 +193,10 @@ module _ (w o : Element) (same_name : id_short_of w ≡ id_short_of o) where
       (sym (at_found d (a ++ s ∷ b)) ∙ there) ∙ sym (at_found d (a ++ t ∷ c))
 
   -- and the path leads to what is put there
-  IsThere : List PathStep → Element → Type 0
+  pub IsThere : List PathStep → Element → Type 0
   IsThere p e = element_below p e ≡ Some o → element_below p (with_below p e w) ≡ Some w
 
-  there_among : (l : Bool) (s : PathStep) (p : List PathStep) (ks : List Element) (x : Option Child) → ((e : Element) → IsThere p e) → child_by l s ks ≡ x
+  pub there_among : (l : Bool) (s : PathStep) (p : List PathStep) (ks : List Element) (x : Option Child) → ((e : Element) → IsThere p e) → child_by l s ks ≡ x
       → option_and_then (λ (c : Child). element_below p c.1) x ≡ Some o → element_among l s p (with_child (λ k. with_below p k w) ks x) ≡ Some w
   unfolding IsThere
   there_among l s p ks None below is there = absurd (cc)
@@ -204,7 +204,7 @@ module _ (w o : Element) (same_name : id_short_of w ≡ id_short_of o) where
       by_child l s p (slice_set ks c.0 (with_below p c.1 w))
       ∙ ap (option_and_then (element_below p)) (set_here l s ks c (with_below p c.1 w) is (changed_named p c.1 there)) ∙ below c.1 there
 
-  there_below : (p : List PathStep) (e : Element) → IsThere p e
+  pub there_below : (p : List PathStep) (e : Element) → IsThere p e
   unfolding IsThere element_below with_below
   there_below [] e is = refl
   there_below (s ∷ p) e is =

@@ -1,11 +1,11 @@
 -- Shells, submodels and concept descriptions: what is whole spells what is good, what spells what is good is whole, and what spells the same is the same.
-use Rattle.std.proofs.Common.{◌≡◌, ℕ, ◌&&◌, List, [], ◌∷◌, ◌++◌, true, Some, codes, refl, sym, ◌∙◌, subst}
+use Rattle.std.proofs.Common.{◌≡◌, ℕ, ◌&&◌, List, [], ◌∷◌, ◌++◌, true, Some, codes, refl, sym, ap, ◌∙◌, subst}
 use Rattle.std.proofs.lemmas.Bool.{and_from}
 use Rattle.std.specs.List.{list_all}
 use Rattle.std.proofs.lemmas.Option.{same_Some}
 use Rattle.aas_model_names.specs.ModellingKindNames as modelling_kind
 use Rattle.aas_json_table.specs.Names.{modelling_kinds}
-use Rattle.aas_json_table.specs.Table.{Sort, one, many, word, asset_information, Row, required, optional, valued, shell, submodel, concept, element, reference, referable, identifiable, has_semantics, qualifiable, model_types}
+use Rattle.aas_json_table.specs.Table.{Sort, one, many, word, asset_information, Row, required, optional, valued, shell, submodel, concept, element, submodel_metadata, reference, referable, identifiable, has_semantics, qualifiable, model_types}
 use Rattle.aas_json_table.specs.Rows.{find, sorted, rows_of}
 use Rattle.aas_json_table.specs.TooDeep.{Levels, enter}
 use Rattle.aas_json_table.specs.Canonical.{are_there, members_by}
@@ -23,6 +23,7 @@ use Rattle.aas_json_spelling.proofs.MemberTypes.{EachGood, text_good, named_if_g
 use Rattle.aas_reference.specs.Whole.{is_whole, whole_if_there}
 use Rattle.aas_json_mapping.specs.Documents.{typed, head_attributes, shell_attributes, submodel_attributes, concept_attributes, spell_shell, spell_submodel, spell_concept}
 use Rattle.aas_json_mapping.specs.Elements.{spell_element}
+use Rattle.aas_json_mapping.specs.Metadata.{IsSubmodelMetadata}
 use Rattle.aas_json_mapping.specs.Shape.{IsShaped, IsShapedSubmodel}
 use Rattle.aas_json_mapping.specs.Whole.{whole_kept, whole_extension, whole_administration_if_there, whole_head, whole_semantics, whole_qualifier, whole_asset_information, is_whole_element, is_whole_shell, is_whole_submodel, is_whole_concept}
 use Rattle.aas_json_mapping.proofs.Rows.{good_before, good_with, agree_before, object_made, object_within, same_rows, model_rows, model_rise, found_again}
@@ -267,3 +268,71 @@ same_submodel s t a b e =
     let q = all_same qualifier_facts s.qualifiers t.qualifiers split.1.0 in
     let ks = same_lists_of IsShaped spell_element s.kids t.kids (kids_alone s.kids a) b split.1.1.0 in
     λ i. record { head = h i; kind = k i; semantics = m i; qualifiers = q i; kids = ks i }
+
+-- ---- the metadata form of a Submodel
+
+abbrev pub form_rows : List Row
+form_rows = optional (codes "kind") (word modelling_kinds) ∷ (has_semantics ++ (qualifiable ++ []))
+
+form_model : IsModel submodel_metadata submodel_name (identifiable ++ form_rows)
+form_model = record { first = _; rest = _; models = refl; found = refl }
+
+abbrev bare : Submodel → Submodel
+bare s = record s { kids = [] }
+
+is_bare : (s : Submodel) → IsSubmodelMetadata s → s ≡ bare s
+is_bare s none = λ i. record s { kids = none i }
+
+abbrev form_attributes : Submodel → Attributes
+form_attributes s = head_attributes s.head ++ submodel_attributes (bare s)
+
+-- A submodel without elements has no member that isn't shown.
+pub spell_form : (s : Submodel) → spell_submodel (bare s) ≡ spelled (referable ++ (identifiable ++ form_rows)) (typed submodel_name (form_attributes s))
+spell_form s = refl
+
+bare_good : (l : Levels) (s : Submodel) → is_whole_submodel l s ≡ true → Good l (one submodel_metadata) (Some (spell_submodel (bare s)))
+bare_good l s w =
+    let h = whole_head l s.head in
+    let m = whole_semantics l s.semantics in
+    let q = list_all (whole_qualifier l) s.qualifiers in
+    let three = and_left (h && m && q) (list_all (is_whole_element l) s.kids) w in
+    let two = and_left (h && m) q three in
+    let g = attribute (typed submodel_name (form_attributes s)) in
+    document_good submodel_metadata submodel_name (identifiable ++ form_rows) form_model l (form_attributes s) refl refl
+    (head_good l submodel_name s.head form_rows (submodel_attributes (bare s)) (and_left h m two) (
+      named_if_good l modelling_kind.name_of modelling_kind.all modelling_kind.found s.kind,
+      good_with l has_semantics (qualifiable ++ []) g (semantics_good l s.semantics (and_right h m two)) (all_good qualifier_facts l s.qualifiers (and_right (h && m) q three), tt),
+    ))
+
+bare_back : (l : Levels) (s : Submodel) → Good l (one submodel_metadata) (Some (spell_submodel (bare s))) → is_whole_submodel l (bare s) ≡ true
+bare_back l s good =
+    let inside = document_back submodel_metadata submodel_name (identifiable ++ form_rows) form_model l (form_attributes s) refl good in
+    let head = head_back l submodel_name s.head form_rows (submodel_attributes (bare s)) inside in
+    let g = attribute (typed submodel_name (form_attributes s)) in
+    let semantics = good_before l has_semantics (qualifiable ++ []) g head.1.1 in
+    let h = whole_head l s.head in
+    let m = whole_semantics l s.semantics in
+    let q = list_all (whole_qualifier l) s.qualifiers in
+    and_from (h && m && q) true (and_from (h && m) q (and_from h m head.0 (semantics_back l s.semantics semantics.0)) (all_back qualifier_facts l s.qualifiers semantics.1.0)) refl
+
+same_bare : (s t : Submodel) → spell_submodel (bare s) ≡ spell_submodel (bare t) → bare s ≡ bare t
+same_bare s t e =
+    let agree = same_document submodel_metadata submodel_name (identifiable ++ form_rows) form_model (form_attributes s) (form_attributes t) e in
+    let head = same_head submodel_name s.head t.head form_rows (submodel_attributes (bare s)) (submodel_attributes (bare t)) agree in
+    let split = agree_before has_semantics (qualifiable ++ []) (attribute (typed submodel_name (form_attributes s))) (attribute (typed submodel_name (form_attributes t))) head.1.1 in
+    let h = head.0 in
+    let k = same_words_if modelling_kind.name_of modelling_kind.all modelling_kind.found s.kind t.kind head.1.0 in
+    let m = same_semantics s.semantics t.semantics split.0 in
+    let q = all_same qualifier_facts s.qualifiers t.qualifiers split.1.0 in
+    λ i. record { head = h i; kind = k i; semantics = m i; qualifiers = q i; kids = [] }
+
+pub form_good : (l : Levels) (s : Submodel) → IsSubmodelMetadata s → is_whole_submodel l s ≡ true → Good l (one submodel_metadata) (Some (spell_submodel s))
+form_good l s none w = subst (λ d. Good l (one submodel_metadata) (Some (spell_submodel d))) (sym (is_bare s none)) (bare_good l s w)
+
+pub form_back : (l : Levels) (s : Submodel) → IsSubmodelMetadata s → Good l (one submodel_metadata) (Some (spell_submodel s)) → is_whole_submodel l s ≡ true
+form_back l s none good =
+    subst (λ d. is_whole_submodel l d ≡ true) (sym (is_bare s none)) (bare_back l s (subst (λ d. Good l (one submodel_metadata) (Some (spell_submodel d))) (is_bare s none) good))
+
+pub same_forms : (s t : Submodel) → IsSubmodelMetadata s → IsSubmodelMetadata t → spell_submodel s ≡ spell_submodel t → s ≡ t
+same_forms s t a b e =
+    is_bare s a ∙ same_bare s t (ap spell_submodel (sym (is_bare s a)) ∙ e ∙ ap spell_submodel (is_bare t b)) ∙ sym (is_bare t b)

@@ -1,9 +1,9 @@
 -- What a value says as a document is spelled by one.
-use Rattle.std.proofs.Common.{◌≡◌, ℕ, ◌&&◌, List, [], ◌∷◌, ◌++◌, map, true, Option, Some, is_some, codes, refl, ap, ◌∙◌}
+use Rattle.std.proofs.Common.{◌≡◌, ℕ, ◌&&◌, List, [], ◌∷◌, ◌++◌, map, true, Option, Some, is_some, codes, refl, sym, ap, ◌∙◌}
 use Rattle.serde_json.specs.Data.{Data, string, object, no_items, item, Members}
 use Rattle.aas_model_names.specs.ModellingKindNames as modelling_kind
 use Rattle.aas_json_table.specs.Names.{modelling_kinds}
-use Rattle.aas_json_table.specs.Table.{Sort, reference, lang_text, extension, qualifier, administration, asset_information, environment, shell, submodel, concept, element, MemberType, text, word, one, many, kept, Row, parts, referable, identifiable, has_semantics, qualifiable, model_types}
+use Rattle.aas_json_table.specs.Table.{Sort, reference, lang_text, extension, qualifier, administration, asset_information, environment, shell, submodel, concept, element, submodel_metadata, MemberType, text, word, one, many, kept, Row, parts, referable, identifiable, has_semantics, qualifiable, model_types}
 use Rattle.aas_json_table.specs.Canonical.{canonical, canonical_member, are_there, listed}
 use Rattle.aas_json_table.specs.Spelled.{Attributes, attribute, text_of, list_of, onto}
 use Rattle.aas_model.specs.declared.reference.Reference.{Reference}
@@ -26,19 +26,24 @@ use Rattle.aas_reference.specs.Spelling.{spell_reference}
 use Rattle.aas_reference.proofs.Exists.{some_reference}
 use Rattle.aas_json_mapping.specs.Documents.{typed, head_attributes, shell_attributes, submodel_attributes, concept_attributes, spell_shell, spell_submodel, spell_concept, spell_environment}
 use Rattle.aas_json_mapping.specs.Elements.{spell_element}
+use Rattle.aas_json_mapping.specs.Metadata.{IsSubmodelMetadata}
 use Rattle.aas_json_mapping.specs.Parts.{spell_lang_text, spell_extension, spell_qualifier, spell_administration, spell_asset_information}
 use Rattle.aas_json_mapping.specs.Shape.{IsShaped, IsShapedSubmodel, IsShapedEnvironment}
 use Rattle.aas_json_mapping.proofs.Rows.{Made, object_of, models_tree, agree_with}
 use Rattle.aas_json_mapping.proofs.PartsFound.{semantics_found, some_lang_text, some_extension, some_qualifier, some_administration, some_asset_information}
 use Rattle.aas_json_mapping.proofs.Referable.{FoundReferable, referable_found}
 use Rattle.aas_json_mapping.proofs.ElementsLaws.{Shaped, shaped_element}
-use Rattle.aas_json_mapping.proofs.Documents.{shell_name, shell_rows, concept_name, concept_rows, submodel_name, submodel_rows, kids_row}
+use Rattle.aas_json_mapping.proofs.Documents.{shell_name, shell_rows, concept_name, concept_rows, submodel_name, submodel_rows, kids_row, form_rows, spell_form}
 use Rattle.aas_json_mapping.proofs.Environments.{environment_attributes}
 
 -- ---- the trees of the sorts that documents are made of; those of other sorts don't matter here
 
 abbrev pub ShapedSubmodel : Type 0
 ShapedSubmodel = (s : Submodel) × IsShapedSubmodel s
+
+-- a metadata form of a submodel
+abbrev pub SubmodelForm : Type 0
+SubmodelForm = (s : Submodel) × IsSubmodelMetadata s
 
 abbrev pub ShapedEnvironment : Type 0
 ShapedEnvironment = (e : Environment) × IsShapedEnvironment e
@@ -55,6 +60,7 @@ Tree shell = Shell
 Tree submodel = ShapedSubmodel
 Tree concept = Concept
 Tree environment = ShapedEnvironment
+Tree submodel_metadata = SubmodelForm
 Tree s = Data
 
 abbrev spell_shaped : Shaped → Data
@@ -65,6 +71,9 @@ spell_shaped_submodel t = spell_submodel t.0
 
 abbrev spell_shaped_environment : ShapedEnvironment → Data
 spell_shaped_environment t = spell_environment t.0
+
+abbrev spell_submodel_form : SubmodelForm → Data
+spell_submodel_form t = spell_submodel t.0
 
 abbrev spell : (s : Sort) → Tree s → Data
 spell reference t = spell_reference t
@@ -78,6 +87,7 @@ spell shell t = spell_shell t
 spell submodel t = spell_shaped_submodel t
 spell concept t = spell_concept t
 spell environment t = spell_shaped_environment t
+spell submodel_metadata t = spell_submodel_form t
 spell s t = t
 
 abbrev kinds : Kinds
@@ -179,6 +189,21 @@ submodel_made g each model e =
       spells = refl;
     }
 
+form_made : (g : List ℕ → MemberType → Option Data) → Gives kinds g → g (codes "modelType") text ≡ Some (string submodel_name) → are_there (referable ++ (identifiable ++ form_rows)) g ≡ true
+    → Made spell_submodel_form (referable ++ (identifiable ++ form_rows)) g
+form_made g each model e =
+    let h = head_found g each submodel_name model (id_there g form_rows e).0 in
+    let k = named_if modelling_kind.name_of modelling_kind.all (g (codes "kind") (word modelling_kinds)) (each (codes "kind") (word modelling_kinds)) in
+    let m = semantics_found g (each (codes "semanticId") (one reference)) (each (codes "supplementalSemanticIds") (many reference)) in
+    let q = each (codes "qualifiers") (many qualifier) in
+    let s : Submodel = record { head = h.head; kind = k.0; semantics = m.0; qualifiers = q.0; kids = [] } in
+    let own = attribute (typed submodel_name (head_attributes s.head ++ submodel_attributes s)) in record {
+      tree = (s, refl);
+      attributes = typed submodel_name (head_attributes s.head ++ submodel_attributes s);
+      agree = h.agree form_rows (submodel_attributes s) (k.1, agree_with has_semantics (qualifiable ++ []) g own m.1 (q.1, tt));
+      spells = sym (spell_form s);
+    }
+
 environment_made : (g : List ℕ → MemberType → Option Data) → Gives kinds g → are_there (parts environment) g ≡ true → Made spell_shaped_environment (parts environment) g
 environment_made g each e =
     let a = each (codes "assetAdministrationShells") (many shell) in
@@ -205,6 +230,11 @@ submodel_tree ms each =
     models_tree spell_shaped_submodel submodel ms (model_types submodel) refl refl
     ((λ model. object_of spell_shaped_submodel (referable ++ (identifiable ++ submodel_rows)) (canonical_member ms) (submodel_made (canonical_member ms) each model)), tt)
 
+form_tree : (ms : Members) → Gives kinds (canonical_member ms) → IsSpelled spell_submodel_form (canonical (one submodel_metadata) (object ms))
+form_tree ms each =
+    models_tree spell_submodel_form submodel_metadata ms (model_types submodel_metadata) refl refl
+    ((λ model. object_of spell_submodel_form (referable ++ (identifiable ++ form_rows)) (canonical_member ms) (form_made (canonical_member ms) each model)), tt)
+
 builds : (s : Sort) (ms : Members) → HasTexts ms → Gives kinds (canonical_member ms) → IsTree kinds (one s) (canonical (one s) (object ms))
 builds reference ms u each = some_reference (object ms) u
 builds lang_text ms u each = some_lang_text (object ms) u
@@ -217,6 +247,7 @@ builds shell ms u each = shell_tree ms each
 builds submodel ms u each = submodel_tree ms each
 builds concept ms u each = concept_tree ms each
 builds environment ms u each = part_tree spell_shaped_environment environment ms refl (object_of spell_shaped_environment (parts environment) (canonical_member ms) (environment_made (canonical_member ms) each))
+builds submodel_metadata ms u each = form_tree ms each
 builds s ms u each = as_itself (canonical (one s) (object ms))
 
 pub some_shell : (j : Data) → IsText j → IsSpelled spell_shell (canonical (one shell) j)
@@ -227,6 +258,9 @@ some_concept j u = tree kinds builds j (one concept) u
 
 pub some_submodel : (j : Data) → IsText j → IsSpelled (λ (t : ShapedSubmodel). spell_submodel t.0) (canonical (one submodel) j)
 some_submodel j u = tree kinds builds j (one submodel) u
+
+pub some_submodel_form : (j : Data) → IsText j → IsSpelled (λ (t : SubmodelForm). spell_submodel t.0) (canonical (one submodel_metadata) j)
+some_submodel_form j u = tree kinds builds j (one submodel_metadata) u
 
 pub some_environment : (j : Data) → IsText j → IsSpelled (λ (t : ShapedEnvironment). spell_environment t.0) (canonical (one environment) j)
 some_environment j u = tree kinds builds j (one environment) u

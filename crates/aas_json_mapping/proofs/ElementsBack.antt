@@ -3,7 +3,7 @@ use Rattle.std.proofs.Common.{◌≡◌, ℕ, suc, ◌≤◌, ◌&&◌, List, []
 use Rattle.std.proofs.lemmas.Bool.{and_from}
 use Rattle.std.specs.List.{list_all}
 use Rattle.serde_json.specs.Data.{Data}
-use Rattle.aas_json_table.specs.Table.{element, data_element, one, reference, referable, has_semantics, qualifiable}
+use Rattle.aas_json_table.specs.Table.{element, data_element, one, reference, Row, referable, has_semantics, qualifiable}
 use Rattle.aas_json_table.specs.TooDeep.{Levels}
 use Rattle.aas_json_table.specs.Canonical.{are_there}
 use Rattle.aas_json_table.specs.Spelled.{attribute}
@@ -108,11 +108,13 @@ kids_back l x (k ∷ ks) h s good =
     let rest = kids_back l x ks h.1 s.1 good.1 in
     ((first.0, rest.0), (first.1, rest.1))
 
-common_back : (l : Levels) (c : Common) (x : Payload) (ks : List Element) → AreGood l (all_rows x) (attribute (attributes_at c x ks)) → (whole_common l c ≡ true) × AreGood l (own_rows x) (attribute (attributes_at c x ks))
-common_back l c x ks good =
+-- whatever rows an element has of its own
+pub common_back : (l : Levels) (c : Common) (x : Payload) (ks : List Element) (rows : List Row) → AreGood l (referable ++ (has_semantics ++ (qualifiable ++ rows))) (attribute (attributes_at c x ks))
+    → (whole_common l c ≡ true) × AreGood l rows (attribute (attributes_at c x ks))
+common_back l c x ks rows good =
     let g = attribute (attributes_at c x ks) in
-    let first = good_before l referable (has_semantics ++ (qualifiable ++ own_rows x)) g good in
-    let second = good_before l has_semantics (qualifiable ++ own_rows x) g first.1 in
+    let first = good_before l referable (has_semantics ++ (qualifiable ++ rows)) g good in
+    let second = good_before l has_semantics (qualifiable ++ rows) g first.1 in
     let head = referable_back l (model_type_of x) (referable_of c) first.0 in
     let e = list_all (whole_extension l) c.extensions in
     let k = whole_kept l c.embedded_data_specifications in
@@ -127,7 +129,7 @@ level_back : (l : Levels) (m : ℕ) (c : Common) (x : Payload) (ks : List Elemen
     → (whole_common l c && whole_payload l x && list_all (λ b. b) (map (has_whole_parts l) ks) ≡ true) × (suc (most (map element_levels ks)) ≤ l.elements)
 level_back l m c x ks h s spent there good =
     let inner : Levels = record l { elements = m } in
-    let common = common_back inner c x ks good in
+    let common = common_back inner c x ks (own_rows x) good in
     let own = own_back inner c x ks s there common.1 in
     let kids = kids_back inner x ks h s.each own.1 in
     let low = most_from_each element_levels m ks kids.1 in (

@@ -53,7 +53,7 @@ pub record WholeCommon (l : Levels) (c : Common) : Type 0 where
   pub semantics : whole_semantics l c.semantics ≡ true
   pub qualifiers : list_all (whole_qualifier l) c.qualifiers ≡ true
 
-whole_parts : (l : Levels) (c : Common) → whole_common l c ≡ true → WholeCommon l c
+pub whole_parts : (l : Levels) (c : Common) → whole_common l c ≡ true → WholeCommon l c
 whole_parts l c w =
     let e = list_all (whole_extension l) c.extensions in
     let k = whole_kept l c.embedded_data_specifications in

@@ -8,7 +8,7 @@ use Rattle.aas_model_names.specs.ElementNameNames as element_name
 use Rattle.aas_model_names.specs.EntityTypeNames as entity_type
 use Rattle.aas_model_names.specs.StateOfEventNames as state_of_event
 use Rattle.aas_model_names.specs.ValueTypeNames as value_type
-use Rattle.aas_json_table.specs.Table.{referable, has_semantics, qualifiable, kinds}
+use Rattle.aas_json_table.specs.Table.{Row, referable, has_semantics, qualifiable, kinds}
 use Rattle.aas_json_table.specs.Rows.{find}
 use Rattle.aas_json_table.specs.Spelled.{attribute, spelled}
 use Rattle.aas_model.specs.declared.common.Common.{Common}
@@ -64,7 +64,7 @@ AreSame x y ks js = (x ≡ y) × (ks ≡ js)
 none_same : (x y : Payload) → ((c : Placed) → admits x c ≡ false) → ((c : Placed) → admits y c ≡ false) → (ks js : List Element) → AreStanding x ks → AreStanding y js → ks ≡ js
 none_same x y a b ks js s r = no_kids x a ks s.each ∙ sym (no_kids y b js r.each)
 
-other_kind : (a b : List ℕ) → bytes_eq a b ≡ false → a ≡ b → ⊥
+pub other_kind : (a b : List ℕ) → bytes_eq a b ≡ false → a ≡ b → ⊥
 other_kind a b d e = true≢false (sym ((bytes_eq-Decides a b).1 e) ∙ d)
 
 same_operation : (c d : Common) (ks js : List Element) → Each IsAlone ks → AreStanding p.Operation ks → AreStanding p.Operation js
@@ -163,13 +163,14 @@ same_name c d x y ks js e =
 rows_same : (x y : Payload) → model_type_of x ≡ model_type_of y → all_rows x ≡ all_rows y
 rows_same x y e = ap (λ n. referable ++ (has_semantics ++ (qualifiable ++ unwrap_or (find n kinds) []))) e
 
-same_common : (c d : Common) (x y : Payload) (ks js : List Element) → Agree (all_rows x) (attribute (attributes_at c x ks)) (attribute (attributes_at d y js))
-    → (c ≡ d) × Agree (own_rows x) (attribute (attributes_at c x ks)) (attribute (attributes_at d y js))
-same_common c d x y ks js agree =
+-- whatever rows an element has of its own
+pub same_common : (c d : Common) (x y : Payload) (ks js : List Element) (rows : List Row) → Agree (referable ++ (has_semantics ++ (qualifiable ++ rows))) (attribute (attributes_at c x ks)) (attribute (attributes_at d y js))
+    → (c ≡ d) × Agree rows (attribute (attributes_at c x ks)) (attribute (attributes_at d y js))
+same_common c d x y ks js rows agree =
     let g = attribute (attributes_at c x ks) in
     let h = attribute (attributes_at d y js) in
-    let first = agree_before referable (has_semantics ++ (qualifiable ++ own_rows x)) g h agree in
-    let second = agree_before has_semantics (qualifiable ++ own_rows x) g h first.1 in
+    let first = agree_before referable (has_semantics ++ (qualifiable ++ rows)) g h agree in
+    let second = agree_before has_semantics (qualifiable ++ rows) g h first.1 in
     let head = (same_referable (model_type_of x) (model_type_of y) (referable_of c) (referable_of d) first.0).1 in
     let s = same_semantics c.semantics d.semantics second.0 in
     let q = all_same qualifier_facts c.qualifiers d.qualifiers second.1.0 in (
@@ -191,7 +192,7 @@ same_level : (r q : Role) (c d : Common) (x y : Payload) (ks js : List Element) 
 same_level r q c d x y ks js h s t roles e =
     let name = same_name c d x y ks js e in
     let agree = same_rows (all_rows x) (attributes_at c x ks) (attributes_at d y js) (rows_rise x) (e ∙ ap (λ rows. spelled rows (attributes_at d y js)) (sym (rows_same x y name))) in
-    let common = same_common c d x y ks js agree in
+    let common = same_common c d x y ks js (own_rows x) agree in
     let own = same_own c d x y ks js h s t name common.1 in
     let cs = common.0 in
     let xs = own.0 in

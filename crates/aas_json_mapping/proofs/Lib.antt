@@ -11,6 +11,9 @@ pub mod ElementsSame
 pub mod Environments
 pub mod Facts
 pub mod Kids
+pub mod Metadata
+pub mod MetadataFound
+pub mod MetadataLaws
 pub mod Parts
 pub mod PartsFound
 pub mod PartsLaws

@@ -3,6 +3,7 @@
 // and each value spells one tree, has a mapping fault, or lies too deep.
 
 ghost use Rattle.aas_json_spelling.specs.Mapped.{IsMapped, AnyShape};
+ghost use Rattle.aas_json_mapping.specs.Metadata.{IsMetadata, IsSubmodelMetadata, metadata_forms, submodel_metadata_forms};
 ghost use Rattle.aas_json_mapping.specs.Shape.{IsShaped, IsShapedSubmodel, IsShapedEnvironment};
 ghost use Rattle.aas_json_mapping.specs.Trees.{specific_asset_ids, asset_informations, elements, shells, submodels, concepts, environments};
 
@@ -39,4 +40,14 @@ pub fn concept_descriptions_are_mapped()
 /// Environments (class Environment) whose elements stand where they may.
 pub fn environments_are_mapped()
     ensures { IsMapped environments IsShapedEnvironment }
+{}
+
+/// Metadata forms of elements (IDTA-01002-3-0, content modifier Metadata).
+pub fn metadata_forms_are_mapped()
+    ensures { IsMapped metadata_forms IsMetadata }
+{}
+
+/// Metadata forms of submodels.
+pub fn submodel_metadata_forms_are_mapped()
+    ensures { IsMapped submodel_metadata_forms IsSubmodelMetadata }
 {}

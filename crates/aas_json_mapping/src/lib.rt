@@ -10,6 +10,6 @@ mod laws;
 
 pub use laws::{
     asset_information_is_mapped, concept_descriptions_are_mapped, elements_are_mapped,
-    environments_are_mapped, shells_are_mapped, specific_asset_ids_are_mapped,
-    submodels_are_mapped,
+    environments_are_mapped, metadata_forms_are_mapped, shells_are_mapped,
+    specific_asset_ids_are_mapped, submodel_metadata_forms_are_mapped, submodels_are_mapped,
 };

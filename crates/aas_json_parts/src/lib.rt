@@ -11,8 +11,31 @@ mod semantics;
 mod sorts;
 mod write;
 
+ghost use Rattle.serde_json.specs.View.{view};
+ghost use Rattle.aas_json_table.specs.TooDeep.{limits};
+ghost use Rattle.aas_json_spelling.specs.Reads.{Reads, ReadsEach};
+ghost use Rattle.aas_json_mapping.specs.Trees.{specific_asset_ids};
+
+use aas_json_input::read_part;
+use aas_json_table::table::Sort;
+use aas_json_table::too_deep::Levels;
+use aas_model::{ReadFault, SpecificAssetId};
 pub use semantics::semantics_in;
+use serde_json::Value;
 pub use sorts::{
     Administrations, AssetInformations, Extensions, LangTexts, Qualifiers, Resources,
     SpecificAssetIds,
 };
+use std::alloc::Global;
+
+/// The specific asset identifier that a JSON value spells.
+///
+/// # Errors
+///
+/// The first fault of the value by the attribute table, or the first place that lies too deep; or want of memory.
+pub fn read_specific(alloc: Global, value: &Value) -> Result<SpecificAssetId, ReadFault>
+    ensures reads { Reads specific_asset_ids limits result (view value.now) }
+    ensures each { ReadsEach specific_asset_ids limits result (view value.now) }
+{
+    read_part::<SpecificAssetIds>(alloc, Sort::SpecificAssetId, value, Levels::LIMITS)
+}

@@ -23,7 +23,7 @@ use Rattle.aas_json_read.proofs.Rows.{Found, found_says, says_found}
 -- ---- an element with all that its kind demands
 
 -- the members of every element, before those of a kind's own
-with_common : (find : List ℕ → MemberType → Option Data) (c : Common) (x : Payload) (kids : List Child) (rows : List Row) → FindsCommon find c → Some (string (model_type_of x)) ≡ find (codes "modelType") text
+pub with_common : (find : List ℕ → MemberType → Option Data) (c : Common) (x : Payload) (kids : List Child) (rows : List Row) → FindsCommon find c → Some (string (model_type_of x)) ≡ find (codes "modelType") text
     → Found rows (element_attributes c x kids) find → Found (referable ++ (has_semantics ++ (qualifiable ++ rows))) (element_attributes c x kids) find
 with_common find c x kids rows f name own = record {
   agree = (f.category, (f.description, (f.display_name, (f.extensions, (f.id_short, (name, (f.specifications, (f.semantics.semantic_id, (f.semantics.supplemental, (f.qualifiers, own.agree))))))))));

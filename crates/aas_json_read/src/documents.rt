@@ -4,9 +4,10 @@ ghost use Rattle.serde_json.specs.View.{view, items_view, members_view};
 ghost use Rattle.aas_json_table.specs.Canonical.{canonical, canonical_items, canonical_member, canonical_object};
 ghost use Rattle.aas_json_table.specs.Rows.{rows_of, sorted};
 ghost use Rattle.aas_json_table.specs.Spelled.{list_of, onto};
-ghost use Rattle.aas_json_table.specs.Table.{one, many, parts, text, environment, shell, submodel, concept};
+ghost use Rattle.aas_json_table.specs.Table.{one, many, parts, text, environment, shell, submodel, concept, submodel_metadata};
 ghost use Rattle.aas_json_spelling.specs.Lists.{Each};
 ghost use Rattle.aas_json_mapping.specs.Documents.{spell_environment, spell_shell, spell_submodel, spell_concept};
+ghost use Rattle.aas_json_mapping.specs.Metadata.{IsSubmodelMetadata};
 ghost use Rattle.aas_json_mapping.specs.Shape.{IsShapedSubmodel, IsShapedEnvironment};
 
 use crate::common::head_in;
@@ -112,6 +113,39 @@ fn submodel_in(alloc: Global, members: &Map<String, Value>) -> Result<Option<Sub
         semantics: semantics_in(alloc, members)?,
         qualifiers: list_member::<Qualifiers>(alloc, members, name::QUALIFIERS)?,
         kids: members_in(alloc, members, name::SUBMODEL_ELEMENTS)?,
+    }))
+}
+
+/// The metadata form of a submodel that a value spells, or `None` where the value lacks what the table demands.
+pub(crate) fn submodel_form_of(alloc: Global, value: &Value) -> Result<Option<Submodel>, NoMemory>
+    ensures says { IfOk result (λ found. option_map spell_submodel found ≡ canonical (one submodel_metadata) (view value.now)) }
+    ensures shape { IfOk result (λ found. IfSome found IsSubmodelMetadata) }
+{
+    match value {
+        Value::Object(members) => Ok(submodel_form_in(alloc, members)?),
+        _ => Ok(None),
+    }
+}
+
+fn submodel_form_in(
+    alloc: Global,
+    members: &Map<String, Value>,
+) -> Result<Option<Submodel>, NoMemory>
+    ensures says { IfOk result (λ found. option_map spell_submodel found ≡ canonical_object (rows_of submodel_metadata (members_view members.now.entries)) (canonical_member (members_view members.now.entries))) }
+    ensures shape { IfOk result (λ found. IfSome found IsSubmodelMetadata) }
+{
+    if !has_model_type(members, "Submodel") {
+        return Ok(None);
+    }
+    let Some(head) = head_in(alloc, members)? else {
+        return Ok(None);
+    };
+    Ok(Some(Submodel {
+        head,
+        kind: word_member(members, name::KIND),
+        semantics: semantics_in(alloc, members)?,
+        qualifiers: list_member::<Qualifiers>(alloc, members, name::QUALIFIERS)?,
+        kids: Many::new(alloc),
     }))
 }
 

@@ -208,7 +208,7 @@ pub(crate) fn members_in(
 }
 
 /// The kind that `modelType` names, where an element of the kind may have the role.
-fn kind_in(members: &Map<String, Value>, role: Role) -> Option<Kind>
+pub(crate) fn kind_in(members: &Map<String, Value>, role: Role) -> Option<Kind>
     ensures rows { option_map (λ k. sorted (rows_for (name_of k))) result ≡ rows_of (elements_under role) (members_view members.now.entries) }
     ensures name { IfSome result (λ k. Some (string (name_of k)) ≡ canonical_member (members_view members.now.entries) (codes "modelType") text) }
     ensures may_have { IfSome result (λ k. may_have k role ≡ true) }

@@ -11,26 +11,24 @@ mod common;
 mod documents;
 mod elements;
 mod found;
+mod metadata;
 mod payload;
 mod read;
 mod sorts;
 
 ghost use Rattle.std.specs.Prelude.{◌-◌};
-ghost use Rattle.serde_json.specs.View.{view};
 ghost use Rattle.aas_json_table.specs.TooDeep.{limits};
-ghost use Rattle.aas_json_spelling.specs.Reads.{Reads, ReadsEach, ReadsBytes, ReadsEachOfBytes};
-ghost use Rattle.aas_json_mapping.specs.Trees.{asset_informations, concepts, elements, environments, shells, specific_asset_ids, submodels};
+ghost use Rattle.aas_json_spelling.specs.Reads.{ReadsBytes, ReadsEachOfBytes};
+ghost use Rattle.aas_json_mapping.specs.Metadata.{metadata_forms, submodel_metadata_forms};
+ghost use Rattle.aas_json_mapping.specs.Trees.{asset_informations, concepts, elements, environments, shells, submodels};
 
 use crate::read::read_shaped;
-use crate::sorts::{Concepts, Elements, Environments, Shells, Submodels};
-use aas_json_input::{read_bytes, read_part};
-use aas_json_parts::{AssetInformations, SpecificAssetIds};
+use crate::sorts::{Concepts, Elements, Environments, Forms, Shells, SubmodelForms, Submodels};
+use aas_json_input::read_bytes;
+use aas_json_parts::AssetInformations;
 use aas_json_table::table::Sort;
 use aas_json_table::too_deep::Levels;
-use aas_model::{
-    AssetInformation, Concept, Element, Environment, ReadFault, Shell, SpecificAssetId, Submodel,
-};
-use serde_json::Value;
+use aas_model::{AssetInformation, Concept, Element, Environment, ReadFault, Shell, Submodel};
 use std::alloc::Global;
 
 /// The submodel that the bytes spell as a JSON text.
@@ -73,6 +71,24 @@ pub fn read_element(alloc: Global, bytes: &[u8], level: u32) -> Result<Element, 
     read_shaped::<Elements>(alloc, Sort::Element, bytes, Levels::at_level(level))
 }
 
+/// The metadata form of an element that the bytes spell as a JSON text (IDTA-01002-3-0, content modifier Metadata): an element
+/// without values and children. Errors are those of [`read_submodel`], by the attribute table without the members of class V.
+pub fn read_metadata(alloc: Global, bytes: &[u8]) -> Result<Element, ReadFault>
+    ensures reads { ReadsBytes metadata_forms limits result bytes.now }
+    ensures each { ReadsEachOfBytes metadata_forms limits result bytes.now }
+{
+    read_shaped::<Forms>(alloc, Sort::ElementMetadata, bytes, Levels::LIMITS)
+}
+
+/// The metadata form of a submodel that the bytes spell as a JSON text: a submodel without elements. Errors are those of
+/// [`read_metadata`].
+pub fn read_metadata_of(alloc: Global, bytes: &[u8]) -> Result<Submodel, ReadFault>
+    ensures reads { ReadsBytes submodel_metadata_forms limits result bytes.now }
+    ensures each { ReadsEachOfBytes submodel_metadata_forms limits result bytes.now }
+{
+    read_shaped::<SubmodelForms>(alloc, Sort::SubmodelMetadata, bytes, Levels::LIMITS)
+}
+
 /// The asset information that the bytes spell as a JSON text. Errors are those of [`read_submodel`].
 pub fn read_asset_information(alloc: Global, bytes: &[u8]) -> Result<AssetInformation, ReadFault>
     ensures reads { ReadsBytes asset_informations limits result bytes.now }
@@ -88,12 +104,4 @@ pub fn read_environment(alloc: Global, bytes: &[u8]) -> Result<Environment, Read
     ensures each { ReadsEachOfBytes environments limits result bytes.now }
 {
     read_shaped::<Environments>(alloc, Sort::Environment, bytes, Levels::LIMITS)
-}
-
-/// The specific asset identifier that a JSON value spells. Errors are those of [`read_submodel`], but for `NotJson`.
-pub fn read_specific(alloc: Global, value: &Value) -> Result<SpecificAssetId, ReadFault>
-    ensures reads { Reads specific_asset_ids limits result (view value.now) }
-    ensures each { ReadsEach specific_asset_ids limits result (view value.now) }
-{
-    read_part::<SpecificAssetIds>(alloc, Sort::SpecificAssetId, value, Levels::LIMITS)
 }

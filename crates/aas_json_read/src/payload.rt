@@ -196,7 +196,10 @@ fn event_in(alloc: Global, members: &Map<String, Value>) -> Result<Option<Payloa
     }))
 }
 
-fn element_list_in(alloc: Global, members: &Map<String, Value>) -> Result<Option<Payload>, NoMemory>
+pub(crate) fn element_list_in(
+    alloc: Global,
+    members: &Map<String, Value>,
+) -> Result<Option<Payload>, NoMemory>
     ensures says { IfOk result (λ found. option_map spell_own found ≡ canonical_own Kind.SubmodelElementList (canonical_member (members_view members.now.entries))) }
     ensures kind { IfOk result (λ found. IfSome found (λ p. kind_of p ≡ Kind.SubmodelElementList)) }
 {

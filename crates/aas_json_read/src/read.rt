@@ -3,16 +3,18 @@ ghost use Rattle.serde_json.specs.Data.{Data};
 ghost use Rattle.serde_json.specs.View.{view};
 ghost use Rattle.aas_json_table.specs.Canonical.{canonical};
 ghost use Rattle.aas_json_table.specs.Seen.{sort_of, levels_of};
-ghost use Rattle.aas_json_table.specs.Table.{Sort, one, element, environment, submodel};
+ghost use Rattle.aas_json_table.specs.Table.{Sort, one, element, element_metadata, environment, submodel, submodel_metadata};
 ghost use Rattle.aas_json_spelling.specs.Reads.{Reads, ReadsBytes};
 ghost use Rattle.aas_json_mapping.specs.Documents.{spell_environment, spell_submodel};
 ghost use Rattle.aas_json_mapping.specs.Elements.{spell_element};
+ghost use Rattle.aas_json_mapping.specs.Metadata.{IsMetadata, IsSubmodelMetadata};
 ghost use Rattle.aas_json_mapping.specs.Shape.{IsShaped, IsShapedEnvironment, IsShapedSubmodel};
 ghost use Rattle.aas_json_read.specs.Shaped.{shaped};
 
-use crate::documents::{environment_of, submodel_of};
+use crate::documents::{environment_of, submodel_form_of, submodel_of};
 use crate::elements::element_of;
-use crate::sorts::{Elements, Environments, Submodels};
+use crate::metadata::form_of;
+use crate::sorts::{Elements, Environments, Forms, SubmodelForms, Submodels};
 use aas_json_input::{check_value, read_value};
 use aas_json_table::table::Sort;
 use aas_json_table::too_deep::Levels;
@@ -76,6 +78,34 @@ impl Shaped for Environments {
 
     fn tree(alloc: Global, value: &Value) -> Result<Option<Environment>, NoMemory> {
         environment_of(alloc, value)
+    }
+}
+
+impl Shaped for Forms {
+    type Tree = Element;
+
+    ghost sort = { element_metadata };
+
+    ghost spell = { spell_element };
+
+    ghost is_shaped = { IsMetadata };
+
+    fn tree(alloc: Global, value: &Value) -> Result<Option<Element>, NoMemory> {
+        form_of(alloc, value)
+    }
+}
+
+impl Shaped for SubmodelForms {
+    type Tree = Submodel;
+
+    ghost sort = { submodel_metadata };
+
+    ghost spell = { spell_submodel };
+
+    ghost is_shaped = { IsSubmodelMetadata };
+
+    fn tree(alloc: Global, value: &Value) -> Result<Option<Submodel>, NoMemory> {
+        submodel_form_of(alloc, value)
     }
 }
 

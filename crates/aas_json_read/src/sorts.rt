@@ -12,3 +12,9 @@ pub struct Concepts;
 
 /// Environments, as they are read.
 pub struct Environments;
+
+/// Metadata forms of elements, as they are read.
+pub struct Forms;
+
+/// Metadata forms of submodels, as they are read.
+pub struct SubmodelForms;

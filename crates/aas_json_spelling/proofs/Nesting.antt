@@ -1,7 +1,7 @@
 -- What fits has no number, and what besides is not too deep nests as deep as a reader of JSON allows.
 use Rattle.std.proofs.Common.{◌≡◌, ℕ, zero, suc, ◌+◌, ◌*◌, ◌≤◌, nat_le, ◌&&◌, List, [], ◌∷◌, Bool, true, false, Option, Some, None, option_map, refl, sym, ap, ◌∙◌, subst, arith, bytes_eq, if◌then◌else◌, leb-true}
 use Rattle.serde_json.specs.Data.{Data, null, boolean, number, string, array, object, Items, no_items, item, Members, no_members, member, depth, items_depth, members_depth}
-use Rattle.aas_json_table.specs.Table.{Sort, reference, key, lang_text, extension, qualifier, specific_asset_id, administration, asset_information, resource, operation_variable, environment, shell, submodel, concept, element, data_element, MemberType, text, flag, word, one, many, kept, plain, Row}
+use Rattle.aas_json_table.specs.Table.{Sort, reference, key, lang_text, extension, qualifier, specific_asset_id, administration, asset_information, resource, operation_variable, environment, shell, submodel, concept, element, data_element, submodel_metadata, element_metadata, MemberType, text, flag, word, one, many, kept, plain, Row}
 use Rattle.aas_json_table.specs.Rows.{Pointer, in_member, in_item, row_named, rows_of}
 use Rattle.aas_json_table.specs.Misfit.{misfit, misfit_items, misfit_members, misfit_member, misfit_object, misfit_all, missing}
 use Rattle.aas_json_table.specs.TooDeep.{Levels, spend, too_deep, too_deep_items, too_deep_members, too_deep_member, too_deep_object, too_deep_all, within, enter, enter_kept}
@@ -84,6 +84,8 @@ room submodel = 6
 room concept = 6
 room element = 3
 room data_element = 3
+room submodel_metadata = 6
+room element_metadata = 6
 
 -- the levels of JSON that entering an object of a sort gives
 abbrev cost : Sort → ℕ
@@ -125,6 +127,8 @@ table_room submodel = refl
 table_room concept = refl
 table_room element = refl
 table_room data_element = refl
+table_room submodel_metadata = refl
+table_room element_metadata = refl
 
 room_some : (n : ℕ) (rows : List Row) → have_room n rows ≡ true → 1 ≤ n
 room_some n [] e = leb-true 1 n e
@@ -175,6 +179,8 @@ costs submodel l = no_cost l
 costs concept l = no_cost l
 costs element l = one_element l l.elements refl
 costs data_element l = one_element l l.elements refl
+costs submodel_metadata l = no_cost l
+costs element_metadata l = no_cost l
 
 -- the level that is entered in an object
 inside_of : (s : Sort) (l : Levels) (inside : Levels → Option Pointer) → within (enter s l) inside ≡ None → (inner : Levels) × (levels inner + cost s ≤ levels l) × (inside inner ≡ None)
@@ -267,6 +273,8 @@ room_most submodel = omega arith
 room_most concept = omega arith
 room_most element = omega arith
 room_most data_element = omega arith
+room_most submodel_metadata = omega arith
+room_most element_metadata = omega arith
 
 -- A whole document, and each part of one, nests within the reader's limit.
 pub nests : (d : Data) (s : Sort) (l : Levels) → l.elements ≤ 30 → l.references ≤ 4 → l.kept ≤ 12 → misfit (one s) d ≡ None → too_deep (one s) d l ≡ None → depth d ≤ 127

@@ -6,7 +6,7 @@ use Rattle.std.proofs.lemmas.Map.Text.{is_eq-slice_cmp}
 use Rattle.aas_lemmas.proofs.Truth.{and_left, and_right}
 use Rattle.serde_json.specs.Data.{Data, Members}
 use Rattle.serde_json.specs.Find.{get_member, as_str}
-use Rattle.aas_json_table.specs.Table.{Sort, reference, key, lang_text, extension, qualifier, specific_asset_id, administration, asset_information, resource, operation_variable, environment, shell, submodel, concept, element, data_element, MemberType, text, flag, word, one, many, kept, plain, Row, parts, model_types}
+use Rattle.aas_json_table.specs.Table.{Sort, reference, key, lang_text, extension, qualifier, specific_asset_id, administration, asset_information, resource, operation_variable, environment, shell, submodel, concept, element, data_element, submodel_metadata, element_metadata, MemberType, text, flag, word, one, many, kept, plain, Row, parts, model_types}
 use Rattle.aas_json_table.specs.Rows.{find, sorted, row_named, choose, rows_of}
 
 -- ---- names that rise
@@ -148,6 +148,8 @@ table_sound submodel = refl
 table_sound concept = refl
 table_sound element = refl
 table_sound data_element = refl
+table_sound submodel_metadata = refl
+table_sound element_metadata = refl
 
 table_models : (s : Sort) → each_model has_model (model_types s) ≡ true
 table_models reference = refl
@@ -166,6 +168,8 @@ table_models submodel = refl
 table_models concept = refl
 table_models element = refl
 table_models data_element = refl
+table_models submodel_metadata = refl
+table_models element_metadata = refl
 
 sound : (s : Sort) (ms : Members) (rows : List Row) → rows_of s ms ≡ Some rows → are_sound rows ≡ true
 sound s ms rows e = every are_sound s (table_sound s) ms rows e

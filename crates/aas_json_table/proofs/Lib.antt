@@ -1,3 +1,4 @@
+pub mod Counted
 pub mod Escapes
 pub mod Lists
 pub mod NameLemmas

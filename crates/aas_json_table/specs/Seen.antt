@@ -1,5 +1,5 @@
 -- What the program's own table, levels and pointers stand for.
-use Rattle.std.specs.Prelude.{ℕ, List, map, Option, option_map}
+use Rattle.std.specs.Prelude.{ℕ, List, map, filter, Bool, true, false, Option, option_map}
 use Rattle.std.specs.Borrow.{Bor}
 use Rattle.std.specs.Str.{encode_utf8_all}
 use Rattle.aas_json_table.specs.Names as names
@@ -15,6 +15,7 @@ use Rattle.aas_json_table.specs.declared.table.MemberType.TheVariants as member_
 use Rattle.aas_json_table.specs.declared.table.Class.{Class}
 use Rattle.aas_json_table.specs.declared.table.Class.TheVariants as classes
 use Rattle.aas_json_table.specs.declared.table.Row.{Row}
+use Rattle.aas_json_table.specs.declared.table.Rows.{Rows}
 use Rattle.aas_json_table.specs.declared.table.names.Names.{Names}
 use Rattle.aas_json_table.specs.declared.table.names.Names.TheVariants as enumerations
 use Rattle.aas_json_table.specs.declared.too_deep.Levels.{Levels}
@@ -36,6 +37,8 @@ sort_of sorts.Submodel = table.submodel
 sort_of sorts.Concept = table.concept
 sort_of sorts.Element = table.element
 sort_of sorts.DataElement = table.data_element
+sort_of sorts.SubmodelMetadata = table.submodel_metadata
+sort_of sorts.ElementMetadata = table.element_metadata
 
 abbrev pub words_of : Names → List (List ℕ)
 words_of enumerations.AssetKinds = names.asset_kinds
@@ -64,6 +67,25 @@ class_of classes.V = table.v
 
 abbrev pub row_of : Row → table.Row
 row_of r = record { name = r.name.now; member_type = member_type_of r.member_type; required = r.required; class = class_of r.class }
+
+-- a row of a class is one of an object's, of which only the metadata is meant or not
+abbrev pub counts : Bool → table.Row → Bool
+counts true r = table.is_shown r
+counts false r = true
+
+abbrev pub rows_in : Rows → List table.Row
+rows_in rows = filter (counts rows.metadata) (map row_of rows.all.now)
+
+-- the class of which a sort is the metadata form, or the sort itself
+abbrev pub class_sort : table.Sort → table.Sort
+class_sort table.submodel_metadata = table.submodel
+class_sort table.element_metadata = table.element
+class_sort s = s
+
+abbrev pub is_metadata : table.Sort → Bool
+is_metadata table.submodel_metadata = true
+is_metadata table.element_metadata = true
+is_metadata s = false
 
 abbrev pub rows_seen : Option (Bor (List Row)) → Option (List table.Row)
 rows_seen = option_map (λ rows. map row_of rows.now)

@@ -22,6 +22,8 @@ pub data Sort : Type 0 where
   concept : Sort
   element : Sort
   data_element : Sort
+  submodel_metadata : Sort
+  element_metadata : Sort
 
 -- What a value may be: a string, a truth value, a string that is one of some names, an object of a sort, an array of objects of a sort,
 -- an array of kept data, or kept data: anything without numbers.
@@ -165,6 +167,8 @@ parts submodel = []
 parts concept = []
 parts element = []
 parts data_element = []
+parts submodel_metadata = []
+parts element_metadata = []
 
 -- ---- submodel elements: each modelType with the members of its own
 
@@ -271,6 +275,32 @@ data_elements = map kind.name_of (filter kind.is_data_element kind.all)
 abbrev pub submodel_element : List ℕ × List Row → List ℕ × List Row
 submodel_element k = (k.0, referable ++ has_semantics ++ qualifiable ++ k.1)
 
+-- the members of any SubmodelElement, and those of the kind's own, under each modelType
+abbrev pub element_types : List (List ℕ × List Row)
+element_types = map submodel_element kinds
+
+-- Submodel, with HasKind
+abbrev pub submodel_type : List ℕ × List Row
+submodel_type = (
+  codes "Submodel",
+  referable ++ identifiable ++
+      optional (codes "kind") (word modelling_kinds)
+      ∷ has_semantics ++ qualifiable ++
+      valued (optional (codes "submodelElements") (many element))
+      ∷ [],
+)
+
+-- ---- metadata forms (IDTA-01002-3-0, content modifier Metadata): what is left of a modelType's members without those of class V
+
+abbrev pub is_shown : Row → Bool
+is_shown r = elim r.class [ m ↦ true | v ↦ false ]
+
+abbrev pub shown : List Row → List Row
+shown = filter is_shown
+
+abbrev pub metadata_of : List ℕ × List Row → List ℕ × List Row
+metadata_of k = (k.0, shown k.1)
+
 -- ---- the modelTypes that an object of a sort may have, each with all its members; a part has none
 
 abbrev pub model_types : Sort → List (List ℕ × List Row)
@@ -284,16 +314,7 @@ model_types shell = (
       ∷ [],
 )
     ∷ []
--- Submodel, with HasKind
-model_types submodel = (
-  codes "Submodel",
-  referable ++ identifiable ++
-      optional (codes "kind") (word modelling_kinds)
-      ∷ has_semantics ++ qualifiable ++
-      valued (optional (codes "submodelElements") (many element))
-      ∷ [],
-)
-    ∷ []
+model_types submodel = submodel_type ∷ []
 -- ConceptDescription
 model_types concept = (
   codes "ConceptDescription",
@@ -303,9 +324,12 @@ model_types concept = (
 )
     ∷ []
 -- SubmodelElement
-model_types element = map submodel_element kinds
+model_types element = element_types
 -- DataElement
 model_types data_element = map submodel_element (filter (λ k. has data_elements k.0) kinds)
+-- the metadata forms of a Submodel and of a SubmodelElement
+model_types submodel_metadata = metadata_of submodel_type ∷ []
+model_types element_metadata = map metadata_of element_types
 model_types reference = []
 model_types key = []
 model_types lang_text = []

@@ -1,15 +1,15 @@
-ghost use Rattle.std.specs.Prelude.{◌≡◌, [], ◌∷◌, map, Some, IfOk};
+ghost use Rattle.std.specs.Prelude.{◌≡◌, [], ◌∷◌, Some, IfOk};
 ghost use Rattle.serde_json.specs.Data.{array};
 ghost use Rattle.serde_json.specs.Find.{get_member};
 ghost use Rattle.serde_json.specs.View.{view, items_view, members_view};
 ghost use Rattle.aas_json_table.specs.Misfit.{misfit, misfit_object, misfit_items, misfit_members};
 ghost use Rattle.aas_json_table.specs.Misfit.{misfit_all, missing};
 ghost use Rattle.aas_json_table.specs.Rows.{in_member, is_there, rows_of};
-ghost use Rattle.aas_json_table.specs.Seen.{row_of, member_type_of, sort_of};
+ghost use Rattle.aas_json_table.specs.Seen.{rows_in, member_type_of, sort_of};
 
 use crate::name;
 use crate::pointer::{Token, Trail};
-use crate::table::{MemberType, Row, Sort, member, row_named, rows_of};
+use crate::table::{MemberType, Rows, Sort, member, rows_of};
 use aas_model_text::NoMemory;
 use serde_json::{Map, Value};
 use std::alloc::Global;
@@ -83,14 +83,14 @@ fn misfit_items(
 #[cycle(misfit)]
 fn misfit_members(
     alloc: Global,
-    rows: &'static [Row],
+    rows: Rows,
     members: &Map<String, Value>,
 ) -> Result<Option<Trail>, NoMemory>
     ensures { IfOk result (λ fault. fault
-        ≡ misfit_members (members_view members.now.entries) (map row_of rows.now)) }
+        ≡ misfit_members (members_view members.now.entries) (rows_in rows)) }
 {
     for (name, value) in members.iter() {
-        let Some(row) = row_named(name.as_str(), rows) else {
+        let Some(row) = rows.named(name.as_str()) else {
             return Ok(Some(at_member(alloc, name.as_str())?));
         };
         if let Some(trail) = misfit(alloc, row.member_type, value)? {
@@ -116,14 +116,14 @@ fn misfit_all(alloc: Global, members: &Map<String, Value>) -> Result<Option<Trai
 // The first required member that is absent.
 fn missing(
     alloc: Global,
-    rows: &[Row],
+    rows: Rows,
     members: &Map<String, Value>,
 ) -> Result<Option<Trail>, NoMemory>
     ensures { IfOk result (λ fault. fault
-        ≡ missing (map row_of rows.now) (members_view members.now.entries)) }
+        ≡ missing (rows_in rows) (members_view members.now.entries)) }
 {
-    for row in rows {
-        if row.required && !is_there(members, row.name) {
+    for row in rows.all {
+        if rows.count(row) && row.required && !is_there(members, row.name) {
             return Ok(Some(at_member(alloc, row.name)?));
         }
     }

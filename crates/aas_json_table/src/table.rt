@@ -1,8 +1,8 @@
-ghost use Rattle.std.specs.Prelude.{◌≡◌, map, codes, option_map, option_and_then};
+ghost use Rattle.std.specs.Prelude.{◌≡◌, codes, option_map, option_and_then};
 ghost use Rattle.serde_json.specs.Find.{get_member, as_str};
 ghost use Rattle.serde_json.specs.View.{view, members_view};
-ghost use Rattle.aas_json_table.specs.Rows.{rows_of, row_named};
-ghost use Rattle.aas_json_table.specs.Seen.{row_of, rows_seen, sort_of};
+ghost use Rattle.aas_json_table.specs.Rows.{rows_of};
+ghost use Rattle.aas_json_table.specs.Seen.{class_sort, rows_in, rows_seen, sort_of};
 
 use crate::name;
 use serde_json::{Map, Value};
@@ -56,6 +56,24 @@ pub enum Sort {
     Element,
     /// DataElement.
     DataElement,
+    /// The metadata form of a Submodel.
+    SubmodelMetadata,
+    /// The metadata form of a SubmodelElement.
+    ElementMetadata,
+}
+
+impl Sort {
+    ghost use Rattle.std.specs.Prelude.{◌≡◌};
+    ghost use Rattle.aas_json_table.specs.Seen.{is_metadata, sort_of};
+
+    fn is_metadata(self) -> bool
+        ensures { result ≡ is_metadata (sort_of self) }
+    {
+        match self {
+            Sort::SubmodelMetadata | Sort::ElementMetadata => true,
+            _ => false,
+        }
+    }
 }
 
 /// What a value may be.
@@ -99,6 +117,43 @@ pub struct Row {
     pub class: Class,
 }
 
+/// The rows of an object, in byte order of their names.
+#[derive(Clone, Copy)]
+pub struct Rows {
+    // those of its class
+    pub(crate) all: &'static [Row],
+    // whether only those are the object's that the metadata form shows
+    metadata: bool,
+}
+
+impl Rows {
+    ghost use Rattle.std.specs.Prelude.{◌≡◌, option_map};
+    ghost use Rattle.aas_json_table.specs.Rows.{row_named};
+    ghost use Rattle.aas_json_table.specs.Seen.{counts, row_of, rows_in};
+
+    /// Whether a row of its class is one of the object's.
+    pub(crate) fn count(&self, row: &Row) -> bool
+        ensures { result ≡ counts self.now.metadata (row_of row.now) }
+    {
+        match row.class {
+            Class::M => true,
+            Class::V => !self.metadata,
+        }
+    }
+
+    /// The row of a name, or `None` where no row has it.
+    pub fn named(&self, name: &str) -> Option<Row>
+        ensures { option_map row_of result ≡ row_named name.now (rows_in self.now) }
+    {
+        for row in self.all {
+            if self.count(row) && name == row.name {
+                return Some(*row);
+            }
+        }
+        None
+    }
+}
+
 /// The member of a name, or `None` where no member has it.
 pub fn member<'v>(members: &'v Map<String, Value>, name: &str) -> Option<&'v Value>
     ensures { option_map (λ found. view found.now) result
@@ -107,11 +162,22 @@ pub fn member<'v>(members: &'v Map<String, Value>, name: &str) -> Option<&'v Val
     members.get(name)
 }
 
-/// The rows of an object in byte order of their names, by its `modelType` where the table demands
-/// one. `None` where that is absent or wrong.
+/// The rows of an object, by its `modelType` where the table demands one. `None` where that is absent
+/// or wrong.
+#[tactic(auto, using(crate::proofs::Counted::rows_by_class))]
+pub fn rows_of(sort: Sort, members: &Map<String, Value>) -> Option<Rows>
+    ensures { option_map rows_in result ≡ rows_of (sort_of sort) (members_view members.now.entries) }
+{
+    Some(Rows {
+        all: class_rows(sort, members)?,
+        metadata: sort.is_metadata(),
+    })
+}
+
+/// All rows of the class of an object.
 #[tactic(auto, unfolding(crate::specs::Rows::rows_of))]
-pub fn rows_of(sort: Sort, members: &Map<String, Value>) -> Option<&'static [Row]>
-    ensures { rows_seen result ≡ rows_of (sort_of sort) (members_view members.now.entries) }
+fn class_rows(sort: Sort, members: &Map<String, Value>) -> Option<&'static [Row]>
+    ensures { rows_seen result ≡ rows_of (class_sort (sort_of sort)) (members_view members.now.entries) }
 {
     match sort {
         Sort::Reference => Some(&parts::REFERENCE),
@@ -130,19 +196,9 @@ pub fn rows_of(sort: Sort, members: &Map<String, Value>) -> Option<&'static [Row
         Sort::Concept => documents::concept_rows(model_type(members)?),
         Sort::Element => elements::element_rows(model_type(members)?),
         Sort::DataElement => elements::data_element_rows(model_type(members)?),
+        Sort::SubmodelMetadata => documents::submodel_rows(model_type(members)?),
+        Sort::ElementMetadata => elements::element_rows(model_type(members)?),
     }
-}
-
-/// The row of a name, or `None` where no row has it.
-pub fn row_named(name: &str, rows: &[Row]) -> Option<Row>
-    ensures { option_map row_of result ≡ row_named name.now (map row_of rows.now) }
-{
-    for row in rows {
-        if name == row.name {
-            return Some(*row);
-        }
-    }
-    None
 }
 
 // The `modelType` of an object, where it is there and a string.

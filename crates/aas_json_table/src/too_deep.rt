@@ -1,11 +1,11 @@
-ghost use Rattle.std.specs.Prelude.{◌≡◌, ◌-◌, map, IfOk, option_map};
+ghost use Rattle.std.specs.Prelude.{◌≡◌, ◌-◌, IfOk, option_map};
 ghost use Rattle.serde_json.specs.View.{view, items_view, members_view};
 ghost use Rattle.aas_json_table.specs.TooDeep.{too_deep, too_deep_items, too_deep_members, too_deep_all};
 ghost use Rattle.aas_json_table.specs.TooDeep.{limits, spend, enter, enter_kept, is_shallow};
-ghost use Rattle.aas_json_table.specs.Seen.{row_of, member_type_of, sort_of, levels_of};
+ghost use Rattle.aas_json_table.specs.Seen.{rows_in, member_type_of, sort_of, levels_of};
 
 use crate::pointer::{Token, Trail};
-use crate::table::{MemberType, Row, Sort, row_named, rows_of};
+use crate::table::{MemberType, Rows, Sort, rows_of};
 use aas_model_text::NoMemory;
 use serde_json::{Map, Value};
 use std::alloc::Global;
@@ -148,18 +148,18 @@ fn is_shallow(value: &Value, left: Levels) -> bool
 #[tactic(auto, using(crate::proofs::Shallow::shallow_member))]
 fn too_deep_members(
     alloc: Global,
-    rows: &'static [Row],
+    rows: Rows,
     members: &Map<String, Value>,
     left: Levels,
 ) -> Result<Option<Trail>, NoMemory>
     ensures { IfOk result (λ place. place
-        ≡ too_deep_members (members_view members.now.entries) (map row_of rows.now) (levels_of left)) }
+        ≡ too_deep_members (members_view members.now.entries) (rows_in rows) (levels_of left)) }
 {
     for (name, value) in members.iter() {
         if is_shallow(value, left) {
             continue;
         }
-        if let Some(row) = row_named(name.as_str(), rows) {
+        if let Some(row) = rows.named(name.as_str()) {
             if let Some(trail) = too_deep(alloc, row.member_type, value, left)? {
                 return Ok(Some(trail.below(Token::member(alloc, name.as_str())?)?));
             }

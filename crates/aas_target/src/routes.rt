@@ -169,7 +169,10 @@ impl Resource {
             | Resource::Elements
             | Resource::Concepts => &[Get, Post],
             Resource::AssetInformation => &[Get, Put],
-            Resource::SubmodelValue | Resource::ElementValue => &[Get, Patch],
+            Resource::SubmodelMetadata
+            | Resource::SubmodelValue
+            | Resource::ElementMetadata
+            | Resource::ElementValue => &[Get, Patch],
             Resource::Element => &[Get, Post, Put, Delete],
             Resource::ReferencesTo => &[Delete],
             _ => &[Get],

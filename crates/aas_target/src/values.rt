@@ -8,7 +8,7 @@ ghost use Rattle.aas_target.specs.Values.{IsLimit, IsPlaceCursor, IsTreeCode, Is
 ghost use Rattle.aas_target.specs.declared.values.ValueFault.TheVariants.{Bad};
 
 use aas_json_input::read_value;
-use aas_json_read::read_specific;
+use aas_json_parts::read_specific;
 use aas_model::{Extent, Level, NoMemory, ReadFault, Reference, SpecificAssetId, Text};
 use aas_page::{from_base64url, id_from_cursor};
 use aas_reference::read_reference;

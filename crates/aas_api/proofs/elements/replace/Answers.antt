@@ -6,6 +6,7 @@ use Rattle.aas_model.specs.declared.read_fault.ReadFault.{ReadFault}
 use Rattle.aas_json_table.specs.TooDeep.{Levels, limits}
 use Rattle.aas_json_spelling.specs.Reads.{ReadsBytes}
 use Rattle.aas_json_mapping.specs.Trees.{elements}
+use Rattle.aas_api.specs.declared.ask.Ask.TheVariants.{Act}
 use Rattle.aas_api.specs.Asked.{Asked, has_last, if_same}
 use Rattle.aas_api.proofs.elements.replace.Goals as goal
 
@@ -15,7 +16,7 @@ returns-in_ok-new-in-Ok c =
     let with_levels : ℕ → Levels = λ n. record limits { elements = n } in
     let left : 31 - c.level.result ≡ 31 - length c.args.path.steps = c.level.ensures ∙ ap (λ n. 31 - n) c.len.ensures in
     let asks : List ℕ → Element → Asked =
-    λ id e. if_same (has_last (last_or None c.args.path.steps) e) (ReplaceElement id c.args.path e) in
+    λ id e. if_same (has_last (last_or None c.args.path.steps) e) (Act (ReplaceElement id c.args.path e)) in
     let same : c.in_ok-new-in-Ok.field-0 ≡ c.in-Ok.element = c.in_ok-new-in-Ok.ensures in
     inr (
       result,

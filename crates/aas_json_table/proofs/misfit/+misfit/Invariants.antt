@@ -1,7 +1,7 @@
-use Rattle.std.proofs.Common.{◌≡◌, map, drop}
+use Rattle.std.proofs.Common.{◌≡◌, drop}
 use Rattle.serde_json.specs.View.{items_view, members_view}
 use Rattle.aas_json_table.specs.Misfit.{misfit_items, misfit_members, misfit_all}
-use Rattle.aas_json_table.specs.Seen.{row_of, member_type_of}
+use Rattle.aas_json_table.specs.Seen.{rows_in, member_type_of}
 use Rattle.aas_json_table.proofs.misfit.+misfit.Given as goal
 
 abbrev pub invariant-misfit_items-loop-place : goal.invariant-misfit_items-loop-place
@@ -10,7 +10,7 @@ invariant-misfit_items-loop-place l =
 
 abbrev pub invariant-misfit_members-loop-name : goal.invariant-misfit_members-loop-name
 invariant-misfit_members-loop-name l =
-    misfit_members (members_view l.name-iterator) (map row_of l.rows) ≡ misfit_members (members_view l.members.entries) (map row_of l.rows)
+    misfit_members (members_view l.name-iterator) (rows_in l.rows) ≡ misfit_members (members_view l.members.entries) (rows_in l.rows)
 
 abbrev pub invariant-misfit_all-loop-name : goal.invariant-misfit_all-loop-name
 invariant-misfit_all-loop-name l = misfit_all (members_view l.name-iterator) ≡ misfit_all (members_view l.members.entries)

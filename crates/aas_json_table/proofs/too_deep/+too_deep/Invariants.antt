@@ -1,7 +1,7 @@
-use Rattle.std.proofs.Common.{◌≡◌, map, drop}
+use Rattle.std.proofs.Common.{◌≡◌, drop}
 use Rattle.serde_json.specs.View.{items_view, members_view}
 use Rattle.aas_json_table.specs.TooDeep.{too_deep_items, too_deep_members, too_deep_all}
-use Rattle.aas_json_table.specs.Seen.{row_of, member_type_of, levels_of}
+use Rattle.aas_json_table.specs.Seen.{rows_in, member_type_of, levels_of}
 use Rattle.aas_json_table.proofs.too_deep.+too_deep.Given as goal
 
 abbrev pub invariant-too_deep_items-loop-place : goal.invariant-too_deep_items-loop-place
@@ -10,7 +10,7 @@ invariant-too_deep_items-loop-place l =
 
 abbrev pub invariant-too_deep_members-loop-name : goal.invariant-too_deep_members-loop-name
 invariant-too_deep_members-loop-name l =
-    too_deep_members (members_view l.name-iterator) (map row_of l.rows) (levels_of l.left) ≡ too_deep_members (members_view l.members.entries) (map row_of l.rows) (levels_of l.left)
+    too_deep_members (members_view l.name-iterator) (rows_in l.rows) (levels_of l.left) ≡ too_deep_members (members_view l.members.entries) (rows_in l.rows) (levels_of l.left)
 
 abbrev pub invariant-too_deep_all-loop-name : goal.invariant-too_deep_all-loop-name
 invariant-too_deep_all-loop-name l =

@@ -1,0 +1,28 @@
+use Rattle.std.proofs.Common.{refl, [], None}
+use Rattle.serde_json.specs.View.{members_view}
+use Rattle.aas_model_names.specs.declared.kind.Kind.TheVariants as kind
+use Rattle.aas_json_table.specs.Canonical.{canonical_member}
+use Rattle.aas_json_mapping.specs.Elements.{own_attributes}
+use Rattle.aas_json_members.proofs.Objects.{spelled_as}
+use Rattle.aas_model.specs.declared.payload.Payload.TheVariants as p
+use Rattle.aas_json_read.specs.Shown.{shown_rows}
+use Rattle.aas_json_read.proofs.metadata.event_in.Goals as goal
+
+pub returns-clause-says : goal.returns-clause-says
+returns-clause-says c =
+    let topic = c.in_ok-string_member.field-0 in
+    let broker = c.in_ok-one_member.field-0 in
+    let last = c.in_ok-string_member-2.field-0 in
+    let min = c.in_ok-string_member-3.field-0 in
+    let max = c.in_ok-string_member-4.field-0 in
+    spelled_as (shown_rows kind.BasicEventElement) (own_attributes (p.BasicEventElement None c.in-Some.direction c.in-Some-word_member.state topic broker last min max) [])
+    (canonical_member (members_view c.args.members.now.entries)) refl (
+      c.in-Some.ensures,
+      (
+        c.in_ok-string_member-2.ensures,
+        (
+          c.in_ok-string_member-4.ensures,
+          (c.in_ok-one_member.ensures, (c.in_ok-string_member.ensures, (c.in_ok-string_member-3.ensures, (c.in-Some-word_member.ensures, tt)))),
+        ),
+      ),
+    )
