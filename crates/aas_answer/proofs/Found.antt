@@ -23,7 +23,8 @@ use Rattle.std.specs.FinMap as map
 use Rattle.std.specs.Str.{encode_utf8_all}
 use Rattle.aas_lemmas.proofs.Truth.{None-from_is_some}
 use Rattle.aas_answer.specs.Answers.{Answer, lost, of_element, of_reference}
-use Rattle.aas_answer.specs.Found.{IsFound, IsLost, IsRefusalOf}
+use Rattle.aas_answer.specs.Found.{IsFound, IsLost}
+use Rattle.aas_step.specs.Lost.{IsRefusalOf}
 
 -- ---- what a store answers
 

@@ -1,13 +1,10 @@
 -- Elements that are found by their paths, and why one isn't (IDTA-01002-3-0, idShortPath).
-use Rattle.std.specs.Prelude.{◌≡◌, ◌⊎◌, ℕ, List, take, Err}
-use Rattle.aas_command.specs.declared.refusal.Absent.TheVariants as absent
+use Rattle.std.specs.Prelude.{◌≡◌, ◌⊎◌, ℕ, List, Err}
 use Rattle.aas_command.specs.declared.refusal.Refusal.{Refusal}
 use Rattle.aas_command.specs.declared.refusal.Refusal.TheVariants as refused
 use Rattle.aas_model.specs.declared.element.Element.{Element}
 use Rattle.aas_model.specs.declared.path.PathStep.{PathStep}
 use Rattle.aas_store.specs.Documents.{Documents}
-use Rattle.aas_store.specs.declared.lack.Lack.{Lack}
-use Rattle.aas_store.specs.declared.lack.Lack.TheVariants as lack
 use Rattle.aas_answer.specs.Answers.{Answer, of_element}
 
 -- what a path leads to is e
@@ -17,9 +14,3 @@ IsFound d id p e = (answer : Element → Answer) → of_element d id p answer �
 -- it leads to nothing, or memory was refused
 abbrev pub IsLost : Documents → List ℕ → List PathStep → Refusal → Type 0
 IsLost d id p r = (r ≡ refused.NoMemory) ⊎ ((answer : Element → Answer) → of_element d id p answer ≡ Err r)
-
--- the refusal says what there isn't
-abbrev pub IsRefusalOf : List PathStep → Lack → Refusal → Type 0
-IsRefusalOf p lack.NoSubmodel r = r ≡ refused.NotFound absent.Submodel
-IsRefusalOf p (lack.NoElement m) r = r ≡ refused.NotFound (absent.Element (record { steps = take m.steps p }))
-IsRefusalOf p lack.NoMemory r = r ≡ refused.NoMemory

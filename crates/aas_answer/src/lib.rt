@@ -9,7 +9,6 @@ mod asking;
 mod document_pages;
 mod element_answers;
 mod forms;
-mod lost;
 mod page_text;
 mod place_pages;
 mod planning;
@@ -21,8 +20,6 @@ mod submodel_answers;
 mod texts;
 
 pub use asking::tell;
-pub use lost::not_found;
 pub use planning::plan;
 pub use plans::{Plan, measure_plan, pour_plan};
 pub use pouring::pour_document;
-pub use stored_elements::refusal_of;

@@ -1,33 +1,18 @@
 // The elements of stored submodels, by their paths: their ranks, their rows, and copies of them.
-ghost use Rattle.std.specs.Prelude.{◌≡◌, ◌⊎◌, IfErr, IfOk, Some};
+ghost use Rattle.std.specs.Prelude.{◌≡◌, IfErr, IfOk, Some};
 ghost use Rattle.std.specs.Str.{encode_utf8_all};
-ghost use Rattle.aas_command.specs.declared.refusal.Refusal.TheVariants as refused;
 ghost use Rattle.aas_model.specs.declared.element.Element as trees;
 ghost use Rattle.aas_step.specs.Valid.{AreValid};
 ghost use Rattle.aas_store.specs.Edited.{Holds};
 ghost use Rattle.aas_store.specs.Reads.{IsRowOf};
 ghost use Rattle.aas_store.specs.Spots.{rank_at};
-ghost use Rattle.aas_answer.specs.Found.{IsFound, IsLost, IsRefusalOf};
+ghost use Rattle.aas_answer.specs.Found.{IsFound, IsLost};
 
-use crate::lost::not_found;
-use aas_command::{Absent, Refusal};
+use aas_command::Refusal;
 use aas_model::{Element, Path, Text};
-use aas_step::valid_submodels_are_storable;
-use aas_store::{Lack, RowView, Store};
+use aas_step::{refusal_of, valid_submodels_are_storable};
+use aas_store::{RowView, Store};
 use std::alloc::Global;
-
-/// Why a request on an element is refused, by what a store says of it.
-pub fn refusal_of(alloc: Global, path: &Path, lack: Lack) -> Refusal
-    ensures { (result ≡ refused.NoMemory) ⊎ IsRefusalOf path.now.steps lack result }
-{
-    match lack {
-        Lack::NoSubmodel => Refusal::NotFound {
-            what: Absent::Submodel,
-        },
-        Lack::NoElement(missing) => not_found(alloc, path, missing),
-        Lack::NoMemory => Refusal::NoMemory,
-    }
-}
 
 /// The rank of the element to which the path leads in the submodel of the identifier.
 pub(crate) fn stored_rank<S: Store>(

@@ -14,13 +14,13 @@ ghost use Rattle.serde_json.specs.Written.{compact_text};
 ghost use Rattle.aas_value.specs.ValueForm.{submodel_value};
 ghost use Rattle.aas_answer.specs.Answers.{lost, of_reference, of_submodel, paths_text, submodel_valued};
 
-use crate::lost::not_found;
 use crate::texts::{paths_text, reference_text};
 use aas_command::{Absent, Refusal};
 use aas_form::{FormFault, cut, metadata_of, paths_of_submodel, reference_of};
 use aas_json_members::Exact;
 use aas_json_write::submodel_text;
 use aas_model::{Extent, Level, Many, NoMemory, Path, Submodel, Text};
+use aas_step::not_found;
 use aas_store::Store;
 use aas_value::value_of_submodel;
 use std::alloc::Global;

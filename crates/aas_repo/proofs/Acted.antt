@@ -11,7 +11,7 @@ use Rattle.aas_store.specs.Documents.{Documents}
 use Rattle.aas_repo.specs.Acts.{Acts, done_of}
 use Rattle.aas_repo.specs.Decisions.{IsTaken}
 use Rattle.aas_repo.specs.Held.{Held, state_of}
-use Rattle.aas_repo.specs.declared.decision.Taken.TheVariants as taken
+use Rattle.aas_repo.specs.declared.taking.Taken.TheVariants as taken
 use Rattle.aas_repo.specs.declared.repo.Done.{Done}
 
 abbrev pub held : {K : Type 0} → Documents → K → Bool → Held K

@@ -35,10 +35,10 @@ use Rattle.aas_step.specs.Step.{ComesBy, ComesTo, accepted, later_causes, refuse
 use Rattle.aas_step.proofs.Validity.{no_cause}
 use Rattle.aas_store.specs.Documents.{Documents, with_all}
 use Rattle.aas_store.specs.Storable.{IsStorable}
-use Rattle.aas_repo.specs.Decisions.{IsDecision}
+use Rattle.aas_repo_elements.specs.Decisions.{IsDecision}
 use Rattle.aas_repo.specs.Faulty.{first_faulty_from, first_faulty_in, in_list}
-use Rattle.aas_repo.proofs.Decided.{of_fault}
-use Rattle.aas_repo.specs.declared.decision.Decision.TheVariants as decision
+use Rattle.aas_repo_elements.proofs.Decided.{first_in, of_fault}
+use Rattle.aas_repo_elements.specs.declared.decision.Decision.TheVariants as decision
 
 -- ---- identifiers that were seen
 
@@ -54,11 +54,6 @@ pub one_more_seen : (s n : BTreeSet (Bor (List ℕ))) (k : Bor (List ℕ)) → I
 one_more_seen s n k utf8 keys text ids is has = subst (λ t. HasTexts n (ids ++ t ∷ [])) (text_of k.now text utf8 is) (one_more s n k utf8 keys ids has)
 
 -- ---- causes in turn
-
-pub first_in : (os more : List Cause) → first_of (os ++ more) ≡ option_or (first_of os) (first_of more)
-first_in [] more = refl
-first_in (None ∷ os) more = first_in os more
-first_in (Some why ∷ os) more = refl
 
 alone : (o : Cause) → first_of (o ∷ []) ≡ o
 alone None = refl

@@ -11,10 +11,11 @@ use Rattle.aas_step.proofs.Validity.{stays_valid}
 use Rattle.aas_step.specs.Step as step
 use Rattle.aas_step.specs.Step.{ComesTo, Steps, accepted, refused}
 use Rattle.aas_step.specs.Valid.{AreValid}
-use Rattle.aas_repo.specs.Decisions.{IsDecision, IsTaken}
-use Rattle.aas_repo.specs.declared.decision.Decision.{Decision}
-use Rattle.aas_repo.specs.declared.decision.Decision.TheVariants as decision
-use Rattle.aas_repo.specs.declared.decision.Taken.TheVariants as taken
+use Rattle.aas_repo_elements.specs.Decisions.{IsDecision}
+use Rattle.aas_repo.specs.Decisions.{IsTaken}
+use Rattle.aas_repo_elements.specs.declared.decision.Decision.{Decision}
+use Rattle.aas_repo_elements.specs.declared.decision.Decision.TheVariants as decision
+use Rattle.aas_repo.specs.declared.taking.Taken.TheVariants as taken
 
 -- valid documents stay so
 pub decided_valid : (has_room : Bool) (old new : Documents) (c : Command) (made : Decision) → IsWellFormed c → AreValid old

@@ -1,7 +1,4 @@
-pub mod Accepted
 pub mod Acts
 pub mod Decisions
 pub mod Faulty
 pub mod Held
-pub mod Patches
-pub mod Placing

@@ -1,5 +1,5 @@
 // Commands are refused, or change the store: the causes are tried from the left, and then the store is changed.
-ghost use Rattle.std.specs.Prelude.{◌≡◌, [], ◌∷◌, IfOk, IsTrue, option_map};
+ghost use Rattle.std.specs.Prelude.{◌≡◌, IfOk, IsTrue, option_map};
 ghost use Rattle.std.specs.Option.{option_copied};
 ghost use Rattle.std.specs.FinMap as map;
 ghost use Rattle.aas_command.specs.Commands.{IsWellFormed};
@@ -8,21 +8,18 @@ ghost use Rattle.aas_command.specs.declared.command.Command.TheVariants.{SetAsse
 ghost use Rattle.aas_constraint_laws.specs.Valid.{is_whole};
 ghost use Rattle.aas_json_mapping.specs.Trees.{asset_informations};
 ghost use Rattle.aas_json_table.specs.TooDeep.{limits};
-ghost use Rattle.aas_step.specs.Causes.{absent_of, document_causes, first_of};
-ghost use Rattle.aas_step.specs.Step.{later_causes};
+ghost use Rattle.aas_step.specs.Causes.{absent_of};
 ghost use Rattle.aas_step.specs.Valid.{AreValid};
-ghost use Rattle.aas_repo.specs.Decisions.{Deletes, IsDecision, Makes, with_asset};
+ghost use Rattle.aas_repo_elements.specs.Decisions.{IsDecision};
+ghost use Rattle.aas_repo.specs.Decisions.{Deletes, with_asset};
 
-use crate::decision::Decision;
-use crate::deleting::delete_element;
 use crate::importing::import;
-use crate::inserting::insert_element;
 use crate::references::{add_reference, drop_reference};
-use crate::replacing::replace_element;
-use crate::stored::Stored;
-use crate::updating::update;
 use aas_command::{Absent, Command, Refusal};
 use aas_model::{AssetInformation, Boxed, Collection, Duplicate, NoMemory, Shell, Text};
+use aas_repo_elements::{
+    Decision, Stored, delete_element, insert_element, put, replace_element, update,
+};
 use aas_store::Store;
 use std::alloc::Global;
 
@@ -161,60 +158,6 @@ fn with_asset(shell: Option<&Shell>, asset: AssetInformation) -> Result<Option<S
     };
     copy.asset = asset;
     Ok(Some(copy))
-}
-
-/// Puts the one document that a command makes, unless a later cause refuses the command.
-pub(crate) fn put<S: Store, D: Stored>(
-    alloc: Global,
-    store: &mut S,
-    document: D,
-    has_room: bool,
-) -> Decision
-    requires { IsTrue (is_whole (D.document document)) }
-    ensures { (c : commands.Command) → Makes (S.documents store.old) c (D.document document) →
-        IsDecision has_room (S.documents store.old) c (S.documents store.new) result }
-{
-    match later_cause(alloc, &document, has_room) {
-        Ok(None) => match document.put_into(store) {
-            Ok(()) => Decision::Made,
-            Err(NoMemory) => Decision::NoMemory,
-        },
-        Ok(Some(refusal)) => Decision::Refused(refusal),
-        Err(NoMemory) => Decision::NoMemory,
-    }
-}
-
-/// The first fault of the new document, or that it has too many elements, or that there is no room.
-fn later_cause<D: Stored>(
-    alloc: Global,
-    document: &D,
-    has_room: bool,
-) -> Result<Option<Refusal>, NoMemory>
-    ensures { IfOk result (λ cause. cause ≡ first_of (later_causes has_room (D.document document.now ∷ []))) }
-{
-    if let Some(refusal) = document_cause(alloc, document)? {
-        return Ok(Some(refusal));
-    }
-    if !has_room {
-        return Ok(Some(Refusal::StorageFull));
-    }
-    Ok(None)
-}
-
-/// The first fault of a new document, or that it has too many elements.
-pub(crate) fn document_cause<D: Stored>(
-    alloc: Global,
-    document: &D,
-) -> Result<Option<Refusal>, NoMemory>
-    ensures { IfOk result (λ cause. cause ≡ first_of (document_causes (D.document document.now))) }
-{
-    if let Some(fault) = document.check(alloc)? {
-        return Ok(Some(Refusal::from(fault)));
-    }
-    if document.is_too_large() {
-        return Ok(Some(Refusal::TooMany));
-    }
-    Ok(None)
 }
 
 /// What isn't there where a collection has no document of an identifier.

@@ -7,20 +7,13 @@ ghost use Rattle.aas_rule.specs.State.{IsSettledState, PassesTo, repository_of};
 ghost use Rattle.aas_step.specs.Causes.{first_of, reference_causes};
 ghost use Rattle.aas_step.specs.Valid.{AreValid};
 ghost use Rattle.aas_repo.specs.Acts.{Acts, done_of};
-ghost use Rattle.aas_answer.specs.Answers.{answer_of};
-ghost use Rattle.aas_answer.specs.Plans.{IsPlanOf, is_planned, plan_text};
-ghost use Rattle.aas_out.specs.Told.{Puts};
 ghost use Rattle.aas_repo.specs.Held.{state_of};
 
-use crate::decision::Taken;
 use crate::references::referring;
-use crate::taking::take;
-use aas_answer::{Plan, measure_plan, pour_plan, tell};
+use crate::taking::{Taken, take};
 use aas_command::{Command, Refusal};
-use aas_model::{Many, Text};
-use aas_out::Out;
+use aas_model::Text;
 use aas_outside::{Failed, Keeper};
-use aas_question::Question;
 use aas_store::Store;
 use std::alloc::Global;
 use std::marker::Model;
@@ -135,41 +128,6 @@ impl<S: Store, K: Keeper> Repo<S, K> {
             Taken::Refused(refusal) => Err(refusal),
             Taken::NoMemory => Err(Refusal::NoMemory),
         }
-    }
-
-    /// The body of the reply to a question, or why there is none: only `NotFound`, `NoValueForm` and `NoMemory`
-    /// come.
-    pub fn ask(&self, question: &Question) -> Result<Many<u8>, Refusal>
-        requires { self.now.stopped ≡ false }
-        ensures { (result ≡ Err NoMemory) ⊎ (result ≡ answer_of self.now.documents question.now) }
-    {
-        tell(self.alloc, &self.store, question)
-    }
-
-    /// Which documents the answer to a question tells, where such answers are poured: those that tell whole documents, a page
-    /// of any or one submodel. `None` exactly for other questions; only `NotFound` and `NoMemory` come.
-    pub fn plan(&self, question: &Question) -> Result<Option<Plan>, Refusal>
-        requires { self.now.stopped ≡ false }
-        ensures planned { IfOk result (IsPlanOf self.now.documents question.now) }
-        ensures refused { IfErr result (λ refusal. (refusal ≡ NoMemory)
-            ⊎ ((is_planned question.now ≡ true) × (answer_of self.now.documents question.now ≡ Err refusal))) }
-    {
-        aas_answer::plan(self.alloc, &self.store, question)
-    }
-
-    /// How many bytes the answer of the plan has, or `None` where they are 2^64 or more. It takes no memory.
-    pub fn measure(&self, plan: &Plan) -> Option<u64>
-        ensures { let bytes = length (plan_text self.now.documents plan.now) in
-            result ≡ (if nat_lt bytes (2 ^ 64) then Some bytes else None) }
-    {
-        measure_plan(&self.store, plan)
-    }
-
-    /// Puts the answer of the plan. It takes no memory.
-    pub fn pour<O: Out>(&self, plan: &Plan, out: &mut O) -> Result<(), Failed>
-        ensures { Puts (O.told out.old) (O.told out.new) result (plan_text self.now.documents plan.now) }
-    {
-        pour_plan(&self.store, plan, out)
     }
 
     /// Asks whether a shell is there and has a reference to a submodel, as all that goes through the shell to the submodel

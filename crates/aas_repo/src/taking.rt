@@ -1,16 +1,27 @@
 // A command is taken, before the keeper is called.
 ghost use Rattle.std.specs.Prelude.{false};
 ghost use Rattle.aas_command.specs.Commands.{IsWellFormed};
-ghost use Rattle.aas_repo.specs.Decisions.{IsDecision, IsTaken};
+ghost use Rattle.aas_repo_elements.specs.Decisions.{IsDecision};
+ghost use Rattle.aas_repo.specs.Decisions.{IsTaken};
 ghost use Rattle.aas_step.specs.Valid.{AreValid};
 
 use crate::deciding::decide;
-use crate::decision::{Decision, Taken};
-use aas_command::{Command, EncodeFault, encode};
-use aas_outside::Keeper;
+use aas_command::{Command, EncodeFault, Refusal, encode};
+use aas_outside::{Frame, Keeper};
+use aas_repo_elements::Decision;
 use aas_step::documents_stay_valid;
 use aas_store::Store;
 use std::alloc::Global;
+
+/// What became of a command that was taken, before it is kept.
+#[derive(Drop)]
+pub(crate) enum Taken {
+    /// The store has what the command makes, and there is room to keep its frame.
+    Made(Frame),
+    /// The store is as it was, and so at `NoMemory`.
+    Refused(Refusal),
+    NoMemory,
+}
 
 /// Refuses the command, or makes its change in the store and its frame for the keeper. The causes are tried from the left;
 /// whether there is room is asked before, and the answer is used last.

@@ -1,11 +1,16 @@
 //! What a command comes to: why it is refused, or what it makes of the documents. Commands themselves and their payloads
-//! belong below, the code that takes them above. It has nothing to run: a law stands on a function that does nothing.
+//! belong below, the code that takes them above. A law stands on a function that does nothing; what runs here are the words
+//! for an element that isn't there.
 
 #![tactic(auto)]
+
+mod lost;
 
 ghost use Rattle.aas_step.specs.Laws.{OneResult, StaysValid, ValidIsStorable};
 ghost use Rattle.aas_step.specs.Valid.{AreValid};
 ghost use Rattle.aas_store.specs.Documents.{empty};
+
+pub use lost::{not_found, refusal_of};
 
 /// A command comes to one thing alone.
 pub fn commands_come_to_one_result()

@@ -1,0 +1,4 @@
+pub mod Accepted
+pub mod Decisions
+pub mod Patches
+pub mod Placing
