@@ -1,4 +1,5 @@
 mod Checkpointed
+mod ConformAnswers
 mod DemoTaken
 mod Early
 mod Exported

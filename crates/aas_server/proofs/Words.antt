@@ -65,3 +65,8 @@ pub no_option_in_two : (word count : List ℕ) (n most : ℕ) → most < 2 ^ 32 
 no_option_in_two word count n most small first within is =
     let second : begins_with_dash count ≡ false =
     ap begins_with_dash is ∙ above_dash (decimal n) (first_decimal n (omega (arith, within.0)) (omega (arith, small, within.1))) in cc
+
+-- nor with two words behind one
+pub no_option_in_three : (word a b : List ℕ) → begins_with_dash word ≡ false → begins_with_dash a ≡ false → begins_with_dash b ≡ false
+    → list_any begins_with_dash (word ∷ a ∷ b ∷ []) ≡ false
+no_option_in_three word a b first second third = cc

@@ -2,11 +2,12 @@
 use Rattle.std.specs.Prelude.{◌≡◌, ◌≤◌, ℕ, List, [], ◌∷◌, ◌==◌, Bool, false, codes, decimal, Option, Some, None, IfSome}
 use Rattle.std.specs.List.{list_any}
 use Rattle.aas_server.specs.declared.command_line.CommandLine.{CommandLine}
-use Rattle.aas_server.specs.declared.command_line.CommandLine.TheVariants.{Value, Init, Pipe, Serve, Check, Export, Import, Demo, Checkpoint}
+use Rattle.aas_server.specs.declared.command_line.CommandLine.TheVariants.{Value, Init, Pipe, Serve, Check, Export, Import, Demo, Checkpoint, Conform}
 use Rattle.aas_environment.specs.Environments.{export_text}
 use Rattle.aas_server.specs.Answer.{Says, done, exported, not_a_command}
 use Rattle.aas_server.specs.CheckText.{check_text}
 use Rattle.aas_server.specs.Checkpointing.{Checkpoints}
+use Rattle.aas_server.specs.Conforming.{IsConformAnswer}
 use Rattle.aas_server.specs.Ends.{ConsoleState, DiskState, WireState}
 use Rattle.aas_server.specs.Importing.{ImportsDemo, ImportsInput}
 use Rattle.aas_server.specs.Init.{Inits}
@@ -37,6 +38,7 @@ AreWordsOf Check words = words ≡ codes "check" ∷ []
 AreWordsOf Export words = words ≡ codes "export" ∷ []
 AreWordsOf Import words = words ≡ codes "import" ∷ []
 AreWordsOf Checkpoint words = words ≡ codes "checkpoint" ∷ []
+AreWordsOf (Conform template instance) words = words ≡ codes "conform" ∷ template.now ∷ instance.now ∷ []
 AreWordsOf (Demo count) words = IsCount most_properties count × (words ≡ codes "demo" ∷ decimal count ∷ [])
 AreWordsOf (Serve count) words =
     IsCount most_connections count × ((address : List ℕ) × (words ≡ codes "serve" ∷ address ∷ decimal count ∷ []))
@@ -53,15 +55,17 @@ Does view (Some Init) status old new wire_old wire_new disk_old disk_new =
 Does view (Some Pipe) status old new wire_old wire_new disk_old disk_new =
     Pipes status old new (view disk_old) (view disk_new) × (wire_new ≡ wire_old)
 Does view (Some Check) status old new wire_old wire_new disk_old disk_new =
-    Tells (λ d. done (check_text d)) status old new (view disk_old) (view disk_new) × (wire_new ≡ wire_old)
+    Tells (λ d answer. answer ≡ done (check_text d)) status old new (view disk_old) (view disk_new) × (wire_new ≡ wire_old)
 Does view (Some Export) status old new wire_old wire_new disk_old disk_new =
-    Tells (λ d. exported (export_text d)) status old new (view disk_old) (view disk_new) × (wire_new ≡ wire_old)
+    Tells (λ d answer. answer ≡ exported (export_text d)) status old new (view disk_old) (view disk_new) × (wire_new ≡ wire_old)
 Does view (Some Import) status old new wire_old wire_new disk_old disk_new =
     ImportsInput status old new (view disk_old) (view disk_new) × (wire_new ≡ wire_old)
 Does view (Some (Demo count)) status old new wire_old wire_new disk_old disk_new =
     ImportsDemo count status old new (view disk_old) (view disk_new) × (wire_new ≡ wire_old)
 Does view (Some Checkpoint) status old new wire_old wire_new disk_old disk_new =
     Checkpoints status old new (view disk_old) (view disk_new) × (wire_new ≡ wire_old)
+Does view (Some (Conform template instance)) status old new wire_old wire_new disk_old disk_new =
+    Tells (IsConformAnswer template.now instance.now) status old new (view disk_old) (view disk_new) × (wire_new ≡ wire_old)
 Does view (Some (Serve count)) status old new wire_old wire_new disk_old disk_new =
     Serves count status old new wire_old wire_new (view disk_old) (view disk_new)
 
@@ -76,6 +80,7 @@ statuses_of (Some Export) = 0 ∷ 3 ∷ 4 ∷ 5 ∷ 6 ∷ 10 ∷ 11 ∷ []
 statuses_of (Some Import) = 0 ∷ 3 ∷ 4 ∷ 5 ∷ 6 ∷ 7 ∷ 9 ∷ 10 ∷ []
 statuses_of (Some (Demo count)) = 0 ∷ 3 ∷ 4 ∷ 5 ∷ 6 ∷ 9 ∷ 10 ∷ []
 statuses_of (Some Checkpoint) = 0 ∷ 3 ∷ 4 ∷ 5 ∷ 6 ∷ 9 ∷ 10 ∷ []
+statuses_of (Some (Conform template instance)) = 0 ∷ 3 ∷ 4 ∷ 5 ∷ 6 ∷ 10 ∷ 7 ∷ []
 statuses_of (Some (Serve count)) = 0 ∷ 3 ∷ 4 ∷ 5 ∷ 6 ∷ 10 ∷ []
 
 -- ---- the words as a whole

@@ -3,6 +3,7 @@ pub mod Causes
 pub mod CheckText
 pub mod Checkpointing
 pub mod CommandLine
+pub mod Conforming
 pub mod Console
 pub mod Early
 pub mod Ends

@@ -7,18 +7,18 @@ use Rattle.aas_server.specs.Early.{EndsEarly}
 use Rattle.aas_server.specs.Ends.{ConsoleState, DiskState, IsUnwritten}
 use Rattle.aas_server.specs.Opening.{HasBegun, OpensAs}
 
--- The answer about the documents was given. The console wasn't read, and the disk only was.
-pub record IsTold (answer : Documents → Answer) (status : ℕ) (old new : ConsoleState) (disk_old disk_new : DiskState) : Type 0 where
+-- An answer about the documents was given. The console wasn't read, and the disk only was.
+pub record IsTold (IsAnswer : Documents → Answer → Type 0) (status : ℕ) (old new : ConsoleState) (disk_old disk_new : DiskState) : Type 0 where
   pub has_begun : HasBegun disk_old
-  pub says : (r : Repository Documents) → OpensAs disk_old r → Says (λ said. said ≡ answer r.documents) status old new
+  pub says : (r : Repository Documents) → OpensAs disk_old r → Says (IsAnswer r.documents) status old new
   pub unread : new.left ≡ old.left
   pub silent : status ≡ 10 → new ≡ old
   pub unwritten : IsUnwritten disk_old disk_new
 
--- no repository was begun, or the answer was given
-abbrev pub Tells : (Documents → Answer) → ℕ → ConsoleState → ConsoleState → DiskState → DiskState → Type 0
-Tells answer status old new disk_old disk_new =
-    EndsEarly status old new disk_old disk_new ⊎ IsTold answer status old new disk_old disk_new
+-- no repository was begun, or an answer was given
+abbrev pub Tells : (Documents → Answer → Type 0) → ℕ → ConsoleState → ConsoleState → DiskState → DiskState → Type 0
+Tells IsAnswer status old new disk_old disk_new =
+    EndsEarly status old new disk_old disk_new ⊎ IsTold IsAnswer status old new disk_old disk_new
 
 -- the statuses of each command that opens a journal, and others
 abbrev pub statuses_with : List ℕ → List ℕ

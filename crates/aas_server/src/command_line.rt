@@ -13,7 +13,7 @@ const MOST_PROPERTIES: u32 = 65_536;
 
 /// What the words of the command line ask for.
 #[derive(Clone, Copy)]
-pub enum CommandLine {
+pub enum CommandLine<'a> {
     /// The value form of the element on the console.
     Value,
     /// A journal without payloads on the disk.
@@ -21,7 +21,9 @@ pub enum CommandLine {
     /// The repository on the disk, and the console as its one connection.
     Pipe,
     /// The repository on the disk, and so many connections of a wire, 1 to 1,000,000. The address stands in the words.
-    Serve { count: u32 },
+    Serve {
+        count: u32,
+    },
     /// Which references lead nowhere in the documents on the disk.
     Check,
     /// The documents on the disk as one environment.
@@ -29,25 +31,32 @@ pub enum CommandLine {
     /// The environment on the console, put into the documents on the disk.
     Import,
     /// The same of an environment with so many properties, 1 to 65,536.
-    Demo { count: u32 },
+    Demo {
+        count: u32,
+    },
     /// A journal of one record in the place of the one on the disk.
     Checkpoint,
+    /// Whether a submodel conforms to a template, both on the disk. Each word stands for an identifier.
+    Conform {
+        template: &'a Text,
+        instance: &'a Text,
+    },
 }
 
 /// The command that the words ask for, or `None` where they ask for none.
-pub fn command_of(words: &Many<Text>) -> Option<CommandLine>
+pub fn command_of(words: &Many<Text>) -> Option<CommandLine<'_>>
     ensures { IsAsked words.now result }
 {
     match words.as_slice() {
         [word] => lone(word),
         [word, count] => showing(word, count),
-        [word, address, count] => serving(word, address, count),
+        [word, first, second] => with_two(word, first, second),
         _ => None,
     }
 }
 
 /// The command of one word.
-fn lone(word: &Text) -> Option<CommandLine>
+fn lone<'a>(word: &Text) -> Option<CommandLine<'a>>
     ensures { IsAsked (word.now ∷ []) result }
 {
     match word.as_str() {
@@ -63,7 +72,7 @@ fn lone(word: &Text) -> Option<CommandLine>
 }
 
 /// The command of `demo` and a count.
-fn showing(word: &Text, count: &Text) -> Option<CommandLine>
+fn showing<'a>(word: &Text, count: &Text) -> Option<CommandLine<'a>>
     ensures { IsAsked (word.now ∷ count.now ∷ []) result }
 {
     if word.as_str() != "demo" {
@@ -75,16 +84,23 @@ fn showing(word: &Text, count: &Text) -> Option<CommandLine>
     }
 }
 
-/// The command of `serve`, an address and a count.
-fn serving(word: &Text, address: &Text, count: &Text) -> Option<CommandLine>
-    ensures { IsAsked (word.now ∷ address.now ∷ count.now ∷ []) result }
+/// The command of `serve`, an address and a count, or of `conform` and two words that stand for identifiers.
+fn with_two<'a>(word: &Text, first: &'a Text, second: &'a Text) -> Option<CommandLine<'a>>
+    ensures { IsAsked (word.now ∷ first.now ∷ second.now ∷ []) result }
 {
-    if word.as_str() != "serve" || is_option(address) {
+    if is_option(first) || is_option(second) {
         return None;
     }
-    match count_of(count, MOST_CONNECTIONS) {
-        Some(count) => Some(CommandLine::Serve { count }),
-        None => None,
+    match word.as_str() {
+        "serve" => match count_of(second, MOST_CONNECTIONS) {
+            Some(count) => Some(CommandLine::Serve { count }),
+            None => None,
+        },
+        "conform" => Some(CommandLine::Conform {
+            template: first,
+            instance: second,
+        }),
+        _ => None,
     }
 }
 

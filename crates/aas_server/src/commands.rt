@@ -13,6 +13,7 @@ ghost use Rattle.aas_store.specs.Documents.{empty};
 
 use crate::checkpointing::checkpoint;
 use crate::command_line::{CommandLine, command_of};
+use crate::conforming::Conform;
 use crate::console::{end_refused, end_with, read_input};
 use crate::importing::{demo, import};
 use crate::serving::{pipe, serve};
@@ -89,10 +90,12 @@ pub fn run_over<S: Store + Drop, C: Link, W: Wire, D: Disk>(
             disk,
         },
         Some(CommandLine::Pipe) => pipe(alloc, store, console, disk),
-        Some(CommandLine::Check) => tell::<DanglingReferences, S, C, D>(
-            alloc, store, console, disk,
-        ),
-        Some(CommandLine::Export) => tell::<Export, S, C, D>(alloc, store, console, disk),
+        Some(CommandLine::Check) => tell(alloc, &DanglingReferences, store, console, disk),
+        Some(CommandLine::Export) => tell(alloc, &Export, store, console, disk),
+        Some(CommandLine::Conform { template, instance }) => {
+            let conform = Conform { template, instance };
+            tell(alloc, &conform, store, console, disk)
+        }
         Some(CommandLine::Import) => import(alloc, store, console, disk),
         Some(CommandLine::Demo { count }) => demo(alloc, store, console, count, disk),
         Some(CommandLine::Checkpoint) => checkpoint(alloc, store, console, disk),

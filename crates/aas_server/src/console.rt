@@ -79,7 +79,7 @@ pub fn end_refused<L: Link>(alloc: Global, link: &mut L, refusal: &Refusal) -> S
         × (L.sent link.new ≡ append_known (L.sent link.old) (refused refusal.now).text) }
     ensures front { exit_code result ≡ 3 → (refusal.now ≢ Refusal.NoMemory)
         × GivesFront (L.sent link.old) (L.sent link.new) (refused refusal.now).text }
-    ensures memory { exit_code result ≡ 10 → L.sent link.new ≡ L.sent link.old }
+    ensures memory { exit_code result ≡ 10 → link.new ≡ link.old }
     ensures fault { exit_code result ≡ 3 → Rose (L.faults link.old) (L.faults link.new) }
     ensures later { L.faults link.old ≤ L.faults link.new }
     ensures left { L.left link.new ≡ L.left link.old }

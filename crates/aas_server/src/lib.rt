@@ -7,6 +7,7 @@ mod check_text;
 mod checkpointing;
 mod command_line;
 mod commands;
+mod conforming;
 mod console;
 mod importing;
 mod laws;
@@ -21,8 +22,3 @@ mod value;
 pub use commands::{Ran, run, run_over};
 pub use laws::{files_open_one_way, sessions_replay};
 pub use status::Status;
-
-#[cfg(test)]
-mod room_tests;
-#[cfg(test)]
-mod tests;

@@ -27,18 +27,20 @@ use std::alloc::Global;
 
 /// What is answered about documents.
 pub(crate) trait Report {
-    ghost answer: { Documents → Answer };
+    /// Whether it is an answer about the documents.
+    ghost answers: { Self → Documents → Answer → Type 0 };
 
     /// The statuses that it has besides those of each command that opens a journal.
     ghost others: { List ℕ };
 
-    /// Gives the answer about the repository's documents to the console, or nothing for want of memory.
+    /// Gives an answer about the repository's documents to the console, or nothing for want of memory.
     fn give<S: Store, K: Keeper, C: Link>(
+        &self,
         alloc: Global,
         repo: &Repo<S, K>,
         console: &mut C,
     ) -> Status
-        ensures says { Says (λ said. said ≡ answer repo.now.documents) (exit_code result)
+        ensures says { Says (answers self.now repo.now.documents) (exit_code result)
             (console_of C.left C.sent C.faults console.old) (console_of C.left C.sent C.faults console.new) }
         ensures unread { C.left console.new ≡ C.left console.old }
         ensures silent { exit_code result ≡ 10 →
@@ -50,11 +52,12 @@ pub(crate) trait Report {
 pub(crate) struct DanglingReferences;
 
 impl Report for DanglingReferences {
-    ghost answer = { λ d. done (check_text d) };
+    ghost answers = { λ _ d answer. answer ≡ done (check_text d) };
 
     ghost others = { [] };
 
     fn give<S: Store, K: Keeper, C: Link>(
+        &self,
         alloc: Global,
         repo: &Repo<S, K>,
         console: &mut C,
@@ -70,11 +73,12 @@ impl Report for DanglingReferences {
 pub(crate) struct Export;
 
 impl Report for Export {
-    ghost answer = { λ d. exported (export_text d) };
+    ghost answers = { λ _ d answer. answer ≡ exported (export_text d) };
 
     ghost others = { 11 ∷ [] };
 
     fn give<S: Store, K: Keeper, C: Link>(
+        &self,
         _alloc: Global,
         repo: &Repo<S, K>,
         console: &mut C,
@@ -89,15 +93,16 @@ impl Report for Export {
     }
 }
 
-/// Gives the answer about the documents on the disk to the console.
+/// Gives an answer about the documents on the disk to the console.
 pub(crate) fn tell<R: Report, S: Store + Drop, C: Link, D: Disk>(
     alloc: Global,
+    report: &R,
     store: S,
     console: &mut C,
     disk: D,
 ) -> Ran<D>
     requires empty { S.documents store ≡ empty }
-    ensures does { Tells R.answer result.status
+    ensures does { Tells (R.answers report.now) result.status
         (console_of C.left C.sent C.faults console.old) (console_of C.left C.sent C.faults console.new)
         (disk_of D.seen D.moment D.left_at D.faults disk) (disk_of D.seen D.moment D.left_at D.faults result.disk) }
     ensures statuses { Contains (statuses_with R.others) result.status }
@@ -108,7 +113,7 @@ pub(crate) fn tell<R: Report, S: Store + Drop, C: Link, D: Disk>(
     payloads_replay_to_one_state();
     match open(alloc, store, disk) {
         Ok(repo) => {
-            let status = R::give(alloc, &repo, console);
+            let status = report.give(alloc, &repo, console);
             Ran {
                 status: status.exit_code(),
                 disk: repo.into_keeper().into_disk(),

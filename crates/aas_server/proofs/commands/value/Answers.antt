@@ -1,4 +1,4 @@
-use Rattle.std.proofs.Common.{◌≡◌, ◌∙◌, refl, inr, arith, rules}
+use Rattle.std.proofs.Common.{◌≡◌, ◌∙◌, refl, ap, inr, arith, rules}
 use Rattle.std.specs.Io.KnownBytes.{append_known}
 use Rattle.aas_server.specs.Answer.{done, refused}
 use Rattle.aas_server.specs.Status.{exit_code}
@@ -37,7 +37,7 @@ returns-in-Err-Refused-clause-says g c = record {
         front_moved _ _ _ _ _ c.value_text.ensures.sent refl front.1,
       );
   fault = λ is. omega (arith, c.value_text.ensures.later, c.end_refused.ensures.fault is);
-  memory = λ is. c.end_refused.ensures.memory is ∙ c.value_text.ensures.sent;
+  memory = λ is. ap g.C.Link.sent (c.end_refused.ensures.memory is) ∙ c.value_text.ensures.sent;
 }
 
 pub returns-in-Err-Refused-clause-statuses : goal.returns-in-Err-Refused-clause-statuses

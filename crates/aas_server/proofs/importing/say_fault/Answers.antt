@@ -13,7 +13,7 @@ returns-in-Read-clause-says g c = let C = g.C.Link in
     (λ answer is. subst (λ (f : ImportFault). IsFaultAnswer f answer) (sym c.in-Read.is) (is ∙ ap refused c.from.ensures))
     (says_refused c.from.result (exit_code c.end_refused.result)
     (console_of C.left C.sent C.faults c.args.console.now) (console_of C.left C.sent C.faults c.end_refused.new.link)
-    c.end_refused.ensures.given c.end_refused.ensures.front c.end_refused.ensures.fault c.end_refused.ensures.memory c.end_refused.ensures.statuses)
+    c.end_refused.ensures.given c.end_refused.ensures.front c.end_refused.ensures.fault (λ ten. ap C.sent (c.end_refused.ensures.memory ten)) c.end_refused.ensures.statuses)
 
 pub returns-in-Full-clause-says : goal.returns-in-Full-clause-says
 returns-in-Full-clause-says g c = let C = g.C.Link in

@@ -15,7 +15,7 @@ returns-in-Ok-clause-does g c =
     rw c.into_disk.ensures
     (rw c.into_keeper.ensures
     (rw c.exit_code.ensures
-    (inr (told c.have_one_list.ensures c.payloads_replay_to_one_state.ensures g.R.Report.answer (exit_code c.give-status.result)
+    (inr (told c.have_one_list.ensures c.payloads_replay_to_one_state.ensures (g.R.Report.answers c.args.report.now) (exit_code c.give-status.result)
     (console_of C.left C.sent C.faults c.args.console.now) (console_of C.left C.sent C.faults c.give-status.new.console)
     (disk_of D.seen D.moment D.left_at D.faults c.args.disk) (disk_of D.seen D.moment D.left_at D.faults (disk_in opened.keeper))
     (record {
