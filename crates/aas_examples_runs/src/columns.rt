@@ -1,11 +1,11 @@
 // The further columns of an example. Each is `NAME=VALUE`, with tabs between them. `disk.rt` says what those of the
-// disk mean, `runs.rt` those of the console, `fronts.rt` what `ends` means, and `capabilities.rt` what `capabilities`
-// means.
+// disk mean, `runs.rt` those of the console, `wire.rt` those of the wire, `fronts.rt` what `ends` means, and
+// `capabilities.rt` what `capabilities` means.
 use crate::not_run::NotRun;
 use std::alloc::Global;
 
 /// What a column may be named.
-const NAMES: [&str; 14] = [
+const NAMES: [&str; 17] = [
     "files",
     "main",
     "spare",
@@ -20,6 +20,9 @@ const NAMES: [&str; 14] = [
     "input",
     "ends",
     "capabilities",
+    "connections",
+    "replies",
+    "broken",
 ];
 
 /// Whether each column has one of the names.

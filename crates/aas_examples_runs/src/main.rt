@@ -1,9 +1,10 @@
 //! Worked examples of whole runs. Each line of the input is an example: the words of the command line, the status,
 //! what the console gets and what it is given, with tabs between them; the last two are JSON strings. Further columns
 //! say what its disk begins with, which of its calls fail and what the run leaves (`disk.rt`), which calls of the
-//! console fail (`runs.rt`), and that each front of the input is run too (`fronts.rt`). Each is run with its bytes in
-//! pieces of three sizes, and over both stores. Lines that begin with `row_mut` are of rows that a store lends
-//! (`rows.rt`). Printed are the examples that give something else, and how many there are in all.
+//! console fail (`runs.rt`), what connections come on its wire (`wire.rt`), and that each front of the input is run too
+//! (`fronts.rt`). Each is run with its bytes in pieces of three sizes, and over both stores. Lines that begin with
+//! `row_mut` are of rows that a store lends (`rows.rt`), those with `keeper` of a keeper in memory (`keepers.rt`). Printed
+//! are the examples that give something else, and how many there are in all.
 //!
 //! No definition and no rule stands here.
 
@@ -14,9 +15,11 @@ mod columns;
 mod disk;
 mod example;
 mod fronts;
+mod keepers;
 mod not_run;
 mod rows;
 mod runs;
+mod wire;
 
 use crate::example::Example;
 use crate::not_run::NotRun;
@@ -64,12 +67,32 @@ fn all_runs(alloc: Global) -> Result<Vec<Runs>, NotRun> {
 /// What the example in a line gives, where that isn't what is expected.
 fn failure(alloc: Global, line: &str, runs: &mut [Runs]) -> Result<Option<String>, NotRun> {
     let example = Example::read(alloc, line)?;
-    if rows::is_of_row(&example) {
-        return rows::failure(alloc, &example);
+    given(alloc, &example, runs)
+}
+
+fn given(
+    alloc: Global,
+    example: &Example<'_>,
+    runs: &mut [Runs],
+) -> Result<Option<String>, NotRun> {
+    match example.words.as_slice() {
+        [word, rank, paths @ ..] if word.as_str() == "row_mut" => {
+            rows::failure(alloc, example, rank, paths)
+        }
+        [word, room] if word.as_str() == "keeper" => keepers::failure(alloc, example, room),
+        _ => first_failure(alloc, example, runs),
     }
+}
+
+fn first_failure(
+    alloc: Global,
+    example: &Example<'_>,
+    runs: &mut [Runs],
+) -> Result<Option<String>, NotRun> {
     for one in runs.iter_mut() {
-        if let Some(given) = one.failure(alloc, &example)? {
-            return Ok(Some(given));
+        let given = one.failure(alloc, example)?;
+        if given.is_some() {
+            return Ok(given);
         }
     }
     Ok(None)

@@ -4,13 +4,10 @@ ghost use Rattle.aas_store.specs.Storable.{IsStorable};
 
 use crate::columns::number_of;
 use crate::example::Example;
+use crate::keepers::{console, served};
 use crate::not_run::NotRun;
-use aas_api_service::Service;
 use aas_model::{NoMemory, Path, Payload, Submodel, Text, ValueType};
-use aas_outside::{MemKeeper, MemLink};
 use aas_path::parse_path;
-use aas_repo::Repo;
-use aas_session::{Intake, serve_connection};
 use aas_sheet::SheetStore;
 use aas_sheet_rows::Row;
 use aas_step::{no_documents_are_valid, valid_submodels_are_storable};
@@ -19,31 +16,20 @@ use std::alloc::Global;
 
 const ID: &str = "urn:x1";
 
-/// The most bytes that the console takes.
-const CAPACITY: usize = 1_000_000;
-
 /// The most bytes of frames that the keeper takes.
 const ROOM: usize = 65_536;
 
-/// The most bytes that a call of the console moves.
-const PIECE: usize = 4096;
-
-/// Whether the example is one of a row that is lent.
-pub(crate) fn is_of_row(example: &Example<'_>) -> bool {
-    matches!(example.words.as_slice(), [word, ..] if word.as_str() == "row_mut")
-}
-
 /// What stands at the paths behind the loan, where that isn't what is expected.
-pub(crate) fn failure(alloc: Global, example: &Example<'_>) -> Result<Option<String>, NotRun> {
-    let [_, rank, paths @ ..] = example.words.as_slice() else {
-        return Err(NotRun::Unreadable);
-    };
+pub(crate) fn failure(
+    alloc: Global,
+    example: &Example<'_>,
+    rank: &Text,
+    paths: &[Text],
+) -> Result<Option<String>, NotRun> {
+    let rank = number_of(rank.as_str())?;
     let mut store = SheetStore::new(alloc);
-    store.put_submodel(stored(alloc, &example.input)?)?;
-    match store.row_mut(ID, number_of(rank.as_str())?) {
-        Some(row) => write(alloc, row)?,
-        None => return Err(NotRun::Unreadable),
-    }
+    keep(alloc, &mut store, &example.input)?;
+    lend(alloc, &mut store, rank)?;
     let told = values(alloc, &store, paths)?;
     if *told == *example.console {
         return Ok(None);
@@ -51,27 +37,30 @@ pub(crate) fn failure(alloc: Global, example: &Example<'_>) -> Result<Option<Str
     Ok(Some(told))
 }
 
-/// The submodel that these requests leave.
-fn stored(alloc: Global, requests: &[u8]) -> Result<Submodel, NotRun>
-    ensures { IfOk result (λ submodel. IsStorable submodel) }
-{
-    valid_submodels_are_storable();
-    let service = served(alloc, requests)?;
-    match service.repo.store().submodel(ID)? {
-        Some(submodel) => Ok(submodel),
+fn keep(alloc: Global, store: &mut SheetStore, requests: &[u8]) -> Result<(), NotRun> {
+    let submodel = stored(alloc, requests)?;
+    Ok(store.put_submodel(submodel)?)
+}
+
+fn lend(alloc: Global, store: &mut SheetStore, rank: u64) -> Result<(), NotRun> {
+    match store.row_mut(ID, rank) {
+        Some(row) => Ok(write(alloc, row)?),
         None => Err(NotRun::Unreadable),
     }
 }
 
-/// A repository of tables behind its interface, which has served these requests.
-fn served(alloc: Global, requests: &[u8]) -> Result<Service<SheetStore, MemKeeper>, NotRun> {
+/// The submodel that these requests leave.
+fn stored(alloc: Global, requests: &[u8]) -> Result<Submodel, NotRun>
+    ensures { IfOk result (λ submodel. IsStorable submodel) }
+{
     no_documents_are_valid();
-    let mut console = MemLink::new(alloc, requests, PIECE, CAPACITY, &[])?;
-    let keeper = MemKeeper::new(alloc, ROOM, &[])?;
-    let mut service = Service::new(alloc, Repo::new(alloc, SheetStore::new(alloc), keeper));
-    let mut intake = Intake::new(alloc)?;
-    serve_connection(&mut service, &mut console, &mut intake);
-    Ok(service)
+    valid_submodels_are_storable();
+    let mut console = console(alloc, requests)?;
+    let service = served(alloc, SheetStore::new(alloc), ROOM, &mut console)?;
+    match service.repo.store().submodel(ID)? {
+        Some(submodel) => Ok(submodel),
+        None => Err(NotRun::Unreadable),
+    }
 }
 
 /// Puts a text as the row's value, and an idShort, which counts for nothing.

@@ -4,14 +4,17 @@
 // - `lost`: the numbers of its calls that fail, with commas between them.
 // - `least`: the console gets only a front of what the line says, of at least so many bytes.
 // - `input`: `bytes` says that each character of what it is given, up to U+00FF, is one byte (`example.rt`).
+ghost use Rattle.std.specs.Prelude.{◌≤◌};
+
 use crate::columns::{column, number, number_of, numbers};
-use crate::disk::{beginning, initialised, is_after_crash, unexpected};
+use crate::disk::{initialised, is_after_crash};
 use crate::example::Example;
-use crate::fronts::fronts;
+use crate::fronts::{Front, fronts};
 use crate::not_run::NotRun;
-use aas_model::NoMemory;
-use aas_outside::{MemLink, MemWire};
-use aas_outside_disk::MemDisk;
+use crate::{disk, wire};
+use aas_model::{Many, NoMemory, Text};
+use aas_outside::{Link, MemLink, MemWire, Wire};
+use aas_outside_disk::{Disk, MemDisk};
 use aas_server::{Ran, run, run_over};
 use aas_store::TreeStore;
 use std::alloc::Global;
@@ -24,6 +27,15 @@ pub(crate) enum Kind {
     Trees,
 }
 
+impl Kind {
+    pub(crate) fn name(self) -> &'static str {
+        match self {
+            Kind::Tables => "tables",
+            Kind::Trees => "trees",
+        }
+    }
+}
+
 /// Runs over a store of one kind, whose console moves its bytes in pieces of one size.
 #[derive(Drop)]
 pub(crate) struct Runs {
@@ -31,6 +43,15 @@ pub(crate) struct Runs {
     piece: u64,
     /// The disk as the last run left it that doesn't itself begin after a crash.
     left: MemDisk,
+}
+
+/// A run that has ended, with what it had.
+#[derive(Drop)]
+struct Ended {
+    status: u8,
+    console: MemLink,
+    wire: MemWire,
+    disk: MemDisk,
 }
 
 impl Runs {
@@ -48,43 +69,71 @@ impl Runs {
         alloc: Global,
         example: &Example<'_>,
     ) -> Result<Option<String>, NotRun> {
-        for front in fronts(alloc, example)? {
-            let (console, ran) = self.ran(alloc, example, &front.input)?;
-            if ran.status != 0 || *console.sent() != *front.console {
-                let given = self.told(alloc, ran.status, console.sent())?;
-                let count = front.input.len();
-                return Ok(Some(format!(in alloc; "of {count} bytes, {given}")?));
+        let fronts = fronts(alloc, example)?;
+        let given = self.failure_of_fronts(alloc, example, &fronts)?;
+        if given.is_some() {
+            return Ok(given);
+        }
+        self.failure_of_whole(alloc, example)
+    }
+
+    fn failure_of_fronts(
+        &self,
+        alloc: Global,
+        example: &Example<'_>,
+        fronts: &[Front],
+    ) -> Result<Option<String>, NotRun> {
+        for front in fronts {
+            let given = self.failure_of_front(alloc, example, front)?;
+            if given.is_some() {
+                return Ok(given);
             }
         }
-        let (console, ran) = self.ran(alloc, example, &example.input)?;
-        let given = self.difference(alloc, example, &console, &ran)?;
-        self.leave(example, ran.disk);
-        Ok(given)
+        Ok(None)
     }
 
-    /// A run of the example with this input, and its console.
-    fn ran(
+    fn failure_of_front(
         &self,
         alloc: Global,
         example: &Example<'_>,
-        input: &[u8],
-    ) -> Result<(MemLink, Ran<MemDisk>), NotRun> {
-        let mut console = self.console(alloc, example, input)?;
-        let disk = beginning(alloc, example.columns, &self.left)?;
-        let ran = ran_on(alloc, self.kind, example, &mut console, disk)?;
-        Ok((console, ran))
+        front: &Front,
+    ) -> Result<Option<String>, NotRun> {
+        let ended = self.run(alloc, example, &front.input)?;
+        self.difference_of_front(alloc, front, &ended)
     }
 
-    fn console(
+    fn difference_of_front(
         &self,
         alloc: Global,
+        front: &Front,
+        ended: &Ended,
+    ) -> Result<Option<String>, NotRun> {
+        if ended.status == 0 && *ended.console.sent() == *front.console {
+            return Ok(None);
+        }
+        let given = self.told(alloc, ended)?;
+        let count = front.input.len();
+        Ok(Some(format!(in alloc; "of {count} bytes, {given}")?))
+    }
+
+    fn failure_of_whole(
+        &mut self,
+        alloc: Global,
         example: &Example<'_>,
-        input: &[u8],
-    ) -> Result<MemLink, NotRun> {
-        let piece = number(example.columns, "piece", self.piece)?;
-        let lost = numbers(alloc, example.columns, "lost")?;
-        let room = example.room_for_console();
-        Ok(MemLink::new(alloc, input, (piece as usize).max(1), room, &lost)?)
+    ) -> Result<Option<String>, NotRun> {
+        let ended = self.run(alloc, example, &example.input)?;
+        let given = self.difference(alloc, example, &ended);
+        self.leave(example, ended);
+        given
+    }
+
+    /// A run of the example with this input.
+    fn run(&self, alloc: Global, example: &Example<'_>, input: &[u8]) -> Result<Ended, NotRun> {
+        let piece = number(example.columns, "piece", self.piece)? as usize;
+        let console = console(alloc, example, input, piece.max(1))?;
+        let wire = wire::beginning(alloc, example.columns, piece.max(1))?;
+        let disk = disk::beginning(alloc, example.columns, &self.left)?;
+        Ok(run_on(alloc, self.kind, &example.words, console, wire, disk))
     }
 
     /// What the run gives, where that isn't what is expected.
@@ -92,47 +141,83 @@ impl Runs {
         &self,
         alloc: Global,
         example: &Example<'_>,
-        console: &MemLink,
-        ran: &Ran<MemDisk>,
+        ended: &Ended,
     ) -> Result<Option<String>, NotRun> {
-        if ran.status == example.status && is_expected(example, console.sent())? {
-            return unexpected(alloc, example.columns, &ran.disk);
+        if ended.status != example.status || !is_expected(example, ended.console.sent())? {
+            return Ok(Some(self.told(alloc, ended)?));
         }
-        Ok(Some(self.told(alloc, ran.status, console.sent())?))
+        let given = wire::unexpected(alloc, example.columns, &ended.wire)?;
+        if given.is_some() {
+            return Ok(given);
+        }
+        disk::unexpected(alloc, example.columns, &ended.disk)
     }
 
-    fn told(&self, alloc: Global, status: u8, console: &[u8]) -> Result<String, NotRun> {
-        let store = match self.kind {
-            Kind::Tables => "tables",
-            Kind::Trees => "trees",
-        };
-        let text = str::from_utf8(console).unwrap_or("not UTF-8");
+    fn told(&self, alloc: Global, ended: &Ended) -> Result<String, NotRun> {
+        let store = self.kind.name();
+        let status = ended.status;
+        let text = str::from_utf8(ended.console.sent()).unwrap_or("not UTF-8");
         Ok(format!(in alloc; "over {store}, status {status}, {text}")?)
     }
 
-    fn leave(&mut self, example: &Example<'_>, disk: MemDisk) {
+    fn leave(&mut self, example: &Example<'_>, ended: Ended) {
         if !is_after_crash(example.columns) {
-            self.left = disk;
+            self.left = ended.disk;
         }
     }
 }
 
-fn ran_on(
+fn console(
+    alloc: Global,
+    example: &Example<'_>,
+    input: &[u8],
+    piece: usize,
+) -> Result<MemLink, NotRun>
+    requires { 1 ≤ piece }
+{
+    let lost = numbers(alloc, example.columns, "lost")?;
+    Ok(MemLink::new(alloc, input, piece, example.room_for_console(), &lost)?)
+}
+
+fn run_on(
     alloc: Global,
     kind: Kind,
-    example: &Example<'_>,
-    console: &mut MemLink,
+    words: &Many<Text>,
+    mut console: MemLink,
+    mut wire: MemWire,
     disk: MemDisk,
-) -> Result<Ran<MemDisk>, NotRun> {
-    let mut wire = MemWire::new(alloc, 1, 0, &[])?;
-    let words = &example.words;
-    match kind {
-        Kind::Tables => Ok(run(alloc, words, console, &mut wire, disk)),
-        Kind::Trees => {
-            let store = TreeStore::new(alloc);
-            Ok(run_over(alloc, store, words, console, &mut wire, disk))
-        }
+) -> Ended {
+    let ran = match kind {
+        Kind::Tables => over_tables(alloc, words, &mut console, &mut wire, disk),
+        Kind::Trees => over_trees(alloc, words, &mut console, &mut wire, disk),
+    };
+    Ended {
+        status: ran.status,
+        console,
+        wire,
+        disk: ran.disk,
     }
+}
+
+// These two are generic and promise nothing, so that no proof looks into what a run promises.
+fn over_tables<C: Link, W: Wire, D: Disk>(
+    alloc: Global,
+    words: &Many<Text>,
+    console: &mut C,
+    wire: &mut W,
+    disk: D,
+) -> Ran<D> {
+    run(alloc, words, console, wire, disk)
+}
+
+fn over_trees<C: Link, W: Wire, D: Disk>(
+    alloc: Global,
+    words: &Many<Text>,
+    console: &mut C,
+    wire: &mut W,
+    disk: D,
+) -> Ran<D> {
+    run_over(alloc, TreeStore::new(alloc), words, console, wire, disk)
 }
 
 /// Whether the console gets what the line says, or so much of it.

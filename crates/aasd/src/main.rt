@@ -1,29 +1,18 @@
 //! `aasd`: the commands of `aas_server` on the console, over TCP and over files.
 //!
-//! Nothing is decided here: the real ends stand here, and what they tell is trusted.
+//! Nothing is decided here: the words of the command line are run on the real ends.
 #![tactic(auto)]
 
-mod arrivals;
-mod calls;
-mod closed;
-mod console;
-mod faults;
-mod file_disk;
-mod folder;
-mod patience;
-mod tcp_wire;
-
 use aas_model_text::{Many, NoMemory, Text};
-use aas_outside_disk::ReadAhead;
+use aas_outside::{Link, Wire};
+use aas_outside_disk::{Disk, ReadAhead};
+use aas_real_ends::{ConsoleLink, FileDisk, TcpWire, take_closed};
 use aas_server::{Status, run};
-use closed::take_closed;
-use console::ConsoleLink;
-use file_disk::FileDisk;
+use std::alloc::Global;
 use std::env;
 use std::io::ErrorKind;
 use std::process::ExitCode;
 use std::rt::Env;
-use tcp_wire::TcpWire;
 
 fn main(rt: HostRuntime) -> ExitCode {
     let status = match run_on(&rt) {
@@ -36,11 +25,25 @@ fn main(rt: HostRuntime) -> ExitCode {
 /// Runs the words of the command line on the real console, the real wire and the real disk.
 fn run_on(rt: &HostRuntime) -> Result<u8, NoMemory> {
     let _taken = take_closed(rt);
-    let words = words(rt)?;
-    let mut console = ConsoleLink::new(rt.stdin(), rt.stdout());
-    let mut wire = TcpWire::new(rt.clone()?);
+    run_on_ends(rt, &words(rt)?)
+}
+
+fn run_on_ends(rt: &HostRuntime, words: &Many<Text>) -> Result<u8, NoMemory> {
+    let wire = TcpWire::new(rt.clone()?);
     let disk = ReadAhead::new(rt.alloc(), FileDisk::new(rt))?;
-    Ok(run(rt.alloc(), &words, &mut console, &mut wire, disk).status)
+    let console = ConsoleLink::new(rt.stdin(), rt.stdout());
+    Ok(status_of(rt.alloc(), words, console, wire, disk))
+}
+
+// Generic, so that no proof looks into what the real ends are.
+fn status_of<C: Link + Drop, W: Wire + Drop, D: Disk + Drop>(
+    alloc: Global,
+    words: &Many<Text>,
+    mut console: C,
+    mut wire: W,
+    disk: D,
+) -> u8 {
+    run(alloc, words, &mut console, &mut wire, disk).status
 }
 
 /// The words of the command line, without the program's name. Where one of them isn't UTF-8 they
@@ -61,6 +64,3 @@ fn words(rt: &(impl Env + AllocGlobal)) -> Result<Many<Text>, NoMemory> {
     }
     Ok(words)
 }
-
-#[cfg(test)]
-mod tests;

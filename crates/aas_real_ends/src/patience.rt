@@ -2,7 +2,7 @@
 ghost use Rattle.std.specs.Prelude.{◌≡◌, ◌↔◌, IsTrue};
 ghost use Rattle.std.specs.Io.{ReadsAtMost};
 ghost use Rattle.std.specs.IoError.{error_kind};
-ghost use Rattle.aasd.specs.TcpWire.{ReadsFront};
+ghost use Rattle.aas_real_ends.specs.TcpWire.{ReadsFront};
 
 use crate::arrivals::Arrivals;
 use crate::calls::read;

@@ -1,6 +1,6 @@
 // The files of the journal in the current folder.
 ghost use Rattle.std.specs.Prelude.{IsSome, OnOk};
-ghost use Rattle.aasd.specs.Folder.{HasNoneOpen};
+ghost use Rattle.aas_real_ends.specs.Folder.{HasNoneOpen};
 
 use aas_outside_disk::Part;
 use std::fs::{File, Files, OpenFile, OpenOptions};

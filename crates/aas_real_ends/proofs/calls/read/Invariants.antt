@@ -1,5 +1,5 @@
 use Rattle.std.specs.Io.KnownBytes.{Keeps}
-use Rattle.aasd.proofs.calls.read.Given as goal
+use Rattle.aas_real_ends.proofs.calls.read.Given as goal
 
 -- calls that were interrupted moved nothing
 abbrev pub invariant-loop : goal.invariant-loop

@@ -3,7 +3,7 @@ ghost use Rattle.std.specs.Prelude.{◌≡◌, ◌≢◌, true, false, None, Som
 ghost use Rattle.std.specs.Io.KnownBytes.{WriteAppends};
 ghost use Rattle.aas_outside.specs.Faults.{HasCause};
 ghost use Rattle.aas_outside.specs.Link.{Takes, Gives};
-ghost use Rattle.aasd.specs.TcpWire.{ReadsFront, GoesOn};
+ghost use Rattle.aas_real_ends.specs.TcpWire.{ReadsFront, GoesOn};
 
 use crate::arrivals::Arrivals;
 use crate::calls::write;

@@ -2,8 +2,8 @@
 ghost use Rattle.std.specs.Prelude.{◌≡◌, None, IsSome, OnOk, length};
 ghost use Rattle.aas_outside.specs.Faults.{HasCause};
 ghost use Rattle.aas_outside_disk.specs.Disk.{Meanwhile, Tears};
-ghost use Rattle.aasd.specs.FileDisk.{AnyImage};
-ghost use Rattle.aasd.specs.Folder.{HasNoneOpen};
+ghost use Rattle.aas_real_ends.specs.FileDisk.{AnyImage};
+ghost use Rattle.aas_real_ends.specs.Folder.{HasNoneOpen};
 
 use crate::faults::FaultCount;
 use crate::folder::Folder;

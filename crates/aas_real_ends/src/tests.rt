@@ -3,10 +3,8 @@
 use crate::console::ConsoleLink;
 use crate::file_disk::FileDisk;
 use crate::tcp_wire::TcpWire;
-use aas_model_text::{Many, Text};
-use aas_outside::{Failed, Link, MemLink, Wire};
-use aas_outside_disk::{Disk, MemDisk, Part};
-use aas_server::run;
+use aas_outside::{Failed, Link, Wire};
+use aas_outside_disk::{Disk, Part};
 use std::fs::{File, Files};
 use std::io::{ErrorKind, Read, Write};
 use std::net::{Net, TcpStream};
@@ -110,29 +108,14 @@ fn a_wire_whose_first_peer_is_silent(rt: HostRuntime) -> Result<(), Fail> {
     Ok(())
 }
 
-/// How a run ends that serves one connection to this address, where it has listened there in vain before.
-fn end_of_serving(rt: &HostRuntime, address: &str) -> Result<Option<u8>, Fail> {
-    let alloc = rt.alloc();
-    let mut wire = TcpWire::new(rt.clone()?);
-    if wire.listen(address).is_ok() {
-        return Ok(None);
-    }
-    let mut console = MemLink::new(alloc, b"", 1, 0, &[])?;
-    let disk = MemDisk::new(alloc, b"AASJ0002\0", b"", b"", 4096, &[], 0)?;
-    let mut words = Many::new(alloc);
-    for word in ["serve", address, "1"] {
-        words.push(Text::from_str(alloc, word)?)?;
-    }
-    Ok(Some(run(alloc, &words, &mut console, &mut wire, disk).status))
-}
-
 #[test]
 fn addresses_that_nothing_can_listen_at(rt: HostRuntime) -> Result<(), Fail> {
     let mut other = TcpWire::new(rt.clone()?);
     let addresses = ["127.0.0.1:23794", "127.0.0.1:23795", "127.0.0.1:23796"];
     let taken = listens(&mut other, addresses)?;
+    let mut wire = TcpWire::new(rt.clone()?);
     for address in [taken, "127.0.0.1"] {
-        assert_eq!(rt; end_of_serving(&rt, address)?, Some(3), "at {address}");
+        assert!(rt; wire.listen(address).is_err(), "at {address}");
     }
     Ok(())
 }

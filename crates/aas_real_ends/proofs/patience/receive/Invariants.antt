@@ -1,5 +1,5 @@
 use Rattle.std.specs.Io.KnownBytes.{Keeps}
-use Rattle.aasd.proofs.patience.receive.Given as goal
+use Rattle.aas_real_ends.proofs.patience.receive.Given as goal
 
 -- reads that waited in vain moved nothing
 abbrev pub invariant-loop-silent : goal.invariant-loop-silent

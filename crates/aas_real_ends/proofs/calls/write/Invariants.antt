@@ -1,5 +1,5 @@
 use Rattle.std.specs.Io.KnownBytes.{Keeps}
-use Rattle.aasd.proofs.calls.write.Given as goal
+use Rattle.aas_real_ends.proofs.calls.write.Given as goal
 
 -- calls that were interrupted moved nothing
 abbrev pub invariant-loop : goal.invariant-loop
