@@ -3,9 +3,10 @@
 
 The commands create, replace and delete small submodels, at random. They are sent to a run of `aasd pipe`, many at once, or of `aasd serve`, one after
 another, and the run is killed (signal 9) some time later, in its start, in a command or behind the last one. Every command that was answered must be
-there then, and at most one more. The next run goes on with the same files. In between `aasd import` and `aasd checkpoint` are run and killed: of an
-import all submodels must be there or none, and all where its line was printed; a checkpoint must leave the documents as they are, and one record of them
-in the file that is in use where its line was.
+there then, and at most one more. So it is where four clients write to `aasd serve` at once, each its own submodels: of each client's commands every
+one that it got the reply to must be there, and at most one more. The next run goes on with the same files. In between `aasd import` and
+`aasd checkpoint` are run and killed: of an import all submodels must be there or none, and all where its line was printed; a checkpoint must leave the
+documents as they are, and one record of them in the file that is in use where its line was.
 
 Besides that, while a run has the folder, a second one must end with status 4 and change nothing. A journal that is cut off anywhere, or in which a byte
 is another, must be opened, or be found not initialised or damaged, with the right line, and stay as it is; where a record passes the end of the file,
@@ -16,6 +17,7 @@ tried: that the system writes what it says it has written is trusted.
 """
 import argparse
 import base64
+import itertools
 import os
 import random
 import re
@@ -24,14 +26,19 @@ import socket
 import subprocess
 import sys
 import tempfile
+import threading
 import time
 
-HERE = os.path.dirname(os.path.abspath(__file__))
-PROGRAM = os.path.join(HERE, '..', 'crates', 'aasd', 'out', 'aasd')
+sys.path.insert(0, os.path.join(os.path.dirname(os.path.realpath(__file__)), '..', 'scripts'))
+# pylint: disable=wrong-import-position
+from shared import free_port, take_built  # noqa: E402
+
 FILES = ('aas.journal', 'aas.spare', 'aas.selector')
 HEADERS = (b'AASJ0001', b'AASJ0002')
 IDENTIFIERS = 12
 BATCH = 40
+# How many clients write at once.
+WRITERS = 4
 LARGEST = 268_435_456
 # What a record of an import and the file around it have beside the text: the tag, its length, and header, gates and length.
 AROUND = 19
@@ -70,12 +77,13 @@ def refusal(code, text):
     return f'{{"messages":[{{"code":"{code}","messageType":"Error","text":"{text}"}}]}}'
 
 
-def commands(documents, version):
-    """Commands that a repository with these documents accepts, one after another: each with its reply and the documents after it."""
+def commands(documents, version, numbers=range(IDENTIFIERS)):
+    """Commands that a repository with these documents accepts, one after another, on submodels of these numbers: each with its reply and the documents
+    after it."""
     while True:
         version += 1
         documents = dict(documents)
-        number = random.randrange(IDENTIFIERS)
+        number = random.choice(numbers)
         text = submodel(number, version)
         if number not in documents:
             call = request('POST /submodels', text), reply('201 Created', text)
@@ -210,12 +218,6 @@ def kill_checkpoint(folder, calls, seconds):
     return count
 
 
-def free_port():
-    with socket.socket() as chosen:
-        chosen.bind(('127.0.0.1', 0))
-        return chosen.getsockname()[1]
-
-
 def connect(port, run):
     begun = time.monotonic()
     while time.monotonic() - begun < PATIENCE and run.poll() is None:
@@ -307,6 +309,76 @@ def stops(program, where, kills):
         sizes = [len(folder.content(name)) for name in FILES[:2]]
     print(f'{kills} kills: {told[kill_pipe] + told[kill_serve]} commands, {told[kill_import]} imports and {told[kill_checkpoint]} checkpoints were answered '
           f'and found; {more} times one more was found; the files have {sizes[0]} and {sizes[1]} bytes')
+
+
+def writes(link, calls, counts, at):
+    """Sends the calls one after another, and counts those that are answered, until the run is killed."""
+    with link:
+        for sent, wanted, _ in calls:
+            got = b''
+            try:
+                link.sendall(sent)
+                while len(got) < len(wanted):
+                    piece = link.recv(1 << 16)
+                    if not piece:
+                        return
+                    got += piece
+            except (ConnectionResetError, BrokenPipeError):
+                return
+            if got != wanted:
+                counts[at] = f'serve: got {got[:300]!r}; wanted {wanted[:300]!r}'
+                return
+            counts[at] += 1
+
+
+def kill_while_written(folder, calls, seconds):
+    """Has each of these lists of calls sent by a client of its own, and kills `serve` so many seconds later. Answers how many of each were answered."""
+    port, counts = free_port(), [0] * len(calls)
+    run = folder.start('serve', f'127.0.0.1:{port}', '1000')
+    try:
+        links = [connect(port, run) for _ in calls]
+        threads = [threading.Thread(target=writes, args=(link, own, counts, at)) for at, (link, own) in enumerate(zip(links, calls))]
+        for thread in threads:
+            thread.start()
+        time.sleep(seconds)
+    finally:
+        run.kill()
+        run.communicate(timeout=PATIENCE)
+    for thread in threads:
+        thread.join(PATIENCE)
+    for count in counts:
+        if not isinstance(count, int):
+            raise Wrong(count)
+    return counts
+
+
+def found(folder, before, calls, counts):
+    """The documents of each client that the files open as: those after so many of its calls, or after one more."""
+    possible = [([documents] + [call[2] for call in own])[count:count + 2] for documents, own, count in zip(before, calls, counts)]
+    status, text = folder.run('pipe', given=questions({})[0])
+    for shares in itertools.product(*possible):
+        documents = {number: text_of for share in shares for number, text_of in share.items()}
+        if (status, text) == (0, questions(documents)[1]):
+            return list(shares)
+    raise Wrong(f'{counts} commands of the clients were answered; then the files open with status {status}, {text[:400]!r}')
+
+
+def many_writers(program, where, kills):
+    """Kills `serve` so many times while several clients write, and says what came of it."""
+    shares, version, told, more, seconds = [{} for _ in range(WRITERS)], 0, 0, 0, 0.05
+    with tempfile.TemporaryDirectory(dir=where) as name:
+        folder = Folder(program, name)
+        folder.init()
+        for _ in range(kills):
+            calls = [list(itertools.islice(commands(documents, version, range(at, IDENTIFIERS, WRITERS)), BATCH)) for at, documents in enumerate(shares)]
+            version += BATCH
+            counts = kill_while_written(folder, calls, random.random() * seconds)
+            before, shares = shares, found(folder, shares, calls, counts)
+            told += sum(counts)
+            more += sum(share is not ([documents] + [call[2] for call in own])[count]
+                        for share, documents, own, count in zip(shares, before, calls, counts))
+            seconds *= 1.1 if sum(counts) < WRITERS * BATCH // 2 else 0.9
+    print(f'{kills} kills beside {WRITERS} writers: {told} commands were answered and found; {more} times one more was found')
 
 
 def second_program(program, where):
@@ -409,7 +481,7 @@ def hostile(program, where):
 
 def main():
     parser = argparse.ArgumentParser(description=__doc__, formatter_class=argparse.RawDescriptionHelpFormatter)
-    parser.add_argument('--program', default=PROGRAM, help='the program (as the script aasd has built it)')
+    take_built(parser)
     parser.add_argument('--kills', type=int, default=300, help='how many times it is killed (300)')
     parser.add_argument('--folder', help='where the folders are made (the system\'s temporary folder)')
     parser.add_argument('--seed', type=int, help='of the random numbers; it is printed')
@@ -421,6 +493,7 @@ def main():
     try:
         second_program(program, options.folder)
         stops(program, options.folder, options.kills)
+        many_writers(program, options.folder, options.kills // 3)
         hostile(program, options.folder)
     except (Wrong, subprocess.TimeoutExpired) as fault:
         sys.exit(f'wrong: {fault}')

@@ -1,5 +1,6 @@
 mod Adding
 mod Awaiting
+pub mod Ending
 pub mod FirstLaws
 mod Firsts
 mod Lengths

@@ -1,5 +1,5 @@
 // Laws of the first request. A law stands on a function that does nothing.
-ghost use Rattle.aas_http.specs.Laws.{BeginsWithOne, EndsUnfinished, FitsLimits};
+ghost use Rattle.aas_http.specs.Laws.{BeginsWithOne, EndsUnfinished, FitsLimits, EndsByItself};
 
 /// Bytes begin with one thing alone.
 pub fn begins_with_one()
@@ -15,4 +15,9 @@ pub fn ends_unfinished()
 /// More bytes are needed only while they are fewer than 4,210,688.
 pub fn fits_limits()
     ensures { FitsLimits }
+{}
+
+/// A whole request ends by itself, whatever follows it.
+pub fn ends_by_itself()
+    ensures { EndsByItself }
 {}

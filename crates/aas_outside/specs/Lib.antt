@@ -6,6 +6,7 @@ pub mod MemConnection
 pub mod MemKeeper
 pub mod MemKeeperLaw
 pub mod MemLink
+pub mod MemVisit
 pub mod MemWire
 pub mod Moments
 pub mod Surroundings

@@ -1,27 +1,33 @@
-// A wire in memory, for tests: its inputs, what was sent on each connection, and the calls that fail.
-ghost use Rattle.std.specs.Prelude.{◌≡◌, ◌<◌, ◌≤◌, ◌-◌, ◌⊎◌, ◌↔◌, ◌++◌, [], ◌∷◌, None, Some, length, min, IfOk, OnOk, OnErr, IsErr, MatchResult, slice_get};
+// A wire in memory, for tests: its visits, what was sent on each of them, and the calls that fail.
+ghost use Rattle.std.specs.Prelude.{◌≡◌, ◌<◌, ◌≤◌, ◌-◌, ◌⊎◌, ◌↔◌, ◌≢◌, [], false, None, Some, Ok, length, min, IfOk, OnOk, OnErr, IsErr, MatchResult, slice_get};
+ghost use Rattle.std.specs.List.{filter};
 ghost use Rattle.std.specs.Option.{option_map};
 ghost use Rattle.aas_outside.specs.Faults.{HasCause};
 ghost use Rattle.aas_outside.specs.Link.{Takes, Gives};
 ghost use Rattle.aas_outside.specs.MemCalls.{IsNextFailing};
-ghost use Rattle.aas_outside.specs.MemWire.{left_on, sent_on, connections_of, surroundings_of, IsLinkCall, IsWireCall};
-ghost use Rattle.aas_outside.specs.Surroundings.{BeginsNext, sent_on_all};
+ghost use Rattle.aas_outside.specs.MemVisit.{BeginsFirst, is_below, number};
+ghost use Rattle.aas_outside.specs.MemWire.{left_on, sent_on, connections_of, surroundings_of, clients_in_all, with_visit, IsLinkCall, IsWireCall};
+ghost use Rattle.aas_outside.specs.Surroundings.{BeginsNext, CountsClients, CountsNext, open_visits, sent_on_all, to_first};
 
 use crate::memory_calls::MemCalls;
 use crate::memory_connection::MemConnection;
+use crate::memory_visit::MemVisit;
+use crate::visit::NextVisit;
 use crate::{Failed, Link, Wire};
 use aas_model_text::NoMemory;
 use std::alloc::Global;
 use std::collections::VecDeque;
 use std::marker::Model;
 
-/// A wire in memory, whose failing calls are chosen when it is made. Only [`MemWire::add`] takes
-/// memory: the storage for a connection.
+/// A wire in memory, whose failing calls are chosen when it is made. Only [`MemWire::add`] and
+/// [`MemWire::add_again`] take memory: the storage for a visit.
 ///
 /// Contracts see it as a `MemWireState`.
 #[derive(Drop)]
 pub struct MemWire {
-    coming: VecDeque<MemConnection>,
+    coming: VecDeque<MemVisit>,
+    // how many clients were begun
+    clients: usize,
     present: Option<MemConnection>,
     // with storage for the others too
     ended: Vec<MemConnection>,
@@ -35,12 +41,14 @@ pub struct MemWire {
 impl Model for MemWire {
     ghost use Rattle.std.specs.Prelude.{◌<◌, ◌≤◌, ◌+◌, length, map, vec_len, vec_capacity};
     ghost use Rattle.std.specs.Option.{option_to_list};
-    ghost use Rattle.aas_outside.specs.MemWire.{MemWireState, AreReady};
+    ghost use Rattle.aas_outside.specs.MemVisit.{visits_from, AreReady};
+    ghost use Rattle.aas_outside.specs.MemWire.{MemWireState};
 
     ghost Value = { MemWireState };
 
     ghost view = { λ wire. record {
-      coming = map (λ c. c.left) wire.coming.items;
+      coming = visits_from wire.clients wire.coming.items;
+      clients = wire.clients;
       ended = map (λ c. c.sent) wire.ended.items;
       present = wire.present;
       room = wire.room;
@@ -52,14 +60,15 @@ impl Model for MemWire {
 
     ghost invariant = { λ wire. (0 < wire.piece)
         × (length wire.coming.items + length (option_to_list wire.present) + vec_len wire.ended ≤ vec_capacity wire.ended)
-        × AreReady wire.coming.items wire.present wire.room };
+        × AreReady wire.coming.items wire.present wire.room
+        × (wire.clients ≤ vec_len wire.ended + length (option_to_list wire.present)) };
 }
 
 impl MemWire {
-    /// A wire without connections, on which each call moves at most `piece` bytes, and which has
+    /// A wire without visits, on which each call moves at most `piece` bytes, and which has
     /// room for `capacity` given bytes in all. The calls with the numbers in `fails` fail, the first
     /// call being 1. So does a give of which at most `piece` bytes don't fit, and a give where no
-    /// connection is begun; no other call fails.
+    /// visit is begun; no other call fails.
     pub fn new(
         alloc: Global,
         piece: usize,
@@ -69,6 +78,7 @@ impl MemWire {
         requires { 1 ≤ piece }
         ensures { IfOk result (λ wire. wire ≡ record {
           coming = [];
+          clients = 0;
           ended = [];
           present = None;
           room = capacity;
@@ -80,6 +90,7 @@ impl MemWire {
     {
         Ok(MemWire {
             coming: VecDeque::new(alloc),
+            clients: 0,
             present: None,
             ended: Vec::new(alloc),
             room: capacity,
@@ -90,21 +101,38 @@ impl MemWire {
         })
     }
 
-    /// Adds a connection with this input behind those to come.
+    /// Adds a visit to a new client, which hands over this input, behind those to come.
     pub fn add(&mut self, input: &[u8]) -> Result<(), NoMemory>
-        ensures ok { OnOk result (self.new ≡ record self.old { coming = self.old.coming ++ input.now ∷ [] }) }
+        ensures ok { OnOk result (self.new ≡ with_visit self.old (clients_in_all self.old) input.now) }
+        ensures err { OnErr result (self.new ≡ self.old) }
+    {
+        self.add_visit(None, input)
+    }
+
+    /// Adds a visit to client number `client`, the first being 0, behind those to come; where fewer
+    /// are begun by then, to a new one.
+    pub fn add_again(&mut self, client: usize, input: &[u8]) -> Result<(), NoMemory>
+        ensures ok { OnOk result (self.new ≡ with_visit self.old (min client (clients_in_all self.old)) input.now) }
+        ensures err { OnErr result (self.new ≡ self.old) }
+    {
+        self.add_visit(Some(client), input)
+    }
+
+    #[tactic(auto, using(crate::proofs::Connections::visits_more))]
+    fn add_visit(&mut self, again: Option<usize>, input: &[u8]) -> Result<(), NoMemory>
+        ensures ok { OnOk result (self.new ≡ with_visit self.old (number (clients_in_all self.old) again) input.now) }
         ensures err { OnErr result (self.new ≡ self.old) }
     {
         let alloc = *self.ended.allocator();
         let connection = MemConnection::new(alloc, input, self.room)?;
         self.ended.reserve(self.coming.len() + 2)?;
-        match self.coming.push_back(connection) {
+        match self.coming.push_back(MemVisit { again, connection }) {
             Ok(()) => Ok(()),
             Err(_) => Err(NoMemory),
         }
     }
 
-    /// The bytes sent on connection `n`, the first being 0, or `None` where it wasn't begun.
+    /// The bytes sent on visit `n`, the first being 0, or `None` where it wasn't begun.
     pub fn sent(&self, n: usize) -> Option<&[u8]>
         ensures { option_map (λ bytes. bytes.now) result
             ≡ slice_get (sent_on_all (connections_of self.now) (sent_on self.now.present)) n }
@@ -129,6 +157,50 @@ impl MemWire {
             self.ended.push_reserved(connection);
         }
     }
+
+    /// Drops the visits to come to clients that weren't begun.
+    fn drop_new(&mut self)
+        ensures { self.new ≡ record self.old { coming = to_first self.old.clients self.old.coming } }
+    {
+        keep_begun(&mut self.coming, self.clients);
+    }
+
+    /// Keeps the visits to come that may be made.
+    fn keep_open(&mut self, may_begin: bool)
+        ensures { self.new ≡ record self.old { coming = open_visits may_begin (connections_of self.old) } }
+    {
+        if !may_begin {
+            self.drop_new();
+        }
+    }
+
+    /// Begins the first visit to come.
+    fn begin_first(&mut self) -> NextVisit
+        requires { self.old.present ≡ None }
+        ensures begins { BeginsFirst self.old self.new result }
+        ensures counted { CountsNext self.old.clients self.new.clients result }
+    {
+        match self.coming.pop_front() {
+            Some(visit) => {
+                let is_again = visit.is_below(self.clients);
+                self.present = Some(visit.connection);
+                if is_again {
+                    return NextVisit::Again;
+                }
+                self.clients += 1;
+                NextVisit::New
+            }
+            None => NextVisit::NoneLeft,
+        }
+    }
+}
+
+/// Keeps the visits to the first clients, so many of them.
+fn keep_begun(coming: &mut VecDeque<MemVisit>, clients: usize)
+    ensures kept { coming.new.items ≡ filter (λ v. is_below clients v.again) coming.old.items }
+    ensures fewer { length coming.new.items ≤ length coming.old.items }
+{
+    coming.retain(|visit| visit.is_below(clients));
 }
 
 impl Link for MemWire {
@@ -190,6 +262,7 @@ impl Link for MemWire {
 impl Wire for MemWire {
     fn listen(&mut self, _address: &str) -> Result<(), Failed>
         ensures connections { connections_of self.new ≡ connections_of self.old }
+        ensures clients { self.new.clients ≡ self.old.clients }
         ensures present { self.new.present ≡ self.old.present }
         ensures faults { self.new.faults ≡ self.old.faults }
         ensures cause { HasCause self.old.wire_faults self.new.wire_faults result }
@@ -203,10 +276,12 @@ impl Wire for MemWire {
         Err(Failed)
     }
 
-    fn next(&mut self) -> Result<bool, Failed>
-        ensures begins { BeginsNext (Some (connections_of self.old)) (Some (connections_of self.new))
+    fn next(&mut self, may_begin: bool) -> Result<NextVisit, Failed>
+        ensures begins { BeginsNext (Some (connections_of self.old)) may_begin (Some (connections_of self.new))
             (Some (left_on self.old.present)) (Some (left_on self.new.present))
             (Some (sent_on self.old.present)) (Some (sent_on self.new.present)) result }
+        ensures asked { may_begin ≡ false → result ≢ Ok NextVisit.New }
+        ensures counted { CountsClients self.old.clients self.new.clients result }
         ensures faults { self.new.faults ≡ self.old.faults }
         ensures cause { HasCause self.old.wire_faults self.new.wire_faults result }
         ensures called { IsWireCall self.old self.new result }
@@ -217,7 +292,7 @@ impl Wire for MemWire {
             return Err(Failed);
         }
         self.end_present();
-        self.present = self.coming.pop_front();
-        Ok(self.present.is_some())
+        self.keep_open(may_begin);
+        Ok(self.begin_first())
     }
 }

@@ -1,13 +1,15 @@
--- What a wire over TCP does to the stream of its present connection. This profile's own rule.
-use Rattle.std.specs.Prelude.{ℕ, List, take, Result, MatchResult, Option, None, Some, IsNone}
-use Rattle.std.specs.Io.KnownBytes.{Consumes, Keeps}
+-- What a wire over TCP hands over. This profile's own rule.
+use Rattle.std.specs.Prelude.{ℕ, List, [], Option, None, Some}
+use Rattle.aas_clients.specs.Places.{open_count}
+use Rattle.aas_clients.specs.Visits.{left_of}
+use Rattle.aas_real_ends.specs.declared.clients.Clients.{Clients}
 
--- A read took what it answers from the front of what the stream had left, and nothing where it failed.
-abbrev pub ReadsFront : {E : Type 0} → Option (List ℕ) → Option (List ℕ) → Result ℕ E → List ℕ → Type 0
-ReadsFront old new result buf = MatchResult result (λ n. Consumes old new (take n buf)) (λ _. Keeps old new)
+-- the bytes of the present visit that weren't taken
+abbrev pub left_on : Option Clients → List ℕ
+left_on None = []
+left_on (Some clients) = left_of clients.table.present
 
--- A connection that is begun goes on, and its old and its new stream are so related. Where none is begun none is then.
-abbrev pub GoesOn : {S : Type 0} → Option S → Option S → (S → S → Type 0) → Type 0
-GoesOn None new related = IsNone new
-GoesOn (Some old) None related = ⊥
-GoesOn (Some old) (Some new) related = related old new
+-- how many clients are open
+abbrev pub open_on : Option Clients → ℕ
+open_on None = 0
+open_on (Some clients) = open_count clients.table.places.items

@@ -1,63 +1,54 @@
-// A peer that may be silent.
-ghost use Rattle.std.specs.Prelude.{◌≡◌, ◌↔◌, IsTrue};
-ghost use Rattle.std.specs.Io.{ReadsAtMost};
-ghost use Rattle.std.specs.IoError.{error_kind};
-ghost use Rattle.aas_real_ends.specs.TcpWire.{ReadsFront};
+// How long a visit waits for a client that doesn't take its replies.
+ghost use Rattle.std.specs.Prelude.{◌≡◌, ◌≤◌, ◌+◌, ◌-◌, ◌*◌, ◌/◌, ◌^◌, min};
 
-use crate::arrivals::Arrivals;
-use crate::calls::read;
-use std::io;
-use std::io::{ErrorKind, Read};
-use std::net::{Net, OpenStream, Shutdown};
+/// How long the replies of a visit may wait for their client in all, in milliseconds.
+const WAIT_MILLIS: u64 = 5_000;
 
-/// How many reads in a row may wait for the peer in vain.
-const SILENT_READS: u32 = 60;
+/// For so many bytes that it took a second more.
+const WAIT_BYTES_PER_SECOND: u64 = 1_000_000;
 
-/// How many may while another connection is there.
-const SILENT_READS_BEFORE_OTHERS: u32 = 5;
-
-/// How many pieces that a peer still sends on a connection which has ended are read.
-const LAST_PIECES: u32 = 64;
-
-/// Reads from the peer. 0 is answered where its input has ended, and where it was silent for too long.
-pub fn receive<S: Read, N: Net>(
-    stream: &mut S,
-    others: &mut Arrivals<N>,
-    buf: &mut [u8],
-) -> io::Result<usize>
-    ensures count { ReadsAtMost result buf.new }
-    ensures front { ReadsFront (S.remaining stream.old) (S.remaining stream.new) result buf.new }
-{
-    for silent in 1..=SILENT_READS {
-        match read(stream, buf) {
-            Err(fault) if is_silence(&fault) => {}
-            answer => return answer,
-        }
-        if silent >= SILENT_READS_BEFORE_OTHERS && others.has_one() {
-            break;
-        }
-    }
-    Ok(0)
+/// How long a visit waits for a client that doesn't take its replies: five seconds in all, and a second for each
+/// 1,000,000 bytes that it took.
+#[derive(Clone, Copy, Drop)]
+pub struct Patience {
+    /// How many bytes the client took in the visit.
+    given: u64,
+    /// How long it was waited for, in milliseconds.
+    waited: u64,
 }
 
-/// Ends a connection so that its last reply still reaches a peer that sends on: what it sends is read
-/// and given up, until it ends too or is silent for one read.
-pub fn close<S: Read + OpenStream + Drop>(mut stream: S) {
-    if stream.shutdown(Shutdown::Write).is_err() {
-        return;
-    }
-    let mut buf = [0; 65_536];
-    for _ in 0..LAST_PIECES {
-        match read(&mut stream, &mut buf) {
-            Ok(0) | Err(_) => return,
-            Ok(_) => {}
+impl Patience {
+    /// That of a visit that begins.
+    pub fn new() -> Patience
+        ensures { (result.given ≡ 0) × (result.waited ≡ 0) }
+    {
+        Patience {
+            given: 0,
+            waited: 0,
         }
     }
-}
 
-/// Whether a read waited for the peer in vain.
-fn is_silence(fault: &io::Error) -> bool
-    ensures { IsTrue result ↔ (error_kind fault.now ≡ ErrorKind.WouldBlock) }
-{
-    fault.kind() == ErrorKind::WouldBlock
+    /// The client took so many bytes.
+    pub fn gave(&mut self, count: usize)
+        ensures given { self.new.given ≡ min (self.old.given + count) (2 ^ 64 - 1) }
+        ensures waited { self.new.waited ≡ self.old.waited }
+    {
+        self.given = self.given.saturating_add(count as u64);
+    }
+
+    /// It was waited for, so many milliseconds.
+    pub fn waits(&mut self, millis: u64)
+        ensures waited { self.new.waited ≡ min (self.old.waited + millis) (2 ^ 64 - 1) }
+        ensures given { self.new.given ≡ self.old.given }
+    {
+        self.waited = self.waited.saturating_add(millis);
+    }
+
+    /// How many milliseconds it is still waited for.
+    pub fn left(&self) -> u64
+        ensures { result ≡ 5000 + self.now.given / 1000000 * 1000 - self.now.waited }
+    {
+        let most = WAIT_MILLIS + self.given / WAIT_BYTES_PER_SECOND * 1_000;
+        most.saturating_sub(self.waited)
+    }
 }

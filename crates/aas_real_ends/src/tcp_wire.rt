@@ -1,126 +1,135 @@
-// Connections over TCP.
-ghost use Rattle.std.specs.Prelude.{◌≡◌, ◌≢◌, true, false, None, Some, Ok, IsErr, IsNone, IsSome, IfSome, OnOk, OnErr};
-ghost use Rattle.std.specs.Io.KnownBytes.{WriteAppends};
+// Clients over TCP.
+ghost use Rattle.std.specs.Prelude.{◌≡◌, ◌≢◌, ◌++◌, false, None, Ok, take, IsErr, IsNone, IsSome, IfOk, OnOk, OnErr};
 ghost use Rattle.aas_outside.specs.Faults.{HasCause};
 ghost use Rattle.aas_outside.specs.Link.{Takes, Gives};
-ghost use Rattle.aas_real_ends.specs.TcpWire.{ReadsFront, GoesOn};
+ghost use Rattle.aas_outside.specs.Surroundings.{CountsClients};
+ghost use Rattle.aas_real_ends.specs.TcpWire.{left_on, open_on};
 
-use crate::arrivals::Arrivals;
-use crate::calls::write;
+use crate::clients::Clients;
 use crate::faults::FaultCount;
-use crate::patience::{close, receive};
-use aas_outside::{Failed, Link, Wire};
-use std::net::{Net, TcpListener};
+use aas_outside::{Failed, Link, NextVisit, Wire};
+use std::alloc::Global;
+use std::io;
+use std::io::ErrorKind;
+use std::net::Net;
+use std::time::Clock;
 
-/// The connections to an address over TCP, one after another, as a wire. It tells none of their
-/// bytes: it moves those of the sockets. An interrupted call is made again.
+/// The clients at an address over TCP, as a wire. It tells none of their bytes: it moves those of the sockets.
 ///
-/// A peer that sends nothing for a minute, or for five seconds while another connection is there, is
-/// taken to have ended its input. Where it takes nothing for a minute the call fails.
+/// All that are connected are read, and one is visited at a time: a new one with nothing, later the one that has
+/// waited longest with its whole requests. Where a client takes none of its replies for long the call fails, and it is
+/// closed.
 #[derive(Drop)]
-pub struct TcpWire<N: Net> {
+pub struct TcpWire<N: Net + Clock> {
     net: N,
-    arrivals: Arrivals<N>,
-    present: Option<N::Stream>,
+    alloc: Global,
+    clients: Option<Clients>,
+    /// How many clients were begun.
+    begun: u64,
     faults: FaultCount,
     wire_faults: FaultCount,
 }
 
-impl<N: Net> TcpWire<N> {
+impl<N: Net + Clock> TcpWire<N> {
     /// A wire that listens nowhere yet.
-    pub fn new(net: N) -> Self
+    pub fn new(net: N, alloc: Global) -> Self
         ensures net { result.net ≡ net }
-        ensures nothing { (result.arrivals.listener ≡ None) × (result.arrivals.waiting ≡ None) × (result.present ≡ None) }
+        ensures nothing { (result.clients ≡ None) × (result.begun ≡ 0) }
         ensures faults { (result.faults.count ≡ 0) × (result.wire_faults.count ≡ 0) }
     {
         TcpWire {
             net,
-            arrivals: Arrivals::nowhere(),
-            present: None,
+            alloc,
+            clients: None,
+            begun: 0,
             faults: FaultCount::new(),
             wire_faults: FaultCount::new(),
         }
     }
+
+    /// Ends the present visit, and waits some seconds for clients that are no longer answered to take their last reply.
+    pub fn close(&mut self) {
+        if let Some(clients) = &mut self.clients {
+            let _closed = clients.close(&self.net);
+        }
+    }
 }
 
-impl<N: Net> Link for TcpWire<N> {
+impl<N: Net + Clock> Link for TcpWire<N> {
     ghost left = { λ _. None };
 
     ghost sent = { λ _. None };
 
     ghost faults = { λ wire. wire.faults.count };
 
-    ghost surroundings = { λ wire. record { connections = None; faults = wire.wire_faults.count } };
+    ghost surroundings = { λ wire. record { connections = None; clients = wire.begun; faults = wire.wire_faults.count } };
 
     fn take(&mut self, buf: &mut [u8]) -> Result<usize, Failed>
         ensures taken { Takes None None result buf.new }
         ensures cause { HasCause self.old.faults.count self.new.faults.count result }
-        ensures wire_faults { self.new.wire_faults ≡ self.old.wire_faults }
-        ensures stream { GoesOn self.old.present self.new.present
-            (λ old new. ReadsFront (N.Stream.remaining old) (N.Stream.remaining new) result buf.new) }
-        ensures begun { IsNone self.old.present → IsErr result }
+        ensures wire { (self.new.wire_faults ≡ self.old.wire_faults) × (self.new.begun ≡ self.old.begun) }
+        ensures front { IfOk result (λ n. left_on self.old.clients ≡ take n buf.new ++ left_on self.new.clients) }
+        ensures listens { IsNone self.old.clients → IsErr result }
     {
-        let Some(stream) = &mut self.present else {
-            return Err(self.faults.failed());
+        let taken = match &mut self.clients {
+            Some(clients) => clients.take(buf),
+            None => None,
         };
-        match receive(stream, &mut self.arrivals, buf) {
-            Ok(count) => Ok(count),
-            Err(_) => Err(self.faults.failed()),
+        match taken {
+            Some(count) => Ok(count),
+            None => Err(self.faults.failed()),
         }
     }
 
     fn give(&mut self, bytes: &[u8]) -> Result<usize, Failed>
         ensures given { Gives None None result bytes.now }
         ensures cause { HasCause self.old.faults.count self.new.faults.count result }
-        ensures wire_faults { self.new.wire_faults ≡ self.old.wire_faults }
-        ensures stream { GoesOn self.old.present self.new.present
-            (λ old new. WriteAppends (N.Stream.contents old) (N.Stream.contents new) result bytes.now) }
-        ensures begun { IsNone self.old.present → IsErr result }
+        ensures wire { (self.new.wire_faults ≡ self.old.wire_faults) × (self.new.begun ≡ self.old.begun) }
+        ensures left { left_on self.new.clients ≡ left_on self.old.clients }
+        ensures listens { IsNone self.old.clients → IsErr result }
     {
-        let Some(stream) = &mut self.present else {
-            return Err(self.faults.failed());
+        let given = match &mut self.clients {
+            Some(clients) => clients.give(&self.net, bytes),
+            None => Err(io::Error::from(ErrorKind::NotConnected)),
         };
-        match write(stream, bytes) {
-            Ok(count) => Ok(count),
-            Err(_) => Err(self.faults.failed()),
-        }
+        self.faults.counted(given)
     }
 }
 
-impl<N: Net> Wire for TcpWire<N> {
+impl<N: Net + Clock> Wire for TcpWire<N> {
     fn listen(&mut self, address: &str) -> Result<(), Failed>
         ensures faults { self.new.faults ≡ self.old.faults }
         ensures cause { HasCause self.old.wire_faults.count self.new.wire_faults.count result }
-        ensures present { self.new.present ≡ self.old.present }
-        ensures listens { OnOk result (IsSome self.new.arrivals.listener) }
-        ensures same { OnErr result (self.new.arrivals ≡ self.old.arrivals) }
+        ensures clients { self.new.begun ≡ self.old.begun }
+        ensures listens { OnOk result (IsSome self.new.clients) }
+        ensures nobody { OnOk result (open_on self.new.clients ≡ 0) }
+        ensures same { OnErr result (self.new.clients ≡ self.old.clients) }
     {
-        match TcpListener::bind(&self.net, address) {
-            Ok(listener) => {
-                self.arrivals = Arrivals::at(listener);
+        match Clients::at(&self.net, self.alloc, address) {
+            Ok(clients) => {
+                self.clients = Some(clients);
                 Ok(())
             }
             Err(_) => Err(self.wire_faults.failed()),
         }
     }
 
-    /// The present connection has ended also where this fails.
-    fn next(&mut self) -> Result<bool, Failed>
+    /// The present visit has ended also where this fails.
+    fn next(&mut self, may_begin: bool) -> Result<NextVisit, Failed>
         ensures faults { self.new.faults ≡ self.old.faults }
         ensures cause { HasCause self.old.wire_faults.count self.new.wire_faults.count result }
-        ensures never_last { result ≢ Ok false }
-        ensures begins { OnOk result (IsSome self.new.present) }
-        ensures first { IfSome self.old.arrivals.waiting (λ stream. (result ≡ Ok true) × (self.new.present ≡ Some stream)) }
+        ensures asked { may_begin ≡ false → result ≢ Ok NextVisit.New }
+        ensures counted { CountsClients self.old.begun self.new.begun result }
+        ensures none_left { result ≡ Ok NextVisit.NoneLeft → open_on self.new.clients ≡ 0 }
+        ensures listens { IsNone self.old.clients → IsErr result }
     {
-        if let Some(stream) = self.present.take() {
-            close(stream);
+        let next = match &mut self.clients {
+            Some(clients) => clients.next(&self.net, may_begin),
+            None => Err(io::Error::from(ErrorKind::NotConnected)),
+        };
+        if let Ok(NextVisit::New) = &next {
+            self.begun = self.begun.saturating_add(1);
         }
-        match self.arrivals.next() {
-            Ok(stream) => {
-                self.present = Some(stream);
-                Ok(true)
-            }
-            Err(_) => Err(self.wire_faults.failed()),
-        }
+        self.wire_faults.counted(next)
     }
 }

@@ -3,12 +3,13 @@
 use crate::console::ConsoleLink;
 use crate::file_disk::FileDisk;
 use crate::tcp_wire::TcpWire;
-use aas_outside::{Failed, Link, Wire};
+use aas_outside::{Failed, Link, NextVisit, Wire};
 use aas_outside_disk::{Disk, Part};
 use std::fs::{File, Files};
 use std::io::{ErrorKind, Read, Write};
 use std::net::{Net, TcpStream};
 use std::test::Fail;
+use std::time::Clock;
 use std::{env, fs, io, process};
 
 #[derive(Drop)]
@@ -59,7 +60,7 @@ fn a_console_that_is_interrupted(rt: HostRuntime) {
 }
 
 /// The first of these addresses at which the wire can listen.
-fn listens<N: Net>(
+fn listens<N: Net + Clock>(
     wire: &mut TcpWire<N>,
     addresses: [&'static str; 3],
 ) -> Result<&'static str, Fail> {
@@ -71,49 +72,66 @@ fn listens<N: Net>(
     Err(Fail::from("no address is free"))
 }
 
-/// Whether four bytes go each way.
-fn exchanges<N: Net>(wire: &mut TcpWire<N>, peer: &mut TcpStream) -> io::Result<bool> {
-    let mut buf = [0; 4];
-    peer.write_all(b"ping")?;
-    if wire.take(&mut buf) != Ok(4) || buf != *b"ping" || wire.give(b"pong") != Ok(4) {
-        return Ok(false);
-    }
-    peer.read_exact(&mut buf)?;
-    Ok(buf == *b"pong")
+const REQUEST: &[u8; 18] = b"GET / HTTP/1.1\r\n\r\n";
+
+/// Whether a new client is visited, and nothing is handed over.
+fn begins<N: Net + Clock>(wire: &mut TcpWire<N>) -> bool {
+    wire.next(true) == Ok(NextVisit::New) && wire.take(&mut [0; 4]) == Ok(0)
 }
 
-/// Whether the second peer is served while the first is silent.
-fn serves_second<N: Net>(
+/// Whether a request of the peer is the next that is handed over, and a reply comes back.
+fn exchanges<N: Net + Clock>(wire: &mut TcpWire<N>, peer: &mut TcpStream) -> io::Result<bool> {
+    let mut request = [0; 18];
+    let mut reply = [0; 4];
+    peer.write_all(REQUEST)?;
+    if wire.next(false) != Ok(NextVisit::Again)
+        || wire.take(&mut request) != Ok(18)
+        || request != *REQUEST
+        || wire.give(b"pong") != Ok(4)
+    {
+        return Ok(false);
+    }
+    peer.read_exact(&mut reply)?;
+    Ok(reply == *b"pong")
+}
+
+/// Whether the second peer is served while the first one has sent half a request, and closed behind a reply after which
+/// the end isn't told.
+fn serves_second<N: Net + Clock>(
     wire: &mut TcpWire<N>,
     first: &mut TcpStream,
     second: &mut TcpStream,
 ) -> io::Result<bool> {
-    if wire.next() != Ok(true) || !exchanges(wire, first)? {
+    first.write_all(b"GET / HTT")?;
+    if !begins(wire) || !begins(wire) || !exchanges(wire, second)? {
         return Ok(false);
     }
-    if wire.take(&mut [0; 4]) != Ok(0) || wire.next() != Ok(true) {
-        return Ok(false);
-    }
-    Ok(first.read(&mut [0; 4])? == 0 && exchanges(wire, second)?)
+    let stays = wire.take(&mut [0; 4]) == Ok(0) && exchanges(wire, second)?;
+    first.write_all(b"P/1.1\r\n\r\n")?;
+    let next = wire.next(false) == Ok(NextVisit::Again) && wire.take(&mut [0; 20]) == Ok(18);
+    Ok(stays && next && second.read(&mut [0; 4])? == 0)
 }
 
 #[test]
-fn a_wire_whose_first_peer_is_silent(rt: HostRuntime) -> Result<(), Fail> {
-    let mut wire = TcpWire::new(rt.clone()?);
-    let addresses = ["127.0.0.1:23791", "127.0.0.1:23792", "127.0.0.1:23793"];
+fn a_wire_whose_first_peer_is_slow(rt: HostRuntime) -> Result<(), Fail> {
+    let mut wire = TcpWire::new(rt.clone()?, rt.alloc());
+    let addresses = ["localhost:23791", "127.0.0.1:23792", "127.0.0.1:23793"];
     let address = listens(&mut wire, addresses)?;
     let mut first = TcpStream::connect(&rt, address)?;
     let mut second = TcpStream::connect(&rt, address)?;
     assert!(rt; serves_second(&mut wire, &mut first, &mut second)?);
+    drop(first);
+    drop(second);
+    assert_eq!(rt; wire.next(false), Ok(NextVisit::NoneLeft));
     Ok(())
 }
 
 #[test]
 fn addresses_that_nothing_can_listen_at(rt: HostRuntime) -> Result<(), Fail> {
-    let mut other = TcpWire::new(rt.clone()?);
+    let mut other = TcpWire::new(rt.clone()?, rt.alloc());
     let addresses = ["127.0.0.1:23794", "127.0.0.1:23795", "127.0.0.1:23796"];
     let taken = listens(&mut other, addresses)?;
-    let mut wire = TcpWire::new(rt.clone()?);
+    let mut wire = TcpWire::new(rt.clone()?, rt.alloc());
     for address in [taken, "127.0.0.1"] {
         assert!(rt; wire.listen(address).is_err(), "at {address}");
     }

@@ -1,3 +1,5 @@
+mod ClientLaws
+pub mod ClientSessions
 mod Fronts
 mod Giving
 mod Progress

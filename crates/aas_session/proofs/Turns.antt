@@ -17,7 +17,7 @@ pub turns_then : {D : Type 0} (rule : HttpRule D) (place : Place D) (turns : Lis
 turns_then {D} rule place [] last turn next taken more = (next, (let P : Place D → Type 0 = λ p. Takes rule p turn next in subst P taken more), refl)
 turns_then rule place (t ∷ turns) last turn next (mid, first, rest) more = (mid, first, turns_then rule mid turns last turn next rest more)
 
-replies_more : (turns : List Turn) (turn : Turn) → replies (turns ++ turn ∷ []) ≡ replies turns ++ turn.reply
+pub replies_more : (turns : List Turn) (turn : Turn) → replies (turns ++ turn ∷ []) ≡ replies turns ++ turn.reply
 replies_more turns turn = flat_map-append (λ (t : Turn). t.reply) turns (turn ∷ []) ∙ ap (λ (l : List ℕ). replies turns ++ l) (append-nil turn.reply)
 
 pub commands_more : (turns : List Turn) (turn : Turn) → commands (turns ++ turn ∷ []) ≡ commands turns ++ turn.kept

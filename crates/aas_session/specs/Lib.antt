@@ -1,9 +1,10 @@
 pub mod Answers
-pub mod Connections
+pub mod Clients
 pub mod Intake
 pub mod Refusals
 pub mod Safe
 pub mod Served
 pub mod Session
 pub mod Steps
+pub mod Visits
 pub mod WholeReply

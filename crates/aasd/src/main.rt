@@ -29,21 +29,23 @@ fn run_on(rt: &HostRuntime) -> Result<u8, NoMemory> {
 }
 
 fn run_on_ends(rt: &HostRuntime, words: &Many<Text>) -> Result<u8, NoMemory> {
-    let wire = TcpWire::new(rt.clone()?);
+    let mut wire = TcpWire::new(rt.clone()?, rt.alloc());
     let disk = ReadAhead::new(rt.alloc(), FileDisk::new(rt))?;
     let console = ConsoleLink::new(rt.stdin(), rt.stdout());
-    Ok(status_of(rt.alloc(), words, console, wire, disk))
+    let status = status_of(rt.alloc(), words, console, &mut wire, disk);
+    wire.close();
+    Ok(status)
 }
 
 // Generic, so that no proof looks into what the real ends are.
-fn status_of<C: Link + Drop, W: Wire + Drop, D: Disk + Drop>(
+fn status_of<C: Link + Drop, W: Wire, D: Disk + Drop>(
     alloc: Global,
     words: &Many<Text>,
     mut console: C,
-    mut wire: W,
+    wire: &mut W,
     disk: D,
 ) -> u8 {
-    run(alloc, words, &mut console, &mut wire, disk).status
+    run(alloc, words, &mut console, wire, disk).status
 }
 
 /// The words of the command line, without the program's name. Where one of them isn't UTF-8 they

@@ -1,20 +1,18 @@
-use Rattle.std.proofs.Common.{length, arith, sym, ap, ◌∙◌, length-append}
-use Rattle.std.specs.Option.{option_to_list}
-use Rattle.aas_outside.specs.MemWire.{MemWireState, connections_of, sent_on}
-use Rattle.aas_outside.specs.Surroundings.{sent_on_all}
-use Rattle.aas_outside.proofs.Connections.{next_ready, begins}
+use Rattle.std.proofs.Common.{◌≡◌, ap}
+use Rattle.aas_outside.specs.MemWire.{MemWireState}
+use Rattle.aas_outside.specs.declared.visit.NextVisit.TheVariants.{New}
+use Rattle.aas_outside.proofs.Connections.{IsOpen, is_open, begins, new_where_asked}
 use Rattle.aas_outside.proofs.memory_wire.MemWireWire.next.Goals as goal
-
-pub invariant_of-self-2 : goal.invariant_of-self-2
-invariant_of-self-2 c = (
-  c.self-2.invariant.0,
-  omega (arith, c.self-2.invariant.1, ap length c.pop_front.ensures.items, length-append (option_to_list c.pop_front.result) c.pop_front.new.self.items),
-  next_ready c.self-2.inside.coming.items c.pop_front.new.self.items c.self-2.inside.room c.self-2.invariant.2.unsent c.pop_front.result c.pop_front.ensures.items,
-)
 
 pub returns-clause-begins : goal.returns-clause-begins
 returns-clause-begins c =
-    begins c.self-2.inside.coming.items c.pop_front.new.self.items c.self-2.inside.room c.self-2.invariant.2.unsent c.args.self.now _ c.is_some.result
-    (sym (ap (λ (w : MemWireState). w.coming) (c.self-2.view_is ∙ c.end_present.ensures) ∙ ap (λ (w : MemWireState). w.coming) c.self.view_is))
-    (ap (λ (w : MemWireState). w.ended) (c.self-2.view_is ∙ c.end_present.ensures) ∙ ap (λ (w : MemWireState). sent_on_all (connections_of w) (sent_on w.present)) c.self.view_is)
-    c.pop_front.result c.is_some.ensures c.pop_front.ensures.items c.pop_front.ensures.rest
+    let opened : IsOpen c.args.may_begin c.args.self.now c.keep_open.new.self =
+    is_open c.args.may_begin c.args.self.now _ _ _ c.keep_open.new.self (ap (λ (w : MemWireState). let s : MemWireState = record w { calls = c.next_fails.new.self } in s) c.self.view_is) c.end_present.ensures c.keep_open.ensures in
+    begins c.args.may_begin c.args.self.now c.keep_open.new.self c.begin_first.new.self c.begin_first.result opened c.begin_first.ensures.begins
+
+pub returns-clause-asked : goal.returns-clause-asked
+returns-clause-asked c = λ no is.
+    let opened : IsOpen c.args.may_begin c.args.self.now c.keep_open.new.self =
+    is_open c.args.may_begin c.args.self.now _ _ _ c.keep_open.new.self (ap (λ (w : MemWireState). let s : MemWireState = record w { calls = c.next_fails.new.self } in s) c.self.view_is) c.end_present.ensures c.keep_open.ensures in
+    let new : c.begin_first.result ≡ New = cc in
+    new_where_asked c.args.may_begin c.args.self.now c.keep_open.new.self c.begin_first.new.self c.begin_first.result opened c.begin_first.ensures.begins no new

@@ -1,0 +1,6 @@
+mod Clients
+mod Kept
+mod Lowest
+mod Places
+mod Tables
+mod Wholes

@@ -1,0 +1,34 @@
+use Rattle.std.proofs.Common.{◌≡◌, ◌<◌, ◌≤◌, Bool, false, length, ap, subst, sym, ◌∙◌, arith}
+use Rattle.aas_clients.specs.Places.{AreInTime}
+use Rattle.aas_clients.proofs.Places.{keeps_both}
+use Rattle.aas_clients.proofs.Tables.{in_time_step, only_from_step, quiet_step}
+use Rattle.aas_clients.proofs.table.Table.tick.Goals as goal
+
+pub loop-number-preserved : goal.loop-number-preserved
+loop-number-preserved g c =
+    let before = c.loop-number.invariant in
+    let T = c.ticks.ensures in
+    let n = c.loop-number.number in
+    let now = c.ticks.new.self.places.items in
+    record {
+      keeps = keeps_both _ _ _ _ _ _ before.keeps T.keeps;
+      present = T.present ∙ before.present;
+      since = T.since ∙ before.since;
+      quiet = λ not_over. quiet_step _ _ now n (before.quiet not_over) before.later T.only (T.quiet not_over);
+      later = only_from_step _ _ now n before.later T.only;
+      in_time = in_time_step _ now n c.args.now _ before.in_time T.only T.in_time;
+    }
+
+pub returns-clause-in_time : goal.returns-clause-in_time
+returns-clause-in_time g c = λ k below.
+    let now = c.loop-number.self.places.items in
+    let before = c.loop-number.invariant in
+    let in_time = subst (λ (b : Bool). AreInTime now c.loop-number.number b c.args.now) c.is_over-is_over.ensures.over before.in_time in
+    let seen : k < c.loop-number.number = omega (arith, below, before.keeps.size, c.loop-number-test.false, c.len-number-end.ensures, c.is_over-is_over.new.self.places.ok.0, ap length (ap (λ v. v.items) c.is_over-is_over.ensures.places.0)) in
+    in_time k seen
+
+pub returns-clause-quiet : goal.returns-clause-quiet
+returns-clause-quiet g c = λ not_over k below.
+    let before = c.loop-number.invariant in
+    let seen : k < c.loop-number.number = omega (arith, below, before.keeps.size, c.loop-number-test.false, c.len-number-end.ensures, c.is_over-is_over.new.self.places.ok.0, ap length (ap (λ v. v.items) c.is_over-is_over.ensures.places.0)) in
+    before.quiet (c.is_over-is_over.ensures.over ∙ not_over) k seen
