@@ -5,6 +5,7 @@
     examples/client.py 127.0.0.1:8080 read https://example.com/drive-7/values RotationSpeed
     examples/client.py 127.0.0.1:8080 write https://example.com/drive-7/values RotationSpeed 1500
     examples/client.py 127.0.0.1:8080 list submodels
+    examples/client.py 127.0.0.1:8080 copy https://example.com/drive-7 127.0.0.1:8090
     examples/client.py --ca plant.pem --user editor https://aas.example.com/api/v3.0 load export.json
 
 SERVER is `host:port`, or an address with `http://` or `https://` and the path that stands before the routes, if any.
@@ -15,6 +16,10 @@ behind a document that is refused, and says all refusals at the end, each with t
 identifier and the server's words; mend.py beside it mends what exports of other tools are often refused for. A call
 that gets no reply is made no second time: it ends the load, and so does a reply that isn't about the document, as 401.
 The next `load` of the same file does what is left.
+
+`copy` loads a shell with all that belongs to it into another server: the submodels to which it refers, and the concept
+descriptions that their semantics name. Submodels that this server hasn't are passed over, each with a line. The other
+server is reached by the same options.
 
 Where a user is named, by `--user` or AASD_USER, the password comes from AASD_PASSWORD, `--password` or, where there is
 a terminal, from a question. Other users of a machine may see its options, so the environment is the better place.
@@ -35,6 +40,8 @@ import urllib.parse
 # The lists of an environment, and the resources of their documents.
 COLLECTIONS = {'conceptDescriptions': '/concept-descriptions', 'submodels': '/submodels',
                'assetAdministrationShells': '/shells'}
+# The most characters of a target: the head of a request has at most 16,384, and proxies often take fewer.
+LONGEST_TARGET = 4_000
 
 
 class Refused(Exception):
@@ -165,6 +172,37 @@ class Server:
                 return
             cursor = '&cursor=' + urllib.parse.quote(page['paging_metadata']['cursor'])
 
+    def has(self, resource, identifier):
+        """Whether there is a document of the identifier."""
+        try:
+            self.call('GET', f'{resource}/{segment(identifier)}/$reference')
+            return True
+        except Refused as refusal:
+            if refusal.status != 404:
+                raise
+            return False
+
+    def submodels_of(self, shell):
+        """The identifiers of the submodels to which a shell refers, each once."""
+        named = {}
+        for reference in self.pages(f'/shells/{segment(shell)}/submodel-refs'):
+            keys = reference['keys']
+            if reference['type'] == 'ModelReference' and len(keys) == 1 and keys[0]['type'] == 'Submodel':
+                named[keys[0]['value']] = None
+        return list(named)
+
+    def environments(self, shell, submodels):
+        """A shell, the submodels and the concept descriptions that these take along, in one environment or more."""
+        target = f'/serialization?aasIds={segment(shell)}'
+        for submodel in submodels:
+            more = f'submodelIds={segment(submodel)}'
+            if len(target) + len(more) > LONGEST_TARGET:
+                yield self.call('GET', target)
+                target = f'/serialization?{more}'
+            else:
+                target += '&' + more
+        yield self.call('GET', target)
+
 
 def text_of(value):
     """JSON in UTF-8, as short as it can be, since the server takes 4 MiB at once."""
@@ -183,18 +221,17 @@ def environment_of(path):
     return environment
 
 
-def load(server, options):
-    """Loads the files, prints each document, and at the end the refusals. Answers whether there were none."""
-    environments = [(path, environment_of(path)) for path in options.files]
+def load_all(server, environments):
+    """Loads environments, each with a name, and prints each document, and then the refusals. Answers whether there was none."""
     left = sum(len(environment.get(name) or []) for _, environment in environments for name in COLLECTIONS)
     refusals = []
     try:
-        for path, environment in environments:
+        for source, environment in environments:
             for pointer, document, done in server.load(environment):
                 left -= 1
                 identifier = document.get('id') if isinstance(document, dict) else None
                 if isinstance(done, Refused):
-                    refusals.append(f'refused {path} {pointer} {identifier}: {done.status}, {done.words}')
+                    refusals.append(f'refused {source} {pointer} {identifier}: {done.status}, {done.words}')
                     done = 'refused'
                 print(done, identifier)
     except NoReply as fault:
@@ -204,6 +241,22 @@ def load(server, options):
         for refusal in refusals:
             print(refusal, file=sys.stderr)
     return not refusals
+
+
+def load(server, options):
+    return load_all(server, [(path, environment_of(path)) for path in options.files])
+
+
+def copy(server, options):
+    submodels = []
+    for submodel in server.submodels_of(options.shell):
+        if server.has('/submodels', submodel):
+            submodels.append(submodel)
+        else:
+            print('not there', submodel)
+    environments = [(options.server, environment) for environment in server.environments(options.shell, submodels)]
+    with server_of(options.target, options) as target:
+        return load_all(target, environments)
 
 
 def read(server, options):
@@ -250,7 +303,19 @@ def arguments():
     command.add_argument('collection', choices=[resource[1:] for resource in COLLECTIONS.values()])
     command.add_argument('--limit', type=int, default=100, help='entries of a page, 1 to 1000 (default: 100)')
     command.set_defaults(run=show)
+    command = commands.add_parser('copy', help='load a shell with all that belongs to it into another server')
+    command.add_argument('shell', metavar='IDENTIFIER')
+    command.add_argument('target', metavar='SERVER')
+    command.set_defaults(run=copy)
     return parser.parse_args()
+
+
+def server_of(address, options):
+    """The server of the address, reached as the options say."""
+    server = Server(address, options.ca, options.insecure, options.user, options.password, options.timeout)
+    if options.user is not None and server.is_open:
+        print('without https the password may be read on its way', file=sys.stderr)
+    return server
 
 
 def password_of(options):
@@ -266,10 +331,8 @@ def main():
     # Texts that a terminal can't show don't end the program.
     sys.stdout.reconfigure(errors='backslashreplace')
     try:
-        password = password_of(options)
-        with Server(options.server, options.ca, options.insecure, options.user, password, options.timeout) as server:
-            if options.user is not None and server.is_open:
-                print('without https the password may be read on its way', file=sys.stderr)
+        options.password = password_of(options)
+        with server_of(options.server, options) as server:
             sys.exit(1 if options.run(server, options) is False else 0)
     except Refused as refusal:
         sys.exit(f'refused: {refusal}')

@@ -1,6 +1,8 @@
+mod Arrays
 mod Children
 mod Entries
 mod Found
+pub mod Gathered
 mod InMemory
 mod Low
 mod Pages

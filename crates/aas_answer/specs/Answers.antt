@@ -11,9 +11,10 @@ use Rattle.base64.specs.GeneralPurpose.{encode_of}
 use Rattle.serde_json.specs.Data.{Data, string}
 use Rattle.serde_json.specs.Written.{compact_text}
 use Rattle.aas_json_spelling.specs.Spells.{canonical_text}
-use Rattle.aas_json_mapping.specs.Trees.{asset_informations, concepts, elements, shells, submodels}
+use Rattle.aas_json_mapping.specs.Trees.{asset_informations, concepts, elements, environments, shells, submodels}
 use Rattle.aas_reference.specs.Spelling.{spell_reference}
 use Rattle.aas_model.specs.declared.documents.Concept.{Concept}
+use Rattle.aas_model.specs.declared.documents.Environment.{Environment}
 use Rattle.aas_model.specs.declared.documents.Shell.{Shell}
 use Rattle.aas_model.specs.declared.documents.Submodel.{Submodel}
 use Rattle.aas_model.specs.declared.element.Element.{Element}
@@ -32,13 +33,16 @@ use Rattle.aas_question.specs.declared.question.Question.{Question}
 use Rattle.aas_question.specs.declared.question.Question.TheVariants as question
 use Rattle.aas_command.specs.declared.refusal.Absent.TheVariants as absent
 use Rattle.aas_command.specs.declared.refusal.Refusal.{Refusal}
-use Rattle.aas_command.specs.declared.refusal.Refusal.TheVariants.{NotFound, NoValueForm}
+use Rattle.aas_command.specs.declared.refusal.Refusal.TheVariants.{NoMemory, NotFound, NoValueForm}
 use Rattle.aas_model_names.specs.declared.modifiers.Extent.{Extent}
 use Rattle.aas_model_names.specs.declared.modifiers.Level.{Level}
 use Rattle.aas_page.specs.Filters.{passes_concept, passes_shell, passes_submodel}
 use Rattle.aas_page.specs.Pages.{PageOf, page_after, page_from}
 use Rattle.aas_page.specs.declared.filter.Selection.{Selection}
 use Rattle.aas_page.specs.declared.filter.Span.{Span}
+use Rattle.aas_serialization.specs.Chosen.{gathered}
+use Rattle.aas_serialization.specs.declared.fault.GatherFault.{GatherFault}
+use Rattle.aas_serialization.specs.declared.fault.GatherFault.TheVariants as gather
 use Rattle.aas_store.specs.Documents.{Documents, Identifier}
 
 -- a body, or a refusal
@@ -127,6 +131,17 @@ of_concepts d s text = documents_page text (page_after (passes_concept s.filter)
 abbrev pub of_children : Documents → List ℕ → Span → (Submodel → Element → List ℕ) → Answer
 of_children d id span text = of_submodel d id (λ s. places_page (text s) span s.kids)
 
+-- ---- the environment of some chosen documents
+
+abbrev pub refusal_of_gather : GatherFault → Refusal
+refusal_of_gather (gather.NoShell id) = NotFound absent.Shell
+refusal_of_gather (gather.NoSubmodel id) = NotFound absent.Submodel
+refusal_of_gather gather.NoMemory = NoMemory
+
+abbrev pub of_gathered : Result Environment GatherFault → Answer
+of_gathered (Ok environment) = Ok (canonical_text environments environment)
+of_gathered (Err fault) = Err (refusal_of_gather fault)
+
 -- ---- one row a question
 
 unfoldable pub answer_of : Documents → Question → Answer
@@ -157,3 +172,4 @@ answer_of d (question.ElementValue id p level extent) = of_element d id p.steps 
 answer_of d (question.ElementReference id p) = of_submodel d id (λ s. of_reference (reference_to s p.steps) (lost p.steps s))
 answer_of d (question.ElementPaths id p level) = of_element d id p.steps (λ e. Ok (paths_text (element_paths p.steps (core_form level e))))
 answer_of d (question.Concept id) = of_concept d id (λ c. Ok (canonical_text concepts c))
+answer_of d (question.Serialization s t c) = of_gathered (gathered d s t c)

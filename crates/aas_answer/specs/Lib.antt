@@ -1,4 +1,5 @@
 pub mod Answers
+pub mod Arrays
 pub mod Children
 pub mod Found
 pub mod Listed

@@ -2,7 +2,7 @@
 use Rattle.std.specs.Prelude.{◌≡◌, ℕ, Bool, true, false, List, [], slice_get, is_some, Option, Some, None, Ok, if◌then◌else◌}
 use Rattle.std.specs.Option.{option_map_or}
 use Rattle.std.specs.Str.{encode_utf8_all}
-use Rattle.aas_json_mapping.specs.Trees.{concepts, shells}
+use Rattle.aas_json_mapping.specs.Trees.{concepts, environments, shells}
 use Rattle.aas_json_spelling.specs.Spells.{canonical_text}
 use Rattle.aas_model_names.specs.declared.collection.Collection.{Collection}
 use Rattle.aas_model_names.specs.declared.collection.Collection.TheVariants.{Shells, Submodels, Concepts}
@@ -14,25 +14,33 @@ use Rattle.aas_question.specs.declared.question.Question.TheVariants as question
 use Rattle.aas_store.specs.Documents.{Documents}
 use Rattle.aas_answer.specs.Answers.{Answer, answer_of, of_concepts, of_shells, of_submodels, page_text, submodel_shown}
 use Rattle.aas_answer.specs.Shown.{document_shown}
+use Rattle.aas_answer.specs.declared.plans.Listing.{Listing}
 use Rattle.aas_answer.specs.declared.plans.Plan.{Plan}
+use Rattle.aas_answer.specs.declared.plans.Plan.TheVariants as plan
+use Rattle.aas_serialization.specs.Chosen.{chosen_environment}
 
 -- what is told of the document of an identifier
-abbrev pub entry_text : Documents → Plan → List ℕ → List ℕ
+abbrev pub entry_text : Documents → Listing → List ℕ → List ℕ
 entry_text d p id = document_shown p.collection p.level p.extent (encode_utf8_all id) d
 
 -- the text of the page, or of the one document
-abbrev pub plan_text : Documents → Plan → List ℕ
-plan_text d p =
+abbrev pub listing_text : Documents → Listing → List ℕ
+listing_text d p =
     if p.single
     then option_map_or (entry_text d p) (slice_get p.ids 0) []
     else page_text (entry_text d p) p.cursor (record { entries = p.ids; more = is_some p.cursor })
 
--- whether answers to a question are planned: those that tell whole documents, a page of any or one submodel
+abbrev pub plan_text : Documents → Plan → List ℕ
+plan_text d (plan.Listing listing) = listing_text d listing
+plan_text d (plan.Environment chosen) = canonical_text environments (chosen_environment d chosen)
+
+-- whether answers to a question are planned, which those are that tell whole documents: a page of any, one submodel, an environment
 abbrev pub is_planned : Question → Bool
 is_planned (question.Shells s) = true
 is_planned (question.Submodels s level extent) = true
 is_planned (question.Submodel id level extent) = true
 is_planned (question.Concepts s) = true
+is_planned (question.Serialization s t c) = true
 is_planned q = false
 
 -- the plan tells the answer to the question, which has none exactly where it isn't planned

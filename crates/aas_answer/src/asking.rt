@@ -50,7 +50,8 @@ fn tell_unplanned<S: Store>(
         Question::Shells { .. }
         | Question::Submodels { .. }
         | Question::Submodel { .. }
-        | Question::Concepts { .. } => unreachable!(),
+        | Question::Concepts { .. }
+        | Question::Serialization { .. } => unreachable!(),
         Question::ShellsReference { selection } => {
             documents_answer(alloc, store, selection.get(), DocumentForm::ShellReference)
         }

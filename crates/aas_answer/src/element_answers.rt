@@ -59,7 +59,9 @@ pub(crate) fn element_metadata_answer<S: Store>(
 {
     let row = stored_row(alloc, store, id, path)?;
     let alone = row.copy(alloc)?;
-    Ok(metadata_text(alloc, &alone)?)
+    let text = metadata_text(alloc, &alone);
+    drop(alone);
+    Ok(text?)
 }
 
 /// The text of the metadata of the element.
@@ -67,7 +69,9 @@ fn metadata_text(alloc: Global, element: &Element) -> Result<Many<u8>, NoMemory>
     ensures { IfOk result (λ text. text ≡ canonical_text elements (metadata_form element.now)) }
 {
     let form = metadata(alloc, element)?;
-    element_text(alloc, &form)
+    let text = element_text(alloc, &form);
+    drop(form);
+    text
 }
 
 /// The value form of the element, at a level and to an extent.
@@ -100,7 +104,9 @@ fn value_shown(
     ensures { (result ≡ Err refused.NoMemory) ⊎ (result ≡ value_answer (value_form extent (core_form level element))) }
 {
     let form = cut_element(element, level);
-    value_of_form(alloc, &form, extent)
+    let shown = value_of_form(alloc, &form, extent);
+    drop(form);
+    shown
 }
 
 fn value_of_form(alloc: Global, form: &Element, extent: Extent) -> Result<Many<u8>, Refusal>
@@ -144,7 +150,9 @@ fn paths_shown(
     ensures { IfOk result (λ text. text ≡ paths_text (element_paths path.now.steps (core_form level element))) }
 {
     let form = cut_element(element, level);
-    paths_of_form(alloc, &form, path)
+    let text = paths_of_form(alloc, &form, path);
+    drop(form);
+    text
 }
 
 fn paths_of_form(alloc: Global, form: &Element, path: &Path) -> Result<Many<u8>, NoMemory>

@@ -3,11 +3,12 @@ ghost use Rattle.std.specs.Prelude.{◌≡◌, ◌⊎◌, true, Ok, Err, IfErr, 
 ghost use Rattle.aas_command.specs.declared.refusal.Refusal.TheVariants as refused;
 ghost use Rattle.aas_step.specs.Valid.{AreValid};
 ghost use Rattle.aas_answer.specs.Answers.{answer_of, of_submodel, submodel_shown};
-ghost use Rattle.aas_answer.specs.Plans.{IsPlanOf, is_planned, page_shown, plan_text};
+ghost use Rattle.aas_answer.specs.Plans.{IsPlanOf, is_planned, listing_text, page_shown};
 
 use crate::document_pages::after;
+use crate::environments::plan_environment;
 use crate::page_text::document_cursor;
-use crate::plans::Plan;
+use crate::plans::{Listing, Plan};
 use aas_command::{Absent, Refusal};
 use aas_model::{Collection, Duplicate, Extent, Level, Many, NoMemory, Text};
 use aas_page::{Selection, page};
@@ -15,8 +16,8 @@ use aas_question::Question;
 use aas_store::Store;
 use std::alloc::Global;
 
-/// The plan of the answer to a question, if such answers are planned: those that tell whole documents, a page of any or
-/// one submodel.
+/// The plan of the answer to a question, if such answers are planned, which those are that tell whole documents: a page of
+/// any, one submodel, an environment.
 #[tactic(auto, unfolding(crate::specs::Answers::answer_of))]
 pub fn plan<S: Store>(
     alloc: Global,
@@ -32,7 +33,9 @@ pub fn plan<S: Store>(
         Question::Shells { selection } => {
             let extent = Extent::WithBlobValue;
             let shells = Collection::Shells;
-            Ok(Some(plan_page(alloc, store, shells, selection.get(), Level::Deep, extent)?))
+            Ok(Some(Plan::Listing {
+                listing: plan_page(alloc, store, shells, selection.get(), Level::Deep, extent)?,
+            }))
         }
         Question::Submodels {
             selection,
@@ -40,15 +43,30 @@ pub fn plan<S: Store>(
             extent,
         } => {
             let submodels = Collection::Submodels;
-            Ok(Some(plan_page(alloc, store, submodels, selection.get(), *level, *extent)?))
+            Ok(Some(Plan::Listing {
+                listing: plan_page(alloc, store, submodels, selection.get(), *level, *extent)?,
+            }))
         }
         Question::Submodel { id, level, extent } => {
-            Ok(Some(plan_submodel(alloc, store, id, *level, *extent)?))
+            Ok(Some(Plan::Listing {
+                listing: plan_submodel(alloc, store, id, *level, *extent)?,
+            }))
         }
         Question::Concepts { selection } => {
             let extent = Extent::WithBlobValue;
             let concepts = Collection::Concepts;
-            Ok(Some(plan_page(alloc, store, concepts, selection.get(), Level::Deep, extent)?))
+            Ok(Some(Plan::Listing {
+                listing: plan_page(alloc, store, concepts, selection.get(), Level::Deep, extent)?,
+            }))
+        }
+        Question::Serialization {
+            shells,
+            submodels,
+            concepts,
+        } => {
+            Ok(Some(Plan::Environment {
+                chosen: plan_environment(store, shells, submodels, *concepts)?,
+            }))
         }
         _ => Ok(None),
     }
@@ -62,8 +80,8 @@ fn plan_page<S: Store>(
     selection: &Selection,
     level: Level,
     extent: Extent,
-) -> Result<Plan, NoMemory>
-    ensures { IfOk result (λ plan. page_shown collection level extent (S.documents store.now) selection.now ≡ Ok (plan_text (S.documents store.now) plan)) }
+) -> Result<Listing, NoMemory>
+    ensures { IfOk result (λ plan. page_shown collection level extent (S.documents store.now) selection.now ≡ Ok (listing_text (S.documents store.now) plan)) }
 {
     let page = page(
         alloc,
@@ -74,7 +92,7 @@ fn plan_page<S: Store>(
         selection.limit,
     )?;
     let cursor = document_cursor(alloc, &page)?;
-    Ok(Plan {
+    Ok(Listing {
         ids: page.ids,
         cursor,
         collection,
@@ -91,8 +109,8 @@ fn plan_submodel<S: Store>(
     id: &Text,
     level: Level,
     extent: Extent,
-) -> Result<Plan, Refusal>
-    ensures planned { IfOk result (λ plan. of_submodel (S.documents store.now) id.now (λ s. Ok (submodel_shown level extent s)) ≡ Ok (plan_text (S.documents store.now) plan)) }
+) -> Result<Listing, Refusal>
+    ensures planned { IfOk result (λ plan. of_submodel (S.documents store.now) id.now (λ s. Ok (submodel_shown level extent s)) ≡ Ok (listing_text (S.documents store.now) plan)) }
     ensures refused { IfErr result (λ refusal. (refusal ≡ refused.NoMemory)
         ⊎ (of_submodel (S.documents store.now) id.now (λ s. Ok (submodel_shown level extent s)) ≡ Err refusal)) }
 {
@@ -103,7 +121,7 @@ fn plan_submodel<S: Store>(
     }
     let mut ids = Many::new(alloc);
     ids.push(id.copy()?)?;
-    Ok(Plan {
+    Ok(Listing {
         ids,
         cursor: None,
         collection: Collection::Submodels,

@@ -6,20 +6,31 @@ ghost use Rattle.aas_out.specs.Adds.{Adds};
 ghost use Rattle.aas_out.specs.Told.{Puts};
 ghost use Rattle.aas_step.specs.Valid.{AreValid};
 ghost use Rattle.aas_answer.specs.Answers.{page_text};
-ghost use Rattle.aas_answer.specs.Plans.{entry_text, plan_text};
+ghost use Rattle.aas_answer.specs.Plans.{entry_text, listing_text, plan_text};
 
+use crate::environments::pour_environment;
 use crate::page_text::{pour_begin, text_of};
 use crate::pouring::pour_document;
 use aas_members_text::comma_of;
 use aas_model::{Collection, Extent, Level, Many, NoMemory, Text};
 use aas_out::{Failed, Out, Pour, Pouring, TextOut, add, measure};
+use aas_serialization::Chosen;
 use aas_store::Store;
 use std::alloc::Global;
 use std::marker::Model;
 
-/// Which documents an answer tells: those of a page, or a single one.
+/// Which documents an answer tells.
 #[derive(Drop)]
-pub struct Plan {
+pub enum Plan {
+    /// Those of a page, or a single one.
+    Listing { listing: Listing },
+    /// Those of an environment.
+    Environment { chosen: Chosen },
+}
+
+/// The documents of a page, or a single one.
+#[derive(Drop)]
+pub struct Listing {
     /// The identifiers of the documents.
     pub ids: Many<Text>,
     /// The cursor of the page behind, if a further document follows.
@@ -45,10 +56,26 @@ fn pour_text<S: Store, O: Out>(so_far: Pouring, store: &S, plan: &Plan, out: &mu
     requires { AreValid (S.documents store.now) }
     ensures { Adds so_far result (O.told out.old) (O.told out.new) (plan_text (S.documents store.now) plan.now) }
 {
-    if plan.single {
-        pour_single(so_far, store, plan, out)
+    match plan {
+        Plan::Listing { listing } => pour_listing(so_far, store, listing, out),
+        Plan::Environment { chosen } => pour_environment(so_far, store, chosen, out),
+    }
+}
+
+/// Puts the text of the page, or of the one document.
+fn pour_listing<S: Store, O: Out>(
+    so_far: Pouring,
+    store: &S,
+    listing: &Listing,
+    out: &mut O,
+) -> Pouring
+    requires { AreValid (S.documents store.now) }
+    ensures { Adds so_far result (O.told out.old) (O.told out.new) (listing_text (S.documents store.now) listing.now) }
+{
+    if listing.single {
+        pour_single(so_far, store, listing, out)
     } else {
-        pour_page(so_far, store, plan, out)
+        pour_page(so_far, store, listing, out)
     }
 }
 
@@ -56,57 +83,72 @@ fn pour_text<S: Store, O: Out>(so_far: Pouring, store: &S, plan: &Plan, out: &mu
 fn pour_entry<S: Store, O: Out>(
     so_far: Pouring,
     store: &S,
-    plan: &Plan,
+    listing: &Listing,
     id: &Text,
     out: &mut O,
 ) -> Pouring
     requires { AreValid (S.documents store.now) }
-    ensures { Adds so_far result (O.told out.old) (O.told out.new) (entry_text (S.documents store.now) plan.now id.now) }
+    ensures { Adds so_far result (O.told out.old) (O.told out.new) (entry_text (S.documents store.now) listing.now id.now) }
 {
     pour_document(
         so_far,
         store,
-        plan.collection,
+        listing.collection,
         id.as_str(),
-        plan.level,
-        plan.extent,
+        listing.level,
+        listing.extent,
         out,
     )
 }
 
 /// Puts what is told of the first document.
-fn pour_single<S: Store, O: Out>(so_far: Pouring, store: &S, plan: &Plan, out: &mut O) -> Pouring
+fn pour_single<S: Store, O: Out>(
+    so_far: Pouring,
+    store: &S,
+    listing: &Listing,
+    out: &mut O,
+) -> Pouring
     requires { AreValid (S.documents store.now) }
     ensures { Adds so_far result (O.told out.old) (O.told out.new)
-        (option_map_or (entry_text (S.documents store.now) plan.now) (slice_get plan.now.ids 0) []) }
+        (option_map_or (entry_text (S.documents store.now) listing.now) (slice_get listing.now.ids 0) []) }
 {
-    match plan.ids.get(0) {
-        Some(id) => pour_entry(so_far, store, plan, id, out),
+    match listing.ids.get(0) {
+        Some(id) => pour_entry(so_far, store, listing, id, out),
         None => so_far,
     }
 }
 
 /// Puts the page.
-fn pour_page<S: Store, O: Out>(so_far: Pouring, store: &S, plan: &Plan, out: &mut O) -> Pouring
+fn pour_page<S: Store, O: Out>(
+    so_far: Pouring,
+    store: &S,
+    listing: &Listing,
+    out: &mut O,
+) -> Pouring
     requires { AreValid (S.documents store.now) }
     ensures { Adds so_far result (O.told out.old) (O.told out.new)
-        (page_text (entry_text (S.documents store.now) plan.now) plan.now.cursor (record { entries = plan.now.ids; more = is_some plan.now.cursor })) }
+        (page_text (entry_text (S.documents store.now) listing.now) listing.now.cursor (record { entries = listing.now.ids; more = is_some listing.now.cursor })) }
 {
-    let begun = pour_begin(so_far, &plan.cursor, out);
-    let told = pour_entries(begun, store, plan, out);
+    let begun = pour_begin(so_far, &listing.cursor, out);
+    let told = pour_entries(begun, store, listing, out);
     add(told, b"]}", out)
 }
 
 /// Puts the entries of the page, with commas between them.
-fn pour_entries<S: Store, O: Out>(so_far: Pouring, store: &S, plan: &Plan, out: &mut O) -> Pouring
+fn pour_entries<S: Store, O: Out>(
+    so_far: Pouring,
+    store: &S,
+    listing: &Listing,
+    out: &mut O,
+) -> Pouring
     requires { AreValid (S.documents store.now) }
     ensures { Adds so_far result (O.told out.old) (O.told out.new)
-        (join_by (entry_text (S.documents store.now) plan.now) (codes ",") plan.now.ids) }
+        (join_by (entry_text (S.documents store.now) listing.now) (codes ",") listing.now.ids) }
 {
     let mut state = so_far;
-    for (place, id) in plan.ids.as_slice().iter().enumerate() {
+    for (place, id) in listing.ids.as_slice().iter().enumerate() {
         let comma = add(state, comma_of(place > 0), out);
-        state = pour_entry(comma, store, plan, id, out);
+        state = pour_entry(comma, store, listing, id, out);
     }
     state
 }

@@ -94,7 +94,9 @@ pub(crate) fn append_value(
     ensures { OnOk result (text.new.items ≡ text.old.items ++ submodel_valued level extent submodel) }
 {
     let form = cut(submodel, level);
-    append_value_of_form(alloc, &form, extent, text)
+    let appended = append_value_of_form(alloc, &form, extent, text);
+    drop(form);
+    appended
 }
 
 fn append_value_of_form(

@@ -15,6 +15,7 @@ use crate::elements::{
 };
 use crate::metadata::{ask_element_metadata, ask_submodel_metadata};
 use crate::segments::identifier;
+use crate::serialization::ask_serialization;
 use crate::shells::{
     ask_asset, ask_references, ask_shell_reference, ask_shells_reference, drop_reference,
 };
@@ -114,6 +115,7 @@ fn ask_resource(
         Resource::Concept => {
             ask_document::<Concept>(alloc, resource, texts.id, method, query, body)
         }
+        Resource::Serialization => ask_serialization(alloc, query),
     }
 }
 

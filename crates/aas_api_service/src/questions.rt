@@ -1,9 +1,9 @@
 // Questions answered: the answer of a plan is counted, and poured behind its reply; every other stands in its reply.
-ghost use Rattle.std.specs.Prelude.{◌≡◌, ◌≢◌, ◌↔◌, Bool, length, false, true, Err, IfOk, IsSome};
+ghost use Rattle.std.specs.Prelude.{◌≡◌, ◌≢◌, ◌↔◌, ℕ, Bool, List, length, false, true, Err, IfOk, IsSome};
 ghost use Rattle.aas_answer.specs.Answers.{answer_of};
 ghost use Rattle.aas_answer.specs.Plans.{is_planned, plan_text};
 ghost use Rattle.aas_http.specs.ReplyText.{phrase};
-ghost use Rattle.aas_session.specs.WholeReply.{IsMeasured, whole_reply};
+ghost use Rattle.aas_session.specs.WholeReply.{IsMeasured, whole_replies, whole_reply};
 ghost use Rattle.aas_step.specs.Valid.{AreValid};
 ghost use Rattle.aas_store.specs.Documents.{Documents};
 ghost use Rattle.aas_api_service.specs.Finished.{IsReply, whole_of};
@@ -88,10 +88,10 @@ fn refuse_long(alloc: Global) -> Result<Reply, Stop>
 /// The answer of a reply behind which nothing is poured.
 pub(crate) fn whole(reply: Result<Reply, Stop>) -> Result<Answer<Plan>, Stop>
     requires { IfOk reply (λ reply. reply.later ≡ 0) }
-    ensures whole { (d : Documents) → whole_of d result ≡ reply }
+    ensures whole { (poured : Plan → List ℕ) → whole_replies poured result ≡ reply }
     ensures planned { (planned : Bool) → (planned ≡ true → IfOk reply (λ reply. reply.status ≢ 200)) → IfOk result (HasPlan planned) }
     ensures fault { (result ≡ Err Stop.StorageFault) ↔ (reply ≡ Err Stop.StorageFault) }
-    ensures measured { (d : Documents) → IfOk result (IsMeasured (plan_text d)) }
+    ensures measured { (poured : Plan → List ℕ) → IfOk result (IsMeasured poured) }
     ensures phrase { IfOk reply (λ reply. IsSome (phrase reply.status)) → IfOk result (λ answer. IsSome (phrase answer.reply.status)) }
 {
     match reply {

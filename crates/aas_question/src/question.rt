@@ -1,4 +1,4 @@
-use aas_model::{Boxed, Extent, Level, Path, Text};
+use aas_model::{Boxed, Extent, Level, Many, Path, Text};
 use aas_page::{Selection, Span};
 
 /// What is asked of a repository and changes nothing. Selections, which are large, lie in boxes.
@@ -122,5 +122,12 @@ pub enum Question {
     },
     Concept {
         id: Text,
+    },
+    /// The environment of the shells and the submodels of some identifiers, and of the concept descriptions that they take
+    /// along, where these are asked for too.
+    Serialization {
+        shells: Many<Text>,
+        submodels: Many<Text>,
+        concepts: bool,
     },
 }

@@ -9,13 +9,13 @@ use Rattle.aas_json_spelling.specs.Reads.{ReadsBytes, ReadsIf}
 use Rattle.aas_json_spelling.specs.Spells.{Trees}
 use Rattle.aas_json_table.specs.TooDeep.{limits}
 use Rattle.aas_model.specs.declared.parts.SpecificAssetId.{SpecificAssetId}
-use Rattle.aas_page.specs.Segment.{IsCursor}
+use Rattle.aas_page.specs.Segment.{IsCursor, IsIdentifierCode}
 use Rattle.aas_page.proofs.Coding.{coded_once}
 use Rattle.aas_reference.specs.Trees.{references}
 use Rattle.aas_target.specs.Given.{Gains, IsFirstBad, Takes, TakesAll, nothing_given}
 use Rattle.aas_target.specs.Laws.{QueriesSayOne}
 use Rattle.aas_target.specs.Query.{Setting, settings_of}
-use Rattle.aas_target.specs.Values.{IsLimit, IsPlaceCursor, IsTreeCode, extent_named, level_named}
+use Rattle.aas_target.specs.Values.{IsLimit, IsPlaceCursor, IsTreeCode, extent_named, flag_named, level_named}
 use Rattle.aas_target.specs.declared.given.Given.{Given}
 use Rattle.aas_target.specs.declared.parameter.Parameter.{Parameter}
 use Rattle.aas_target.specs.declared.parameter.Parameter.TheVariants as parameter
@@ -35,6 +35,11 @@ place_once text m n p q = one_place text m n (omega (arith, p.2)) p.0 q
 cursor_once : (text : List ℕ) → IsOnce (IsCursor text)
 cursor_once text a b x y =
     let bytes = coded_once text x.utf8 y.utf8 x.spells.are_bytes y.spells.are_bytes (inl x.coded) (inl y.coded) in
+    x.spells.characters ∙ ap chars bytes ∙ sym y.spells.characters
+
+identifier_once : (text : List ℕ) → IsOnce (IsIdentifierCode text)
+identifier_once text a b x y =
+    let bytes = coded_once text x.utf8 y.utf8 x.spells.are_bytes y.spells.are_bytes x.coded y.coded in
     x.spells.characters ∙ ap chars bytes ∙ sym y.spells.characters
 
 reads_once : {A : Type 0} (trees : Trees A) → IsMapped trees AnyShape → (found : Option Data) (t u : A) → ReadsIf trees limits (Ok t) found
@@ -79,6 +84,14 @@ module _ (of_references : IsMapped references AnyShape) (of_ids : IsMapped speci
       gains_once (λ l. level_named text ≡ Some l) (λ l m p q. cc) g.level (λ l. record g { level = l }) a b x y
   taken_once g (parameter.Extent, text) a b x y =
       gains_once (λ e. extent_named text ≡ Some e) (λ e f p q. cc) g.extent (λ e. record g { extent = e }) a b x y
+  taken_once g (parameter.AasIds, text) a b x y =
+      let with_id : List ℕ → Given = λ i. record g { shells = g.shells ++ i ∷ [] } in
+      x.2 ∙ ap with_id (identifier_once text x.0 y.0 x.1 y.1) ∙ sym y.2
+  taken_once g (parameter.SubmodelIds, text) a b x y =
+      let with_id : List ℕ → Given = λ i. record g { submodels = g.submodels ++ i ∷ [] } in
+      x.2 ∙ ap with_id (identifier_once text x.0 y.0 x.1 y.1) ∙ sym y.2
+  taken_once g (parameter.IncludeConceptDescriptions, text) a b x y =
+      gains_once (λ b. flag_named text ≡ Some b) (λ b c p q. cc) g.concepts (λ b. record g { concepts = b }) a b x y
 
   all_once : (settings : List Setting) (g a b : Given) → TakesAll g settings a → TakesAll g settings b → a ≡ b
   all_once [] g a b x y = x ∙ sym y

@@ -1,6 +1,6 @@
 -- What a query gives, where its settings are taken one after another. The first that can't be taken is bad: its value isn't of its form, or
--- its parameter was given before, though asset ids may be given again. This profile's own rule.
-use Rattle.std.specs.Prelude.{◌≡◌, ◌⊎◌, ℕ, List, [], ◌∷◌, ◌++◌, Option, Some, None, unwrap_or}
+-- its parameter was given before, though asset ids and the identifiers of documents may be given again. This profile's own rule.
+use Rattle.std.specs.Prelude.{◌≡◌, ◌⊎◌, ℕ, Bool, true, List, [], ◌∷◌, ◌++◌, Option, Some, None, unwrap_or}
 use Rattle.std.specs.Str.{chars}
 use Rattle.aas_json_mapping.specs.Trees.{specific_asset_ids}
 use Rattle.aas_model.specs.declared.parts.SpecificAssetId.{SpecificAssetId}
@@ -8,13 +8,13 @@ use Rattle.aas_model_names.specs.declared.modifiers.Extent.{Extent}
 use Rattle.aas_model_names.specs.declared.modifiers.Extent.TheVariants.{WithoutBlobValue}
 use Rattle.aas_model_names.specs.declared.modifiers.Level.{Level}
 use Rattle.aas_model_names.specs.declared.modifiers.Level.TheVariants.{Deep}
-use Rattle.aas_page.specs.Segment.{IsCursor}
+use Rattle.aas_page.specs.Segment.{IsCursor, IsIdentifierCode}
 use Rattle.aas_page.specs.declared.filter.Filter.{Filter}
 use Rattle.aas_page.specs.declared.filter.Selection.{Selection}
 use Rattle.aas_page.specs.declared.filter.Span.{Span}
 use Rattle.aas_reference.specs.Trees.{references}
 use Rattle.aas_target.specs.Query.{Setting, settings_of}
-use Rattle.aas_target.specs.Values.{IsLimit, IsPlaceCursor, IsTreeCode, extent_named, level_named}
+use Rattle.aas_target.specs.Values.{IsLimit, IsPlaceCursor, IsTreeCode, extent_named, flag_named, level_named}
 use Rattle.aas_target.specs.declared.given.Given.{Given}
 use Rattle.aas_target.specs.declared.given.Shown.{Shown}
 use Rattle.aas_target.specs.declared.parameter.Parameter.{Parameter}
@@ -33,6 +33,9 @@ nothing_given = record {
   from = None;
   level = None;
   extent = None;
+  shells = [];
+  submodels = [];
+  concepts = None;
 }
 
 -- a value of this kind, where there was none
@@ -51,6 +54,10 @@ Takes g (parameter.After, text) more = Gains (IsCursor text) g.after (λ id. rec
 Takes g (parameter.From, text) more = Gains (IsPlaceCursor text) g.from (λ n. record g { from = n }) more
 Takes g (parameter.Level, text) more = Gains (λ l. level_named text ≡ Some l) g.level (λ l. record g { level = l }) more
 Takes g (parameter.Extent, text) more = Gains (λ e. extent_named text ≡ Some e) g.extent (λ e. record g { extent = e }) more
+Takes g (parameter.AasIds, text) more = (id : List ℕ) × IsIdentifierCode text id × (more ≡ record g { shells = g.shells ++ id ∷ [] })
+Takes g (parameter.SubmodelIds, text) more = (id : List ℕ) × IsIdentifierCode text id × (more ≡ record g { submodels = g.submodels ++ id ∷ [] })
+Takes g (parameter.IncludeConceptDescriptions, text) more =
+    Gains (λ b. flag_named text ≡ Some b) g.concepts (λ b. record g { concepts = b }) more
 
 -- what is given, with all of these settings more
 abbrev pub TakesAll : Given → List Setting → Given → Type 0
@@ -97,3 +104,7 @@ selection_of g = record { filter = filter_of g; after = g.after; limit = limit_o
 -- of children or references, by their places
 abbrev pub span_of : Given → Span
 span_of g = record { from = unwrap_or g.from 0; limit = limit_of g }
+
+-- whether concept descriptions are asked for with the documents
+abbrev pub concepts_of : Given → Bool
+concepts_of g = unwrap_or g.concepts true

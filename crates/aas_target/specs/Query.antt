@@ -5,7 +5,7 @@ use Rattle.std.specs.List.{filter_map, find}
 use Rattle.std.specs.Str.Lossy.{utf8_lossy}
 use Rattle.form_urlencoded.specs.Form.{decode, raw_pairs}
 use Rattle.aas_target.specs.declared.parameter.Parameter.{Parameter}
-use Rattle.aas_target.specs.declared.parameter.Parameter.TheVariants.{IdShort, AssetIds, SemanticId, IsCaseOf, Limit, After, From, Level, Extent}
+use Rattle.aas_target.specs.declared.parameter.Parameter.TheVariants.{IdShort, AssetIds, SemanticId, IsCaseOf, Limit, After, From, Level, Extent, AasIds, SubmodelIds, IncludeConceptDescriptions}
 
 -- The names of the parameters (IDTA-01002-3-0, HTTP/REST API). A cursor tells the document behind which a page begins, or the place from
 -- which on it lists children or references.
@@ -19,6 +19,9 @@ parameter_name After = codes "cursor"
 parameter_name From = codes "cursor"
 parameter_name Level = codes "level"
 parameter_name Extent = codes "extent"
+parameter_name AasIds = codes "aasIds"
+parameter_name SubmodelIds = codes "submodelIds"
+parameter_name IncludeConceptDescriptions = codes "includeConceptDescriptions"
 
 -- a parameter, and its value
 abbrev pub Setting : Type 0

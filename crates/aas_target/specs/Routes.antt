@@ -8,9 +8,9 @@ use Rattle.form_urlencoded.specs.Form.{split, split_once}
 use Rattle.aas_target.specs.declared.method.Method.{Method}
 use Rattle.aas_target.specs.declared.method.Method.TheVariants.{Get, Post, Put, Patch, Delete}
 use Rattle.aas_target.specs.declared.parameter.Parameter.{Parameter}
-use Rattle.aas_target.specs.declared.parameter.Parameter.TheVariants.{IdShort, AssetIds, SemanticId, IsCaseOf, Limit, After, From, Level, Extent}
+use Rattle.aas_target.specs.declared.parameter.Parameter.TheVariants.{IdShort, AssetIds, SemanticId, IsCaseOf, Limit, After, From, Level, Extent, AasIds, SubmodelIds, IncludeConceptDescriptions}
 use Rattle.aas_target.specs.declared.routes.Resource.{Resource}
-use Rattle.aas_target.specs.declared.routes.Resource.TheVariants.{Shells, ShellsReference, Shell, ShellReference, AssetInformation, ReferencesOf, ReferencesTo, Submodels, SubmodelsMetadata, SubmodelsValue, SubmodelsReference, Submodel, SubmodelMetadata, SubmodelValue, SubmodelReference, SubmodelPaths, Elements, ElementsMetadata, ElementsReference, Element, ElementMetadata, ElementValue, ElementReference, ElementPaths, Concepts, Concept}
+use Rattle.aas_target.specs.declared.routes.Resource.TheVariants.{Shells, ShellsReference, Shell, ShellReference, AssetInformation, ReferencesOf, ReferencesTo, Submodels, SubmodelsMetadata, SubmodelsValue, SubmodelsReference, Submodel, SubmodelMetadata, SubmodelValue, SubmodelReference, SubmodelPaths, Elements, ElementsMetadata, ElementsReference, Element, ElementMetadata, ElementValue, ElementReference, ElementPaths, Concepts, Concept, Serialization}
 
 -- ---- the table
 
@@ -60,6 +60,9 @@ reference = word (codes "$reference")
 abbrev pub paths : Segment
 paths = word (codes "$path")
 
+abbrev pub serialization : Segment
+serialization = word (codes "serialization")
+
 abbrev pub row_of : Resource → Row
 row_of Shells = row (shells ∷ []) (Get ∷ Post ∷ []) (IdShort ∷ AssetIds ∷ Limit ∷ After ∷ [])
 row_of ShellsReference = row (shells ∷ reference ∷ []) (Get ∷ []) (IdShort ∷ AssetIds ∷ Limit ∷ After ∷ [])
@@ -87,6 +90,7 @@ row_of ElementReference = row (submodels ∷ id ∷ elements ∷ path ∷ refere
 row_of ElementPaths = row (submodels ∷ id ∷ elements ∷ path ∷ paths ∷ []) (Get ∷ []) (Level ∷ [])
 row_of Concepts = row (concepts ∷ []) (Get ∷ Post ∷ []) (IdShort ∷ IsCaseOf ∷ Limit ∷ After ∷ [])
 row_of Concept = row (concepts ∷ id ∷ []) (Get ∷ Put ∷ Delete ∷ []) []
+row_of Serialization = row (serialization ∷ []) (Get ∷ []) (AasIds ∷ SubmodelIds ∷ IncludeConceptDescriptions ∷ [])
 
 abbrev pub parameters_of : Resource → List Parameter
 parameters_of resource = (row_of resource).parameters
@@ -103,7 +107,7 @@ abbrev pub other_resources : List Resource
 other_resources =
     Shells ∷ ShellsReference ∷ Shell ∷ ShellReference ∷ AssetInformation ∷ ReferencesOf ∷ ReferencesTo
     ∷ Submodels ∷ SubmodelsMetadata ∷ SubmodelsValue ∷ SubmodelsReference
-    ∷ Concepts ∷ Concept ∷ []
+    ∷ Concepts ∷ Concept ∷ Serialization ∷ []
 
 -- ---- paths
 

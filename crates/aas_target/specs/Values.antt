@@ -1,6 +1,6 @@
 -- The forms of the values of parameters (IDTA-01002-3-0, HTTP/REST API: serialization modifiers Level and Extent, pagination, queries).
 -- That base64url has all of its padding or none, and the bounds of numbers, are this profile's own rules.
-use Rattle.std.specs.Prelude.{◌≡◌, ◌<◌, ◌≤◌, ◌^◌, ℕ, List, codes, decimal, bytes_eq, if◌then◌else◌, Option, Some, None, Ok}
+use Rattle.std.specs.Prelude.{Bool, true, false, ◌≡◌, ◌<◌, ◌≤◌, ◌^◌, ℕ, List, codes, decimal, bytes_eq, if◌then◌else◌, Option, Some, None, Ok}
 use Rattle.base64.specs.GeneralPurpose.{IsBytes}
 use Rattle.serde_json.specs.Data.{Data}
 use Rattle.aas_json_table.specs.TooDeep.{limits}
@@ -36,3 +36,6 @@ abbrev pub extent_named : List ℕ → Option Extent
 extent_named text =
     if bytes_eq text (codes "withoutBlobValue") then Some WithoutBlobValue
     else (if bytes_eq text (codes "withBlobValue") then Some WithBlobValue else None)
+
+abbrev pub flag_named : List ℕ → Option Bool
+flag_named text = if bytes_eq text (codes "true") then Some true else (if bytes_eq text (codes "false") then Some false else None)

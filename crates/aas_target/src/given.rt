@@ -5,7 +5,8 @@ ghost use Rattle.aas_target.specs.declared.values.ValueFault.TheVariants.{Bad};
 
 use crate::parameter::Parameter;
 use crate::values::{
-    ValueFault, asset_id, cursor, extent_named, level_named, limit, place, reference,
+    ValueFault, asset_id, cursor, extent_named, flag_named, identifier, level_named, limit, place,
+    reference,
 };
 use aas_model::{Extent, Level, Many, NoMemory, Reference, SpecificAssetId, Text};
 use aas_page::{Filter, Selection, Span};
@@ -26,6 +27,12 @@ pub struct Given {
     pub from: Option<u64>,
     pub level: Option<Level>,
     pub extent: Option<Extent>,
+    /// The identifiers of the shells that are asked for.
+    pub shells: Many<Text>,
+    /// Those of the submodels.
+    pub submodels: Many<Text>,
+    /// Whether concept descriptions are asked for too.
+    pub concepts: Option<bool>,
 }
 
 /// How much is shown of what is told.
@@ -66,10 +73,14 @@ impl Given {
             from: None,
             level: None,
             extent: None,
+            shells: Many::new(alloc),
+            submodels: Many::new(alloc),
+            concepts: None,
         }
     }
 
-    /// Takes a value of a parameter, if it is of its form and none was given before; asset ids may be given again.
+    /// Takes a value of a parameter, if it is of its form and none was given before; asset ids and the identifiers of documents
+    /// may be given again.
     pub(crate) fn take(
         &mut self,
         alloc: Global,
@@ -91,6 +102,12 @@ impl Given {
             Parameter::Extent => gain(
                 &mut self.extent,
                 extent_named(value).ok_or(ValueFault::Bad)?,
+            ),
+            Parameter::AasIds => Ok(self.shells.push(identifier(alloc, value)?)?),
+            Parameter::SubmodelIds => Ok(self.submodels.push(identifier(alloc, value)?)?),
+            Parameter::IncludeConceptDescriptions => gain(
+                &mut self.concepts,
+                flag_named(value).ok_or(ValueFault::Bad)?,
             ),
         }
     }

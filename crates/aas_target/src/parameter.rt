@@ -13,6 +13,11 @@ pub enum Parameter {
     From,
     Level,
     Extent,
+    /// The identifier of a shell that is asked for.
+    AasIds,
+    /// The identifier of a submodel that is asked for.
+    SubmodelIds,
+    IncludeConceptDescriptions,
 }
 
 impl Parameter {
@@ -31,6 +36,9 @@ impl Parameter {
             Parameter::After | Parameter::From => "cursor",
             Parameter::Level => "level",
             Parameter::Extent => "extent",
+            Parameter::AasIds => "aasIds",
+            Parameter::SubmodelIds => "submodelIds",
+            Parameter::IncludeConceptDescriptions => "includeConceptDescriptions",
         }
     }
 }

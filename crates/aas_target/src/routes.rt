@@ -59,6 +59,8 @@ pub enum Resource {
     Concepts,
     /// The concept description of an identifier.
     Concept,
+    /// The environment of some chosen documents.
+    Serialization,
 }
 
 /// A segment of a path: a word, or a parameter.
@@ -74,6 +76,7 @@ pub(crate) enum Segment {
     Value,
     Reference,
     Paths,
+    Serialization,
     /// The identifier of a document.
     Id,
     /// The identifier of a submodel to which a shell refers.
@@ -100,7 +103,7 @@ pub(crate) const SUBMODEL_RESOURCES: [Resource; 13] = [
 ];
 
 /// All others, which are meant before those.
-pub(crate) const OTHER_RESOURCES: [Resource; 13] = [
+pub(crate) const OTHER_RESOURCES: [Resource; 14] = [
     Resource::Shells,
     Resource::ShellsReference,
     Resource::Shell,
@@ -114,6 +117,7 @@ pub(crate) const OTHER_RESOURCES: [Resource; 13] = [
     Resource::SubmodelsReference,
     Resource::Concepts,
     Resource::Concept,
+    Resource::Serialization,
 ];
 
 impl Resource {
@@ -152,6 +156,7 @@ impl Resource {
             Resource::ElementPaths => &[Submodels, Id, Elements, Path, Paths],
             Resource::Concepts => &[Concepts],
             Resource::Concept => &[Concepts, Id],
+            Resource::Serialization => &[Serialization],
         }
     }
 
@@ -193,6 +198,7 @@ impl Resource {
                 &[IdShort, SemanticId, Limit, After]
             }
             Resource::Concepts => &[IdShort, IsCaseOf, Limit, After],
+            Resource::Serialization => &[AasIds, SubmodelIds, IncludeConceptDescriptions],
             Resource::Submodel
             | Resource::SubmodelValue
             | Resource::Element
@@ -226,6 +232,7 @@ impl Segment {
             Segment::Value => Some("$value"),
             Segment::Reference => Some("$reference"),
             Segment::Paths => Some("$path"),
+            Segment::Serialization => Some("serialization"),
             Segment::Id | Segment::Submodel | Segment::Path => None,
         }
     }

@@ -2,15 +2,15 @@
 ghost use Rattle.std.specs.Prelude.{◌≡◌, ◌≢◌, ◌<◌, ◌^◌, ℕ, List, Some, Err, decimal, IfNone, IfOk, IfSome};
 ghost use Rattle.serde_json.specs.View.{view};
 ghost use Rattle.aas_json_mapping.specs.Trees.{specific_asset_ids};
-ghost use Rattle.aas_page.specs.Segment.{IsCursor};
+ghost use Rattle.aas_page.specs.Segment.{IsCursor, IsIdentifierCode};
 ghost use Rattle.aas_reference.specs.Trees.{references};
-ghost use Rattle.aas_target.specs.Values.{IsLimit, IsPlaceCursor, IsTreeCode, IsValueCode, extent_named, level_named};
+ghost use Rattle.aas_target.specs.Values.{IsLimit, IsPlaceCursor, IsTreeCode, IsValueCode, extent_named, flag_named, level_named};
 ghost use Rattle.aas_target.specs.declared.values.ValueFault.TheVariants.{Bad};
 
 use aas_json_input::read_value;
 use aas_json_parts::read_specific;
 use aas_model::{Extent, Level, NoMemory, ReadFault, Reference, SpecificAssetId, Text};
-use aas_page::{from_base64url, id_from_cursor};
+use aas_page::{from_base64url, id_from_base64url, id_from_cursor};
 use aas_reference::read_reference;
 use itoa::Buffer;
 use serde_json::Value;
@@ -94,6 +94,17 @@ pub(crate) fn cursor(alloc: Global, text: &str) -> Result<Text, ValueFault>
     }
 }
 
+/// The identifier of a document, in base64url.
+pub(crate) fn identifier(alloc: Global, text: &str) -> Result<Text, ValueFault>
+    ensures ok { IfOk result (IsIdentifierCode text.now) }
+    ensures bad { result ≡ Err Bad → (id : List ℕ) → ¬ IsIdentifierCode text.now id }
+{
+    match id_from_base64url(alloc, text.as_bytes())? {
+        Some(id) => Ok(id),
+        None => Err(ValueFault::Bad),
+    }
+}
+
 /// The most entries of a page.
 pub(crate) fn limit(text: &str) -> Result<u32, ValueFault>
     ensures ok { IfOk result (IsLimit text.now) }
@@ -151,6 +162,18 @@ pub(crate) fn extent_named(text: &str) -> Option<Extent>
         Some(Extent::WithoutBlobValue)
     } else if text == "withBlobValue" {
         Some(Extent::WithBlobValue)
+    } else {
+        None
+    }
+}
+
+pub(crate) fn flag_named(text: &str) -> Option<bool>
+    ensures { result ≡ flag_named text.now }
+{
+    if text == "true" {
+        Some(true)
+    } else if text == "false" {
+        Some(false)
     } else {
         None
     }

@@ -15,4 +15,4 @@ unfolding tell
 returns g c =
     let there = c.in_ok-row.ensures.found in
     let same = same_metadata c.in_ok-row.row.level c.in_ok-alone.alone there.0 (c.in_ok-alone.ensures.line ∙ there.2) in
-    inr (ap Ok c.in_ok-metadata_text.ensures ∙ ap (λ f. Ok (canonical_text elements f)) same ∙ sym (there.1 tell))
+    inr (ap Ok c.in_ok-text.ensures ∙ ap (λ f. Ok (canonical_text elements f)) same ∙ sym (there.1 tell))

@@ -12,7 +12,7 @@ loop-place-init g c = adds_nothing c.args.so_far (g.O.Out.told c.args.out.now)
 
 pub loop-place-preserved : goal.loop-place-preserved
 loop-place-preserved g c =
-    let text = entry_text (g.S.Store.documents c.args.store.now) c.args.plan.now in
+    let text = entry_text (g.S.Store.documents c.args.store.now) c.args.listing.now in
     let ids = c.as_slice-id-items.result.now in
     let place = c.loop-place.place in
     entry_added text ids place c.id-item.result c.comma_of.result.now c.args.so_far c.loop-place.state c.add-comma.result c.pour_entry-state.result
@@ -22,7 +22,7 @@ loop-place-preserved g c =
 
 pub returns : goal.returns
 returns g c =
-    let text = entry_text (g.S.Store.documents c.args.store.now) c.args.plan.now in
+    let text = entry_text (g.S.Store.documents c.args.store.now) c.args.listing.now in
     let ids = c.as_slice-id-items.result.now in
-    adds_same c.args.so_far c.loop-place.state (g.O.Out.told c.args.out.now) (g.O.Out.told c.loop-place.out) (joined text (take c.loop-place.place ids)) (joined text c.args.plan.now.ids)
+    adds_same c.args.so_far c.loop-place.state (g.O.Out.told c.args.out.now) (g.O.Out.told c.loop-place.out) (joined text (take c.loop-place.place ids)) (joined text c.args.listing.now.ids)
     c.loop-place.invariant (ap (joined text) (take_all c.loop-place.place ids c.loop-place-test.false ∙ c.as_slice-id-items.ensures))

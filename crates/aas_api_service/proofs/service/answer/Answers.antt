@@ -1,4 +1,5 @@
 use Rattle.std.proofs.Common.{Result, subst, sym}
+use Rattle.aas_answer.specs.Plans.{plan_text}
 use Rattle.aas_http.specs.declared.replies.Reply.{Reply}
 use Rattle.aas_repo.specs.Held.{state_of}
 use Rattle.aas_session.specs.Answers.{Answers}
@@ -21,5 +22,5 @@ returns-in-Err-clause-answered g c = λ records settled.
     let state = state_of K.kept K.moment K.left_at c.args.repo.now in
     let P : Result Reply Stop → Type 0 =
     λ a. Answers (CallComesTo room) K.stands_for (repository_of state records) c.args.call state.moment state a in
-    subst P (sym (c.whole.ensures.whole c.args.repo.now.documents))
+    subst P (sym (c.whole.ensures.whole (plan_text c.args.repo.now.documents)))
     (answers_unreached room K.stands_for state records settled c.args.call c.in-Err.refusal c.refuse.result c.in-Err.ensures c.refuse.ensures.refused)

@@ -1,4 +1,5 @@
 use Rattle.std.proofs.Common.{Result, subst, sym}
+use Rattle.aas_answer.specs.Plans.{plan_text}
 use Rattle.aas_http.specs.Steps.{message_of}
 use Rattle.aas_http.specs.declared.replies.Reply.{Reply}
 use Rattle.aas_repo.specs.Held.{state_of}
@@ -37,5 +38,5 @@ returns-in-Err-clause-answered g c = λ records settled.
     let state = state_of K.kept K.moment K.left_at c.args.self.now.repo in
     let m = message_of c.args.request.now in
     let P : Result Reply Stop → Type 0 = λ a. Answers (Turns room) K.stands_for (repository_of state records) m state.moment state a in
-    subst P (sym (c.whole.ensures.whole c.args.self.now.repo.documents))
+    subst P (sym (c.whole.ensures.whole (plan_text c.args.self.now.repo.documents)))
     (answers_refused room K.stands_for state records settled m c.in-Err.refusal c.refuse.result c.in-Err.ensures c.refuse.ensures.refused)

@@ -1,0 +1,5 @@
+mod Along
+pub mod Choices
+mod Closings
+mod OneClosure
+pub mod Walked

@@ -1,0 +1,14 @@
+use Rattle.std.proofs.Common.{◌++◌, flat_map}
+use Rattle.aas_serialization.specs.Roots.{extension_roots, qualifier_roots, semantics_roots}
+use Rattle.aas_serialization.proofs.Along.{along_both}
+use Rattle.aas_serialization.proofs.walks.take_head.Goals as goal
+
+pub returns : goal.returns
+returns g c =
+    let m = g.S.Store.documents c.args.store.now in
+    let old = c.args.taken.now in
+    let meant = semantics_roots c.args.head.now.semantics in
+    let qualified = flat_map qualifier_roots c.args.head.now.qualifiers in
+    let extended = flat_map extension_roots c.args.head.now.head.extensions in
+    along_both m old c.take_among.new.taken c.take_among-2.new.taken (meant ++ qualified) extended
+    (along_both m old c.take_roots.new.taken c.take_among.new.taken meant qualified c.in_ok-take_roots.ensures c.in_ok-take_among.ensures) c.in_ok-take_among-2.ensures
