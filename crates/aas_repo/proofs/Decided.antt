@@ -19,10 +19,10 @@ use Rattle.aas_step.specs.Causes.{Cause, absent_of, causes, first_of, is_absent,
 use Rattle.aas_step.specs.Step.{accepted, result_of, ComesBy, ComesTo}
 use Rattle.aas_step.specs.Valid.{AreValid}
 use Rattle.aas_store.specs.Documents.{Documents, has, without}
-use Rattle.aas_repo_elements.proofs.Decided.{refused_by}
-use Rattle.aas_repo_elements.specs.Decisions.{IsDecision, Makes, Puts}
+use Rattle.aas_repo_documents.proofs.Decided.{refused_by}
+use Rattle.aas_repo_documents.specs.Decisions.{IsDecision, Makes, Puts}
 use Rattle.aas_repo.specs.Decisions.{Deletes, with_asset}
-use Rattle.aas_repo_elements.specs.declared.decision.Decision.TheVariants as decision
+use Rattle.aas_repo_documents.specs.declared.decision.Decision.TheVariants as decision
 
 -- where no document is made
 comes_without : (has_room : Bool) (d : Documents) (c : Command) (k : Collection) (id : List ℕ) → Deletes d c k id

@@ -35,10 +35,10 @@ use Rattle.aas_step.specs.Step.{ComesBy, ComesTo, accepted, later_causes, refuse
 use Rattle.aas_step.proofs.Validity.{no_cause}
 use Rattle.aas_store.specs.Documents.{Documents, with_all}
 use Rattle.aas_store.specs.Storable.{IsStorable}
-use Rattle.aas_repo_elements.specs.Decisions.{IsDecision}
+use Rattle.aas_repo_documents.specs.Decisions.{IsDecision}
 use Rattle.aas_repo.specs.Faulty.{first_faulty_from, first_faulty_in, in_list}
-use Rattle.aas_repo_elements.proofs.Decided.{first_in, of_fault}
-use Rattle.aas_repo_elements.specs.declared.decision.Decision.TheVariants as decision
+use Rattle.aas_repo_documents.proofs.Decided.{first_in, of_fault}
+use Rattle.aas_repo_documents.specs.declared.decision.Decision.TheVariants as decision
 
 -- ---- identifiers that were seen
 

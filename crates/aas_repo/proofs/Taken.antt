@@ -11,10 +11,10 @@ use Rattle.aas_step.proofs.Validity.{stays_valid}
 use Rattle.aas_step.specs.Step as step
 use Rattle.aas_step.specs.Step.{ComesTo, Steps, accepted, refused}
 use Rattle.aas_step.specs.Valid.{AreValid}
-use Rattle.aas_repo_elements.specs.Decisions.{IsDecision}
+use Rattle.aas_repo_documents.specs.Decisions.{IsDecision}
 use Rattle.aas_repo.specs.Decisions.{IsTaken}
-use Rattle.aas_repo_elements.specs.declared.decision.Decision.{Decision}
-use Rattle.aas_repo_elements.specs.declared.decision.Decision.TheVariants as decision
+use Rattle.aas_repo_documents.specs.declared.decision.Decision.{Decision}
+use Rattle.aas_repo_documents.specs.declared.decision.Decision.TheVariants as decision
 use Rattle.aas_repo.specs.declared.taking.Taken.TheVariants as taken
 
 -- valid documents stay so

@@ -10,16 +10,16 @@ ghost use Rattle.aas_json_mapping.specs.Trees.{asset_informations};
 ghost use Rattle.aas_json_table.specs.TooDeep.{limits};
 ghost use Rattle.aas_step.specs.Causes.{absent_of};
 ghost use Rattle.aas_step.specs.Valid.{AreValid};
-ghost use Rattle.aas_repo_elements.specs.Decisions.{IsDecision};
+ghost use Rattle.aas_repo_documents.specs.Decisions.{IsDecision};
 ghost use Rattle.aas_repo.specs.Decisions.{Deletes, with_asset};
 
 use crate::importing::import;
 use crate::references::{add_reference, drop_reference};
 use aas_command::{Absent, Command, Refusal};
 use aas_model::{AssetInformation, Boxed, Collection, Duplicate, NoMemory, Shell, Text};
-use aas_repo_elements::{
-    Decision, Stored, delete_element, insert_element, put, replace_element, update,
-};
+use aas_repo_documents::{Decision, Stored, put};
+use aas_repo_elements::{delete_element, insert_element, replace_element};
+use aas_repo_values::update;
 use aas_store::Store;
 use std::alloc::Global;
 

@@ -9,12 +9,12 @@ ghost use Rattle.aas_json_table.specs.TooDeep.{limits};
 ghost use Rattle.aas_step.specs.Causes.{first_of, first_repeated, first_repeated_in, has_repeated, when};
 ghost use Rattle.aas_step.specs.Made.{documents_in, id_of};
 ghost use Rattle.aas_step.specs.Step.{later_causes};
-ghost use Rattle.aas_repo_elements.specs.Decisions.{IsDecision};
+ghost use Rattle.aas_repo_documents.specs.Decisions.{IsDecision};
 ghost use Rattle.aas_repo.specs.Faulty.{first_faulty_from, first_faulty_in};
 
 use aas_command::Refusal;
 use aas_model::{Collection, Environment, NoMemory};
-use aas_repo_elements::{Decision, Stored, document_cause};
+use aas_repo_documents::{Decision, Stored, document_cause};
 use aas_step::valid_submodels_are_storable;
 use aas_store::Store;
 use std::alloc::Global;

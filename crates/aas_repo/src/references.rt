@@ -10,13 +10,13 @@ ghost use Rattle.aas_reference.specs.Trees.{references};
 ghost use Rattle.aas_step.specs.Causes.{first_of, has_same, lacks_reference, reference_causes, refers_to};
 ghost use Rattle.aas_step.specs.Made.{with_reference, without_references};
 ghost use Rattle.aas_step.specs.Valid.{AreValid};
-ghost use Rattle.aas_repo_elements.specs.Decisions.{IsDecision};
+ghost use Rattle.aas_repo_documents.specs.Decisions.{IsDecision};
 ghost use Rattle.aas_repo.specs.Decisions.{IsChangedShell};
 
 use aas_command::{Absent, Refusal};
 use aas_model::{Duplicate, KeyType, Many, NoMemory, Reference, ReferenceType, Shell, Text};
 use aas_reference::same;
-use aas_repo_elements::{Decision, decision_of, put};
+use aas_repo_documents::{Decision, decision_of, put};
 use aas_store::Store;
 use std::alloc::Global;
 

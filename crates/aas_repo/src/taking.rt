@@ -1,14 +1,14 @@
 // A command is taken, before the keeper is called.
 ghost use Rattle.std.specs.Prelude.{false};
 ghost use Rattle.aas_command.specs.Commands.{IsWellFormed};
-ghost use Rattle.aas_repo_elements.specs.Decisions.{IsDecision};
+ghost use Rattle.aas_repo_documents.specs.Decisions.{IsDecision};
 ghost use Rattle.aas_repo.specs.Decisions.{IsTaken};
 ghost use Rattle.aas_step.specs.Valid.{AreValid};
 
 use crate::deciding::decide;
 use aas_command::{Command, EncodeFault, Refusal, encode};
 use aas_outside::{Frame, Keeper};
-use aas_repo_elements::Decision;
+use aas_repo_documents::Decision;
 use aas_step::documents_stay_valid;
 use aas_store::Store;
 use std::alloc::Global;

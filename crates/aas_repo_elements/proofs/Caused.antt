@@ -25,12 +25,12 @@ use Rattle.aas_step.specs.Causes.{Cause, causes, first_of, in_submodel, is_conta
 use Rattle.aas_store.specs.Documents.{Documents}
 use Rattle.aas_store.specs.Edited.{Holds, LeadsNowhere}
 use Rattle.aas_store.specs.Reads.{IsRowOf}
-use Rattle.aas_repo_elements.proofs.Accepted.{holds_at, holds_then}
-use Rattle.aas_repo_elements.proofs.Decided.{refused_by}
-use Rattle.aas_repo_elements.proofs.Reached.{found_there}
-use Rattle.aas_repo_elements.specs.Decisions.{IsDecision}
+use Rattle.aas_repo_documents.proofs.Accepted.{holds_at, holds_then}
+use Rattle.aas_repo_documents.proofs.Decided.{refused_by}
+use Rattle.aas_repo_documents.proofs.Reached.{found_there}
+use Rattle.aas_repo_documents.specs.Decisions.{IsDecision}
 use Rattle.aas_repo_elements.specs.Placing.{IsTaking, role_of_children}
-use Rattle.aas_repo_elements.specs.declared.decision.Decision.TheVariants as decision
+use Rattle.aas_repo_documents.specs.declared.decision.Decision.TheVariants as decision
 
 -- ---- a path that leads nowhere
 

@@ -24,13 +24,13 @@ use Rattle.aas_store.specs.Documents.{Documents}
 use Rattle.aas_store.specs.Edited.{Holds, LeadsNowhere, with_changed}
 use Rattle.aas_store.specs.Reads.{IsRowOf}
 use Rattle.aas_path_trees.specs.Patched.{element_count}
-use Rattle.aas_repo_elements.proofs.Accepted as accepted
-use Rattle.aas_repo_elements.proofs.Accepted.{holds_at, holds_then, some_steps}
-use Rattle.aas_repo_elements.proofs.Edited as edited
-use Rattle.aas_repo_elements.proofs.Reached.{is_missing_at}
-use Rattle.aas_repo_elements.specs.Accepted.{IsAccepted}
-use Rattle.aas_repo_elements.specs.Decisions.{Edits, IsDecision, decision_of}
-use Rattle.aas_repo_elements.specs.declared.decision.Decision.TheVariants as decision
+use Rattle.aas_repo_documents.proofs.Accepted as accepted
+use Rattle.aas_repo_documents.proofs.Accepted.{holds_at, holds_then, some_steps}
+use Rattle.aas_repo_documents.proofs.Edited as edited
+use Rattle.aas_repo_documents.proofs.Reached.{is_missing_at}
+use Rattle.aas_repo_documents.specs.Accepted.{IsAccepted}
+use Rattle.aas_repo_documents.specs.Decisions.{Edits, IsDecision, decision_of}
+use Rattle.aas_repo_documents.specs.declared.decision.Decision.TheVariants as decision
 
 module _ (d : Documents) (id : List ℕ) (p : Path) where
   abbrev causes_in : Submodel → List (Option Refusal)

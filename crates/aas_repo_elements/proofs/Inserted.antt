@@ -37,14 +37,14 @@ use Rattle.aas_store.specs.Documents.{Documents}
 use Rattle.aas_store.specs.Edited.{Holds, with_changed}
 use Rattle.aas_store.specs.Reads as reads
 use Rattle.aas_store.specs.Storable.{IsStorable}
-use Rattle.aas_repo_elements.proofs.Accepted as accepted
-use Rattle.aas_repo_elements.proofs.Accepted.{holds_at, holds_then}
-use Rattle.aas_repo_elements.specs.Accepted.{IsAccepted}
-use Rattle.aas_repo_elements.specs.Decisions.{Edits, IsDecision}
+use Rattle.aas_repo_documents.proofs.Accepted as accepted
+use Rattle.aas_repo_documents.proofs.Accepted.{holds_at, holds_then}
+use Rattle.aas_repo_documents.specs.Accepted.{IsAccepted}
+use Rattle.aas_repo_documents.specs.Decisions.{Edits, IsDecision}
 use Rattle.aas_repo_elements.proofs.Placed.{common_with_role, none_alone}
 use Rattle.aas_repo_elements.specs.Placing.{IsAbove, IsFaultless, IsInsertable, IsLead, IsParent, own_of_parent, role_below}
 use Rattle.aas_repo_elements.specs.declared.placing.Parent.{Parent}
-use Rattle.aas_repo_elements.specs.declared.decision.Decision.TheVariants as decision
+use Rattle.aas_repo_documents.specs.declared.decision.Decision.TheVariants as decision
 
 -- ---- the first semanticId
 

@@ -26,7 +26,7 @@ use Rattle.aas_rows.specs.declared.view.RowView.{RowView}
 use Rattle.aas_store.specs.Documents.{Documents, without_children}
 use Rattle.aas_store.specs.Edited.{Holds}
 use Rattle.aas_store.specs.Reads.{IsRowOf}
-use Rattle.aas_repo_elements.proofs.Accepted.{holds_at}
+use Rattle.aas_repo_documents.proofs.Accepted.{holds_at}
 use Rattle.aas_repo_elements.specs.Placing.{IsAbove, IsFaultless, IsParent, own_of_parent}
 use Rattle.aas_repo_elements.specs.declared.placing.Parent.{Parent}
 

@@ -37,15 +37,15 @@ use Rattle.aas_store.specs.Documents.{Documents}
 use Rattle.aas_store.specs.Edited.{CanReplace, Holds, with_changed}
 use Rattle.aas_store.specs.Reads.{IsRowOf, semantic_id_of}
 use Rattle.aas_store.specs.Storable.{IsStorable}
-use Rattle.aas_repo_elements.proofs.Accepted as accepted
-use Rattle.aas_repo_elements.proofs.Accepted.{holds_at, holds_then}
-use Rattle.aas_repo_elements.proofs.Counted.{count_out}
+use Rattle.aas_repo_documents.proofs.Accepted as accepted
+use Rattle.aas_repo_documents.proofs.Accepted.{holds_at, holds_then}
+use Rattle.aas_repo_documents.proofs.Counted.{count_out}
 use Rattle.aas_repo_elements.proofs.Placed.{common_with_role, none_alone}
-use Rattle.aas_repo_elements.proofs.Reached.{found_there}
-use Rattle.aas_repo_elements.specs.Accepted.{IsAccepted}
-use Rattle.aas_repo_elements.specs.Decisions.{Edits, IsDecision}
+use Rattle.aas_repo_documents.proofs.Reached.{found_there}
+use Rattle.aas_repo_documents.specs.Accepted.{IsAccepted}
+use Rattle.aas_repo_documents.specs.Decisions.{Edits, IsDecision}
 use Rattle.aas_repo_elements.specs.Placing.{IsAlike, IsAlikeAt, IsFaultless, IsParent, IsReplaceable}
-use Rattle.aas_repo_elements.specs.declared.decision.Decision.TheVariants as decision
+use Rattle.aas_repo_documents.specs.declared.decision.Decision.TheVariants as decision
 use Rattle.aas_repo_elements.specs.declared.placing.Parent.{Parent}
 
 -- ---- the old element

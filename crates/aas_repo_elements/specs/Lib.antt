@@ -1,4 +1,1 @@
-pub mod Accepted
-pub mod Decisions
-pub mod Patches
 pub mod Placing

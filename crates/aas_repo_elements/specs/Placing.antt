@@ -16,7 +16,7 @@ use Rattle.aas_path_trees.specs.ElementAt.{element_at, children_at}
 use Rattle.aas_step.specs.Causes.{insert_causes, leads, replace_causes}
 use Rattle.aas_store.specs.Documents.{Documents}
 use Rattle.aas_store.specs.Edited.{Holds}
-use Rattle.aas_repo_elements.specs.Accepted.{IsAccepted}
+use Rattle.aas_repo_documents.specs.Accepted.{IsAccepted}
 use Rattle.aas_repo_elements.specs.declared.placing.Parent.{Parent}
 
 -- nothing but want of room refuses e as a new child of what a path leads to in the submodel of an identifier

@@ -6,13 +6,12 @@ ghost use Rattle.aas_command.specs.declared.command.Command.TheVariants.{DeleteE
 ghost use Rattle.aas_path_trees.specs.ElementAt.{element_at};
 ghost use Rattle.aas_step.specs.Valid.{AreValid};
 ghost use Rattle.aas_store.specs.Edited.{Holds};
-ghost use Rattle.aas_repo_elements.specs.Decisions.{IsDecision, decision_of};
+ghost use Rattle.aas_repo_documents.specs.Decisions.{IsDecision, decision_of};
 
-use crate::decision::Decision;
-use crate::editing::decision_of;
 use aas_command::{Absent, Refusal};
 use aas_edit_faults::{edits_count, edits_keep_valid};
 use aas_model::{NoMemory, Path, Text};
+use aas_repo_documents::{Decision, decision_of};
 use aas_step::not_found;
 use aas_store::{Lack, Store};
 use std::alloc::Global;

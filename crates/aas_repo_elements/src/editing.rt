@@ -10,14 +10,13 @@ ghost use Rattle.aas_model.specs.declared.documents.Submodel as submodels;
 ghost use Rattle.aas_step.specs.Causes.{Cause, first_of};
 ghost use Rattle.aas_step.specs.Valid.{AreValid};
 ghost use Rattle.aas_store.specs.Documents.{Documents};
-ghost use Rattle.aas_repo_elements.specs.Decisions.{Edits, IsDecision, decision_of};
+ghost use Rattle.aas_repo_documents.specs.Decisions.{Edits, IsDecision};
 
 use crate::containers::conflicts;
-use crate::decision::Decision;
-use crate::stored::put;
 use aas_command::{Absent, Refusal};
 use aas_model::{Element, NoMemory, Path, Submodel, Text};
 use aas_path::{InsertFault, ReplaceFault, insert, replace};
+use aas_repo_documents::{Decision, decision_of, put};
 use aas_step::not_found;
 use aas_store::Store;
 use std::alloc::Global;
@@ -69,16 +68,6 @@ pub(crate) fn make_edit<S: Store, E: Edit>(
     match edit.make(alloc, &mut submodel) {
         Ok(()) => put(alloc, store, submodel, has_room),
         Err(refusal) => decision_of(refusal),
-    }
-}
-
-/// What a refusal comes to, where want of memory is one.
-pub fn decision_of(refusal: Refusal) -> Decision
-    ensures { result ≡ decision_of refusal }
-{
-    match refusal {
-        Refusal::NoMemory => Decision::NoMemory,
-        refusal => Decision::Refused(refusal),
     }
 }
 

@@ -11,10 +11,10 @@ ghost use Rattle.aas_step.specs.Valid.{AreValid};
 ghost use Rattle.aas_store.specs.Edited.{Holds};
 ghost use Rattle.aas_repo_elements.specs.Placing.{IsFaultless, IsParent};
 
-use crate::count::has_more_below;
 use aas_command::Refusal;
 use aas_constraints::{check_child, is_template};
 use aas_model::{Duplicate, Element, Missing, NoMemory, Path, Reference, Role, Text};
+use aas_repo_documents::has_more_below;
 use aas_step::not_found;
 use aas_store::Store;
 use std::alloc::Global;

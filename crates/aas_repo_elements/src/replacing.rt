@@ -15,11 +15,9 @@ ghost use Rattle.aas_step.specs.Causes.{causes, first_of, unless};
 ghost use Rattle.aas_step.specs.Valid.{AreValid};
 ghost use Rattle.aas_store.specs.Edited.{Holds};
 ghost use Rattle.aas_store.specs.Reads.{semantic_id_of};
-ghost use Rattle.aas_repo_elements.specs.Decisions.{IsDecision};
+ghost use Rattle.aas_repo_documents.specs.Decisions.{IsDecision};
 ghost use Rattle.aas_repo_elements.specs.Placing.{IsAlikeAt, IsReplaceable};
 
-use crate::count::ELEMENT_LIMIT;
-use crate::decision::Decision;
 use crate::editing::{Replacement, make_edit};
 use crate::placing::{has_space, is_faultless_in_role, lost, parent_at};
 use aas_command::{Absent, Refusal};
@@ -27,6 +25,7 @@ use aas_edit_faults::{edits_count, edits_keep_valid, replacing_elements_have_the
 use aas_model::{Boxed, Duplicate, Element, NoMemory, Path, Reference, Role, Text, same_text};
 use aas_path::fits_role;
 use aas_reference::equal;
+use aas_repo_documents::{Decision, ELEMENT_LIMIT};
 use aas_rows::RowView;
 use aas_step::valid_submodels_are_storable;
 use aas_store::{Lack, Store};

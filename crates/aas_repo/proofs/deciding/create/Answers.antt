@@ -2,8 +2,8 @@ use Rattle.std.proofs.Common.{refl, subst}
 use Rattle.aas_command.specs.declared.refusal.Refusal.TheVariants.{Conflict}
 use Rattle.aas_repo.proofs.Decided.{asked, clear, conflicts}
 use Rattle.aas_repo.proofs.deciding.create.Goals as goal
-use Rattle.aas_repo_elements.specs.Decisions.{IsDecision}
-use Rattle.aas_repo_elements.specs.declared.decision.Decision.TheVariants as decision
+use Rattle.aas_repo_documents.specs.Decisions.{IsDecision}
+use Rattle.aas_repo_documents.specs.declared.decision.Decision.TheVariants as decision
 
 pub returns-then-has : goal.returns-then-has
 returns-then-has g c =

@@ -5,8 +5,8 @@ use Rattle.aas_command.specs.declared.refusal.Refusal.TheVariants.{NotFound, Sto
 use Rattle.aas_store.specs.Documents.{without}
 use Rattle.aas_repo.proofs.Decided.{asked, deleted, has_no_room, misses}
 use Rattle.aas_repo.proofs.deciding.delete.Goals as goal
-use Rattle.aas_repo_elements.specs.Decisions.{IsDecision}
-use Rattle.aas_repo_elements.specs.declared.decision.Decision.TheVariants as decision
+use Rattle.aas_repo_documents.specs.Decisions.{IsDecision}
+use Rattle.aas_repo_documents.specs.declared.decision.Decision.TheVariants as decision
 
 pub returns-then-not-has : goal.returns-then-not-has
 returns-then-not-has g c = λ command deletes.

@@ -4,8 +4,8 @@ use Rattle.aas_command.specs.declared.refusal.Refusal.TheVariants.{NotFound}
 use Rattle.aas_step.specs.Causes.{absent_of}
 use Rattle.aas_repo.proofs.Decided.{asked, found, misses}
 use Rattle.aas_repo.proofs.deciding.replace.Goals as goal
-use Rattle.aas_repo_elements.specs.Decisions.{IsDecision}
-use Rattle.aas_repo_elements.specs.declared.decision.Decision.TheVariants as decision
+use Rattle.aas_repo_documents.specs.Decisions.{IsDecision}
+use Rattle.aas_repo_documents.specs.declared.decision.Decision.TheVariants as decision
 
 pub returns-then-not-has : goal.returns-then-not-has
 returns-then-not-has g c =

@@ -7,8 +7,8 @@ use Rattle.aas_json_mapping.specs.Trees.{asset_informations}
 use Rattle.aas_json_table.specs.TooDeep.{limits}
 use Rattle.aas_repo.proofs.Decided.{sets, sets_nothing, sets_whole}
 use Rattle.aas_repo.proofs.deciding.set_asset.Goals as goal
-use Rattle.aas_repo_elements.specs.Decisions.{IsDecision}
-use Rattle.aas_repo_elements.specs.declared.decision.Decision.TheVariants as decision
+use Rattle.aas_repo_documents.specs.Decisions.{IsDecision}
+use Rattle.aas_repo_documents.specs.declared.decision.Decision.TheVariants as decision
 
 pub put-requires : goal.put-requires
 put-requires g c =

@@ -3,11 +3,11 @@ use Rattle.aas_command.specs.declared.command.Command.TheVariants.{DropReference
 use Rattle.aas_step.proofs.Validity.{whole_without_references}
 use Rattle.aas_step.specs.Causes.{lacks_reference}
 use Rattle.aas_step.specs.Made.{without_references}
-use Rattle.aas_repo_elements.proofs.Decided.{is_refused_or_no_memory}
+use Rattle.aas_repo_documents.proofs.Decided.{is_refused_or_no_memory}
 use Rattle.aas_repo.proofs.Referred.{stays_whole}
 use Rattle.aas_repo.proofs.references.drop_reference.Goals as goal
-use Rattle.aas_repo_elements.specs.Decisions.{IsDecision}
-use Rattle.aas_repo_elements.specs.declared.decision.Decision.{Decision}
+use Rattle.aas_repo_documents.specs.Decisions.{IsDecision}
+use Rattle.aas_repo_documents.specs.declared.decision.Decision.{Decision}
 
 pub put-requires : goal.put-requires
 put-requires g c =

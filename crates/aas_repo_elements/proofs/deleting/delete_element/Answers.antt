@@ -2,9 +2,9 @@ use Rattle.std.proofs.Common.{sym, subst}
 use Rattle.aas_command.specs.Commands.{IsWellFormed}
 use Rattle.aas_command.specs.declared.command.Command.TheVariants.{DeleteElement}
 use Rattle.aas_repo_elements.proofs.deleting.delete_element.Goals as goal
-use Rattle.aas_repo_elements.proofs.Reached.{has_steps}
-use Rattle.aas_repo_elements.specs.Decisions.{IsDecision}
-use Rattle.aas_repo_elements.specs.declared.decision.Decision.{Decision}
+use Rattle.aas_repo_documents.proofs.Reached.{has_steps}
+use Rattle.aas_repo_documents.specs.Decisions.{IsDecision}
+use Rattle.aas_repo_documents.specs.declared.decision.Decision.{Decision}
 
 pub find-requires-clause-steps : goal.find-requires-clause-steps
 unfolding IsWellFormed

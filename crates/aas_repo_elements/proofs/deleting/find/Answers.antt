@@ -1,5 +1,5 @@
 use Rattle.std.proofs.Common.{Err, ap}
-use Rattle.aas_repo_elements.proofs.Accepted.{few_elements}
+use Rattle.aas_repo_documents.proofs.Accepted.{few_elements}
 use Rattle.aas_repo_elements.proofs.Deleted.{element_lost, is_found, submodel_lost}
 use Rattle.aas_repo_elements.proofs.deleting.find.Goals as goal
 

@@ -4,11 +4,11 @@ use Rattle.std.specs.Str.{encode_utf8_all}
 use Rattle.aas_command.specs.declared.command.Command.TheVariants.{DeleteElement}
 use Rattle.aas_command.specs.declared.refusal.Refusal.TheVariants.{StorageFull}
 use Rattle.aas_path_trees.specs.ElementAt.{element_at}
-use Rattle.aas_repo_elements.proofs.Accepted.{holds_at}
+use Rattle.aas_repo_documents.proofs.Accepted.{holds_at}
 use Rattle.aas_repo_elements.proofs.Deleted.{deleted, no_room}
 use Rattle.aas_repo_elements.proofs.deleting.take_out.Goals as goal
-use Rattle.aas_repo_elements.specs.Decisions.{IsDecision}
-use Rattle.aas_repo_elements.specs.declared.decision.Decision.TheVariants as decision
+use Rattle.aas_repo_documents.specs.Decisions.{IsDecision}
+use Rattle.aas_repo_documents.specs.declared.decision.Decision.TheVariants as decision
 
 pub returns-then-not-has_room : goal.returns-then-not-has_room
 returns-then-not-has_room g c =

@@ -2,10 +2,10 @@ use Rattle.std.proofs.Common.{refl, sym, subst, ap, ◌∙◌}
 use Rattle.std.specs.FinMap as map
 use Rattle.aas_constraint_rules.specs.Faults.{submodel}
 use Rattle.aas_model.specs.declared.documents.Submodel.{Submodel}
-use Rattle.aas_repo_elements.proofs.Edited.{is_missing, is_refused, makes_one}
+use Rattle.aas_repo_documents.proofs.Edited.{is_missing, is_refused, makes_one}
 use Rattle.aas_repo_elements.proofs.editing.make_edit.Goals as goal
-use Rattle.aas_repo_elements.specs.Decisions.{IsDecision, Makes}
-use Rattle.aas_repo_elements.specs.declared.decision.Decision.{Decision}
+use Rattle.aas_repo_documents.specs.Decisions.{IsDecision, Makes}
+use Rattle.aas_repo_documents.specs.declared.decision.Decision.{Decision}
 
 pub returns-in-Ok-None : goal.returns-in-Ok-None
 returns-in-Ok-None g c =

@@ -1,6 +1,6 @@
 use Rattle.std.proofs.Common.{Err, sym, ap, ◌∙◌, true≢false}
 use Rattle.std.specs.Str.{encode_utf8_all}
-use Rattle.aas_repo_elements.proofs.Accepted.{few_elements}
+use Rattle.aas_repo_documents.proofs.Accepted.{few_elements}
 use Rattle.aas_repo_elements.proofs.Caused.{insert_lost, insert_nowhere, row_takes}
 use Rattle.aas_repo_elements.proofs.inserting.cause_in_place.Goals as goal
 

@@ -3,8 +3,8 @@ use Rattle.aas_command.specs.declared.command.Command.TheVariants.{InsertElement
 use Rattle.aas_command.specs.declared.refusal.Refusal.TheVariants.{StorageFull}
 use Rattle.aas_repo_elements.proofs.Inserted.{can_store, made, no_room, takes}
 use Rattle.aas_repo_elements.proofs.inserting.put_in.Goals as goal
-use Rattle.aas_repo_elements.specs.Decisions.{IsDecision}
-use Rattle.aas_repo_elements.specs.declared.decision.Decision.TheVariants as decision
+use Rattle.aas_repo_documents.specs.Decisions.{IsDecision}
+use Rattle.aas_repo_documents.specs.declared.decision.Decision.TheVariants as decision
 
 pub returns-then-not-has_room : goal.returns-then-not-has_room
 returns-then-not-has_room g c =

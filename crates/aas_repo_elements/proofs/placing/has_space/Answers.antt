@@ -1,4 +1,4 @@
-use Rattle.aas_repo_elements.proofs.Accepted.{few_elements}
+use Rattle.aas_repo_documents.proofs.Accepted.{few_elements}
 use Rattle.aas_repo_elements.proofs.placing.has_space.Goals as goal
 
 pub element_count-requires : goal.element_count-requires

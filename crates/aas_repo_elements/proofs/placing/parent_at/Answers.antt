@@ -1,6 +1,6 @@
 use Rattle.std.proofs.Common.{sym, ◌∙◌, true≢false}
 use Rattle.std.specs.Str.{encode_utf8_all}
-use Rattle.aas_repo_elements.proofs.Accepted.{few_elements}
+use Rattle.aas_repo_documents.proofs.Accepted.{few_elements}
 use Rattle.aas_repo_elements.proofs.Placed.{element_above, is_parent, submodel_above}
 use Rattle.aas_repo_elements.proofs.placing.parent_at.Goals as goal
 

@@ -1,5 +1,5 @@
 use Rattle.std.proofs.Common.{Err, ap}
-use Rattle.aas_repo_elements.proofs.Accepted.{few_elements}
+use Rattle.aas_repo_documents.proofs.Accepted.{few_elements}
 use Rattle.aas_repo_elements.proofs.Caused.{replace_lost, replace_nowhere, replaces_row}
 use Rattle.aas_repo_elements.proofs.replacing.cause_in_place.Goals as goal
 

@@ -2,7 +2,7 @@ use Rattle.std.proofs.Common.{◌≡◌, ◌+◌, ◌-◌, ◌<◌, List, [], �
 use Rattle.aas_model.specs.declared.path.Path.{Path}
 use Rattle.aas_model.specs.declared.path.PathStep.{PathStep}
 use Rattle.aas_store.proofs.Merges.{without_last}
-use Rattle.aas_repo_elements.proofs.Accepted.{some_steps}
+use Rattle.aas_repo_documents.proofs.Accepted.{some_steps}
 use Rattle.aas_repo_elements.proofs.replacing.parent_path.Goals as goal
 
 pub returns : goal.returns

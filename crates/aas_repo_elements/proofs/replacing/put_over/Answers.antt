@@ -3,8 +3,8 @@ use Rattle.aas_command.specs.declared.command.Command.TheVariants.{ReplaceElemen
 use Rattle.aas_command.specs.declared.refusal.Refusal.TheVariants.{StorageFull}
 use Rattle.aas_repo_elements.proofs.Replaced.{can_store, fits_there, made, no_room}
 use Rattle.aas_repo_elements.proofs.replacing.put_over.Goals as goal
-use Rattle.aas_repo_elements.specs.Decisions.{IsDecision}
-use Rattle.aas_repo_elements.specs.declared.decision.Decision.TheVariants as decision
+use Rattle.aas_repo_documents.specs.Decisions.{IsDecision}
+use Rattle.aas_repo_documents.specs.declared.decision.Decision.TheVariants as decision
 
 pub returns-then-not-has_room : goal.returns-then-not-has_room
 returns-then-not-has_room g c =

@@ -2,10 +2,10 @@ use Rattle.std.proofs.Common.{sym, ◌∙◌, subst}
 use Rattle.aas_command.specs.declared.command.Command.TheVariants.{ReplaceElement}
 use Rattle.aas_command.specs.Commands.{IsWellFormed}
 use Rattle.aas_repo_elements.proofs.Caused.{replacement_refused}
-use Rattle.aas_repo_elements.proofs.Reached.{has_steps}
+use Rattle.aas_repo_documents.proofs.Reached.{has_steps}
 use Rattle.aas_repo_elements.proofs.replacing.replace_element.Goals as goal
-use Rattle.aas_repo_elements.specs.Decisions.{IsDecision}
-use Rattle.aas_repo_elements.specs.declared.decision.Decision.TheVariants as decision
+use Rattle.aas_repo_documents.specs.Decisions.{IsDecision}
+use Rattle.aas_repo_documents.specs.declared.decision.Decision.TheVariants as decision
 
 pub cause_in_place-requires-clause-steps : goal.cause_in_place-requires-clause-steps
 unfolding IsWellFormed

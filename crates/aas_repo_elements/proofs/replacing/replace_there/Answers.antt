@@ -1,5 +1,5 @@
 use Rattle.aas_command.specs.Commands.{IsWellFormed}
-use Rattle.aas_repo_elements.proofs.Reached.{has_steps}
+use Rattle.aas_repo_documents.proofs.Reached.{has_steps}
 use Rattle.aas_repo_elements.proofs.replacing.replace_there.Goals as goal
 
 pub is_replaceable-requires-clause-steps : goal.is_replaceable-requires-clause-steps

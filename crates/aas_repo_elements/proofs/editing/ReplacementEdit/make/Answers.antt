@@ -2,8 +2,8 @@ use Rattle.std.proofs.Common.{◌≡◌, true, Err, sym, subst, ap}
 use Rattle.aas_command.specs.Commands.{IsWellFormed}
 use Rattle.aas_json_mapping.specs.Whole.{is_whole_submodel}
 use Rattle.aas_json_table.specs.TooDeep.{limits}
-use Rattle.aas_repo_elements.proofs.Edited.{replacement_keeps_whole}
-use Rattle.aas_repo_elements.proofs.Reached.{is_missing_at, replaces, some_steps}
+use Rattle.aas_repo_documents.proofs.Edited.{replacement_keeps_whole}
+use Rattle.aas_repo_documents.proofs.Reached.{is_missing_at, replaces, some_steps}
 use Rattle.aas_repo_elements.proofs.editing.ReplacementEdit.make.Goals as goal
 
 pub replace-requires : goal.replace-requires
