@@ -1,0 +1,9 @@
+pub mod Full
+pub mod NoEmptyList
+pub mod OwnFits
+pub mod OwnForms
+pub mod OwnFull
+pub mod Read
+pub mod Sendable
+pub mod Taken
+pub mod There
