@@ -16,7 +16,7 @@ same_others Main a = (refl, refl)
 same_others Spare a = (refl, refl)
 same_others Selector a = (refl, refl)
 
-others_then : (part : Part) (a b c : Files) → SameOthers part a b → SameOthers part b c → SameOthers part a c
+pub others_then : (part : Part) (a b c : Files) → SameOthers part a b → SameOthers part b c → SameOthers part a c
 others_then Main a b c first then = (then.0 ∙ first.0, then.1 ∙ first.1)
 others_then Spare a b c first then = (then.0 ∙ first.0, then.1 ∙ first.1)
 others_then Selector a b c first then = (then.0 ∙ first.0, then.1 ∙ first.1)

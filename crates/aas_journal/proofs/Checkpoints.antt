@@ -1,12 +1,12 @@
 -- What a stop leaves in a checkpoint, and what it makes of the files.
-use Rattle.std.proofs.Common.{◌≡◌, ◌⊎◌, inl, inr, ⊎_elim, ℕ, ◌+◌, ◌≤◌, ◌<◌, ◌^◌, Bool, true, false, List, [], ◌∷◌, Some, length, drop, refl, sym, ◌∙◌, ap, subst, arith}
-use Rattle.std.specs.Prelude.{Ok, codes, if◌then◌else◌, ◌==◌, ◌%◌}
+use Rattle.std.proofs.Common.{◌≡◌, ◌⊎◌, inl, inr, ⊎_elim, ℕ, ◌+◌, ◌≤◌, ◌<◌, ◌^◌, Bool, true, false, List, [], ◌∷◌, Option, Some, length, drop, refl, sym, ◌∙◌, ap, subst, arith}
+use Rattle.std.specs.Prelude.{Ok, Result, codes, if◌then◌else◌, ◌==◌, ◌%◌}
 use Rattle.std.proofs.lemmas.Bool.{cases_lt}
 use Rattle.std.proofs.lemmas.Bool.Decides.{nat_tests}
 use Rattle.std.proofs.lemmas.List.Elements.{All-nil}
 use Rattle.aas_outside.specs.Moments.{IsSettled, Passes}
 use Rattle.aas_outside.specs.declared.link.Failed.{Failed}
-use Rattle.aas_outside_disk.specs.Disk.{HoldsWhatIsRead, Meanwhile, written}
+use Rattle.aas_outside_disk.specs.Disk.{Becomes, HoldsWhatIsRead, Meanwhile, written}
 use Rattle.aas_outside_disk.specs.Files.{Files, SameOthers, file}
 use Rattle.aas_outside_disk.specs.declared.disk.Disk.{Ghosts}
 use Rattle.aas_outside_disk.specs.declared.part.Part.{Part}
@@ -59,6 +59,33 @@ one_of_two a b =
     (λ same. inl (x.1 ∙ same ∙ sym y.1))
     (λ apart. inr (x.1 ∙ apart ∙ ap other (sym y.1)))
     (by_tests x.0 y.0)
+
+-- what is told before and after
+becomes : (a b : Files) (old new : Option Files) (P : Files → Files → Type 0) → old ≡ Some a → new ≡ Some b → P a b → Becomes old new P
+becomes a b old new P old_is new_is it = subst (λ (n : Option Files). Becomes old n P) (sym new_is) (subst (λ (o : Option Files). Becomes o (Some b) P) (sym old_is) it)
+
+-- the chosen file of the old files is as it was
+abbrev pub HasOldRecords : Files → Files → Type 0
+HasOldRecords old new = file (chosen old.selector) new ≡ chosen_file old
+
+-- the journal keeps these payloads
+module _ (before : Option Files) (images : Files → Type 0) (part : Part) (gate : ℕ) (payloads : List (List ℕ)) (kept : Keeps before images part gate payloads) where
+  -- the other file is written
+  module _ {E : Type 0} (spare : Part) (apart : spare ≡ other part) (mid : Option Files) (change : List ℕ → List ℕ) (result : Result (Unit {0}) E) (first : Rewrites spare change before mid result) where
+    after_first : (b : Files) × (mid ≡ Some b) × HasOldRecords kept.files b
+    after_first =
+        let t = told kept.files before mid _ kept.told first in
+        let stay = (others_stay part kept.files t.0 (subst (λ (q : Part). SameOthers q kept.files t.0) apart t.2.0)).1 in
+        (t.0, t.1, subst (λ (q : Part). file q t.0 ≡ file q kept.files) kept.part_is stay)
+
+    pub stays_first : Becomes before mid HasOldRecords
+    stays_first = becomes kept.files after_first.0 before mid HasOldRecords kept.told after_first.1 after_first.2
+
+    -- and then the selector
+    pub stays_both : {F : Type 0} (new : Option Files) (turn : List ℕ → List ℕ) (last : Result (Unit {0}) F) → Rewrites Selector turn mid new last → Becomes before new HasOldRecords
+    stays_both new turn last second =
+        let u = told after_first.0 mid new _ after_first.1 second in
+        becomes kept.files u.0 before new HasOldRecords kept.told u.1 (chosen_stays kept.files.selector after_first.0 u.0 u.2.0 ∙ after_first.2)
 
 turns : (byte : ℕ) → (if (byte + 1) % 256 % 2 == 0 then Main else Spare) ≡ other (if byte % 2 == 0 then Main else Spare)
 turns byte = grind (arith, nat_tests)

@@ -11,4 +11,5 @@ mod PayloadsRead
 mod Placed
 mod Records
 mod Torn
+mod TwoWrites
 mod Walks

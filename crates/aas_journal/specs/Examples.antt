@@ -1,9 +1,17 @@
--- What the definitions of a checkpoint say of a few files, in bytes.
+-- What the definitions of a `keep` and of a checkpoint say of a few files, in bytes.
 use Rattle.std.specs.Prelude.{◌≡◌, [], ◌∷◌, ◌++◌, codes, length, refl}
+use Rattle.aas_outside_disk.specs.Disk.{written}
 use Rattle.aas_outside_disk.specs.Files.{Files}
 use Rattle.aas_journal.specs.Bank.{chosen_file}
 use Rattle.aas_journal.specs.Checkpoint.{checkpointed, one_record, turned}
+use Rattle.aas_journal.specs.Image.{gate_of}
+use Rattle.aas_journal.specs.Keep.{record_and_gate}
 use Rattle.aas_journal.specs.Reads.{initial_files}
+
+-- a payload of two bytes behind none
+pub is_written_over_the_gate : written (gate_of [] 0) (record_and_gate (codes "ab")) initial_files.main
+    ≡ codes "AASJ0002" ++ 1 ∷ 0 ∷ 0 ∷ 0 ∷ 2 ∷ 97 ∷ 98 ∷ 0 ∷ []
+is_written_over_the_gate = refl
 
 -- a payload of two bytes in the place of none
 abbrev pub one_checkpoint : Files

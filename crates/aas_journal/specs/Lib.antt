@@ -5,6 +5,7 @@ pub mod Examples
 pub mod Gates
 pub mod Given
 pub mod Image
+pub mod Keep
 pub mod Kept
 pub mod Laws
 pub mod Reads

@@ -1,13 +1,14 @@
 // How one payload is put in the place of all.
 ghost use Rattle.std.specs.Prelude.{◌≡◌, ◌<◌, ◌≤◌, ◌+◌, ◌↔◌, [], ◌∷◌, List, ℕ, Err, Some, IfSome, OnOk, length};
-ghost use Rattle.aas_journal.specs.Bank.{IsBankImage};
+ghost use Rattle.aas_journal.specs.Bank.{IsBankImage, chosen, chosen_file};
 ghost use Rattle.aas_journal.specs.Checkpoint.{ChangesOnly, EitherDuring, Rewrites, checkpointed, one_record, other, turned};
 ghost use Rattle.aas_journal.specs.Kept.{most_bytes};
 ghost use Rattle.aas_journal.specs.Shown.{disk_of};
 ghost use Rattle.aas_journal.specs.declared.fault.CheckpointFault.TheVariants.{Failed as DiskFailed, Full};
 ghost use Rattle.aas_outside.specs.Faults.{HasCause, Rose};
 ghost use Rattle.aas_outside.specs.Moments.{IsSettled, Passes};
-ghost use Rattle.aas_outside_disk.specs.Disk.{HoldsWhatIsRead, Meanwhile, written};
+ghost use Rattle.aas_outside_disk.specs.Disk.{Becomes, HoldsWhatIsRead, Meanwhile, written};
+ghost use Rattle.aas_outside_disk.specs.Files.{file};
 ghost use Rattle.aas_outside_disk.specs.declared.part.Part.TheVariants.{Selector};
 
 use crate::durable::write_durably;
@@ -48,6 +49,11 @@ impl<D: Disk> Journal<D> {
         ensures bytes { (payloads : List (List ℕ)) → ⟦<Journal<D> as Keeper>⟧.kept self.old payloads →
             OnOk result (IfSome (D.seen (disk_of self.old)) (λ files.
             D.seen (disk_of self.new) ≡ Some (checkpointed frame.now files))) }
+
+        // The file that had the payloads stays, whatever is answered.
+        ensures stays { (payloads : List (List ℕ)) → ⟦<Journal<D> as Keeper>⟧.kept self.old payloads →
+            Becomes (D.seen (disk_of self.old)) (D.seen (disk_of self.new)) (λ old new.
+            file (chosen old.selector) new ≡ chosen_file old) }
 
         ensures full { result ≡ Err Full ↔ most_bytes < length frame.now + 14 }
         ensures unchanged { result ≡ Err Full → self.new ≡ self.old }

@@ -30,12 +30,16 @@ pub struct Journal<D: Disk> {
 }
 
 impl<D: Disk> Keeper for Journal<D> {
+    ghost use Rattle.aas_outside.specs.Faults.{HasCause};
+    ghost use Rattle.aas_outside.specs.Moments.{KeepsInTurn, Passes};
+    ghost use Rattle.aas_outside_disk.specs.Disk.{Meanwhile};
     ghost use Rattle.aas_outside_disk.specs.Files.{Files};
     ghost use Rattle.aas_journal.specs.Bank.{IsBankImage};
+    ghost use Rattle.aas_journal.specs.Keep.{TearsRecord, WritesRecord};
     ghost use Rattle.aas_journal.specs.Kept.{fits, has_room_behind, limit_law, room_law};
     ghost use Rattle.aas_journal.specs.Image.{gate_of};
     ghost use Rattle.aas_journal.specs.Shown.{kept_by};
-    ghost use Rattle.std.specs.Prelude.{length};
+    ghost use Rattle.std.specs.Prelude.{◌≡◌, ◌++◌, [], ◌∷◌, ℕ, List, IsTrue, OnOk, length};
 
     ghost Image = { Files };
 
@@ -62,7 +66,23 @@ impl<D: Disk> Keeper for Journal<D> {
         self.gate.saturating_add(n).saturating_add(RECORD_BYTES) <= MOST_BYTES
     }
 
-    fn keep(&mut self, frame: &Frame) -> Result<(), Failed> {
+    fn keep(&mut self, frame: &Frame) -> Result<(), Failed>
+        requires { IsTrue (fits self.old.gate (length frame.now)) }
+        ensures kept { (payloads : List (List ℕ)) → kept_by self.old payloads →
+            OnOk result (kept_by self.new (payloads ++ frame.now ∷ [])) }
+        ensures in_turn { KeepsInTurn IsBankImage kept_by (λ journal. D.moment journal.disk) (λ journal. D.left_at journal.disk)
+            self.old self.new frame.now result }
+        ensures past { Passes (D.moment self.old.disk) (D.left_at self.old.disk)
+            (D.moment self.new.disk) (D.left_at self.new.disk) }
+        ensures cause { HasCause (D.faults self.old.disk) (D.faults self.new.disk) result }
+
+        // In the chosen file, from the closed gate on, the record and a gate are written, and nothing else in any file.
+        ensures bytes { (payloads : List (List ℕ)) → kept_by self.old payloads →
+            WritesRecord payloads frame.now (D.seen self.old.disk) (D.seen self.new.disk) result }
+        ensures images { (payloads : List (List ℕ)) → kept_by self.old payloads →
+            Meanwhile (D.moment self.old.disk) (D.moment self.new.disk) (D.left_at self.old.disk) (D.left_at self.new.disk)
+            (TearsRecord payloads frame.now (D.seen self.old.disk)) }
+    {
         let bytes = frame.bytes();
         write_durably(&mut self.disk, self.part, self.gate + 1, bytes)?;
         write_durably(&mut self.disk, self.part, self.gate, &[OPEN])?;

@@ -1,6 +1,8 @@
 use Rattle.std.proofs.Common.{◌≡◌, ◌∙◌, true, rules}
 use Rattle.aas_outside.specs.declared.link.Failed.{Failed}
+use Rattle.aas_outside_disk.specs.declared.part.Part.TheVariants.{Main}
 use Rattle.aas_journal.specs.Causes.{AreEmpty}
+use Rattle.aas_journal.proofs.Changes.{changes_then, none_changes, tears_change}
 use Rattle.aas_journal.proofs.Disks.{known}
 use Rattle.aas_journal.proofs.Initial.{made_images, where_told}
 use Rattle.aas_journal.proofs.init.init_journal.Goals as goal
@@ -17,3 +19,15 @@ returns-clause-images g c =
     made_images (D.moment disk) (D.moment mid) (D.moment new) (D.left_at disk) (D.left_at mid) (D.left_at new) c.are_empty.ensures.reads.past.later c.are_empty.ensures.reads.images
     c.write_durably.ensures.past.later c.write_durably.ensures.images Failed files (D.seen mid) (D.seen new) is_empty (c.are_empty.ensures.reads.same ∙ told_is)
     c.in_ok-write_durably.ensures.written c.in_ok-write_durably.ensures.durable)
+
+pub returns-in_err-write_durably-clause-main_alone : goal.returns-in_err-write_durably-clause-main_alone
+returns-in_err-write_durably-clause-main_alone g c =
+    let reads = c.are_empty.ensures.reads in
+    let writes = c.write_durably.ensures in
+    changes_then Main reads.past (none_changes Main reads.past reads.images) writes.past (tears_change Main writes.past 0 9 writes.images)
+
+pub returns-clause-main_alone : goal.returns-clause-main_alone
+returns-clause-main_alone g c =
+    let reads = c.are_empty.ensures.reads in
+    let writes = c.write_durably.ensures in
+    changes_then Main reads.past (none_changes Main reads.past reads.images) writes.past (tears_change Main writes.past 0 9 writes.images)

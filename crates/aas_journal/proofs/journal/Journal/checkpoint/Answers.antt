@@ -3,7 +3,7 @@ use Rattle.aas_outside_disk.specs.Disk.{written}
 use Rattle.aas_outside_disk.specs.declared.part.Part.TheVariants.{Selector}
 use Rattle.aas_journal.specs.Checkpoint.{one_record, turned}
 use Rattle.aas_journal.proofs.Placed.{within_rewrite}
-use Rattle.aas_journal.proofs.Checkpoints.{during_first, during_second, settled_on_one}
+use Rattle.aas_journal.proofs.Checkpoints.{during_first, during_second, settled_on_one, stays_both, stays_first}
 use Rattle.aas_journal.proofs.journal.Journal.checkpoint.Goals as goal
 
 pub invariant_of-self : goal.invariant_of-self
@@ -47,3 +47,24 @@ returns-clause-settled g c = λ payloads kept.
     settled_on_one g.D.Disk c.args.self.now payloads kept c.other-part.result c.other-part.ensures c.write_alone.new.disk wrote.past wrote.images
     c.args.frame.now (omega (arith, c.len.ensures.value, c.len.ensures.limit)) wrote.rewritten wrote.durable c.turn_selector.new.disk turns.past turns.images
     _ (omega (arith, c.len-2.ensures.value)) turns.rewritten turns.durable
+
+pub returns-in_err-write_alone-clause-stays : goal.returns-in_err-write_alone-clause-stays
+returns-in_err-write_alone-clause-stays g c = λ payloads kept.
+    let D = g.D.Disk in
+    let self = c.args.self.now in
+    stays_first (D.seen self.disk) (D.left_at self.disk (D.moment self.disk)) self.part self.gate payloads kept c.other-part.result c.other-part.ensures (D.seen c.write_alone.new.disk)
+    (written 0 (one_record c.args.frame.now)) c.write_alone.result c.write_alone.ensures.rewritten
+
+pub returns-in_err-turn_selector-clause-stays : goal.returns-in_err-turn_selector-clause-stays
+returns-in_err-turn_selector-clause-stays g c = λ payloads kept.
+    let D = g.D.Disk in
+    let self = c.args.self.now in
+    stays_both (D.seen self.disk) (D.left_at self.disk (D.moment self.disk)) self.part self.gate payloads kept c.other-part.result c.other-part.ensures (D.seen c.write_alone.new.disk)
+    (written 0 (one_record c.args.frame.now)) c.write_alone.result c.write_alone.ensures.rewritten (D.seen c.turn_selector.new.disk) turned c.turn_selector.result c.turn_selector.ensures.rewritten
+
+pub returns-clause-stays : goal.returns-clause-stays
+returns-clause-stays g c = λ payloads kept.
+    let D = g.D.Disk in
+    let self = c.args.self.now in
+    stays_both (D.seen self.disk) (D.left_at self.disk (D.moment self.disk)) self.part self.gate payloads kept c.other-part.result c.other-part.ensures (D.seen c.write_alone.new.disk)
+    (written 0 (one_record c.args.frame.now)) c.write_alone.result c.write_alone.ensures.rewritten (D.seen c.turn_selector.new.disk) turned c.turn_selector.result c.turn_selector.ensures.rewritten

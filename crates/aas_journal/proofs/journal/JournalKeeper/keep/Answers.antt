@@ -1,10 +1,11 @@
-use Rattle.std.proofs.Common.{◌∷◌, [], ◌+◌, refl, length}
+use Rattle.std.proofs.Common.{◌∷◌, [], ◌+◌, Ok, refl, length}
 use Rattle.aas_outside.specs.declared.link.Failed.{Failed}
 use Rattle.aas_outside_disk.specs.Files.{file}
 use Rattle.aas_journal.specs.Kept.{limit_law}
 use Rattle.aas_journal.proofs.Disks.{known, told}
 use Rattle.aas_journal.proofs.Placed.{same_part, within_further, within_write}
 use Rattle.aas_journal.proofs.Keeping.{at_err, failed_first, failed_second, keeps, kept_in_turn, same_selectors}
+use Rattle.aas_journal.proofs.TwoWrites.{fails_so, tears_both, tears_first, writes_both}
 use Rattle.aas_journal.proofs.journal.JournalKeeper.keep.Goals as goal
 
 pub invariant_of-self : goal.invariant_of-self
@@ -78,3 +79,46 @@ returns-clause-in_turn g c = λ payloads settled.
     (file self.part t.0) t.2.2 (known t.0 (D.seen c.write_durably.new.disk) _ t.1 c.in_ok-write_durably.ensures.durable)
     (D.moment c.write_durably-2.new.disk) (D.left_at c.write_durably-2.new.disk) c.write_durably-2.ensures.past c.write_durably-2.ensures.images
     (file self.part u.0) u.2.2 (known u.0 (D.seen c.write_durably-2.new.disk) _ u.1 c.in_ok-write_durably-2.ensures.durable)
+
+pub returns-in_err-write_durably-2-clause-bytes : goal.returns-in_err-write_durably-2-clause-bytes
+returns-in_err-write_durably-2-clause-bytes g c = λ payloads kept.
+    let D = g.D.Disk in
+    let self = c.args.self.now in
+    let failed = c.from_residual-in_err-write_durably-2 in
+    let t = told kept.files (D.seen self.disk) (D.seen c.write_durably.new.disk) _ kept.told c.in_ok-write_durably.ensures.written in
+    writes_both (D.seen self.disk) (D.left_at self.disk (D.moment self.disk)) self.part self.gate payloads kept c.args.frame.now c.bytes-bytes.result.now c.bytes-bytes.ensures
+    Failed (D.seen c.write_durably.new.disk) (D.seen c.write_durably-2.new.disk) failed.result (self.within kept.files kept.told) c.in_ok-write_durably.ensures.written
+    (fails_so self.part self.gate (1 ∷ []) t.0 (D.seen c.write_durably.new.disk) (D.seen c.write_durably-2.new.disk) c.write_durably-2.result failed.result t.1 failed.ensures.0 c.write_durably-2.ensures.written)
+
+pub returns-clause-bytes : goal.returns-clause-bytes
+returns-clause-bytes g c = λ payloads kept.
+    let D = g.D.Disk in
+    let self = c.args.self.now in
+    writes_both (D.seen self.disk) (D.left_at self.disk (D.moment self.disk)) self.part self.gate payloads kept c.args.frame.now c.bytes-bytes.result.now c.bytes-bytes.ensures
+    {E = Failed} Failed (D.seen c.write_durably.new.disk) (D.seen c.write_durably-2.new.disk) (Ok tt) (self.within kept.files kept.told) c.in_ok-write_durably.ensures.written c.in_ok-write_durably-2.ensures.written
+
+pub returns-in_err-write_durably-clause-images : goal.returns-in_err-write_durably-clause-images
+returns-in_err-write_durably-clause-images g c = λ payloads kept.
+    let D = g.D.Disk in
+    let self = c.args.self.now in
+    let new = c.write_durably.new.disk in
+    tears_first (D.seen self.disk) self.part self.gate payloads (D.moment self.disk) (D.left_at self.disk) kept c.args.frame.now c.bytes-bytes.result.now c.bytes-bytes.ensures
+    (D.moment new) (D.left_at new) c.write_durably.ensures.images
+
+pub returns-in_err-write_durably-2-clause-images : goal.returns-in_err-write_durably-2-clause-images
+returns-in_err-write_durably-2-clause-images g c = λ payloads kept.
+    let D = g.D.Disk in
+    let self = c.args.self.now in
+    let mid = c.write_durably.new.disk in
+    let new = c.write_durably-2.new.disk in
+    tears_both (D.seen self.disk) self.part self.gate payloads (D.moment self.disk) (D.left_at self.disk) kept c.args.frame.now c.bytes-bytes.result.now c.bytes-bytes.ensures
+    (D.moment mid) (D.left_at mid) c.write_durably.ensures.images c.write_durably.ensures.past.later (D.moment new) (D.left_at new) c.write_durably-2.ensures.past c.write_durably-2.ensures.images
+
+pub returns-clause-images : goal.returns-clause-images
+returns-clause-images g c = λ payloads kept.
+    let D = g.D.Disk in
+    let self = c.args.self.now in
+    let mid = c.write_durably.new.disk in
+    let new = c.write_durably-2.new.disk in
+    tears_both (D.seen self.disk) self.part self.gate payloads (D.moment self.disk) (D.left_at self.disk) kept c.args.frame.now c.bytes-bytes.result.now c.bytes-bytes.ensures
+    (D.moment mid) (D.left_at mid) c.write_durably.ensures.images c.write_durably.ensures.past.later (D.moment new) (D.left_at new) c.write_durably-2.ensures.past c.write_durably-2.ensures.images
