@@ -2,6 +2,11 @@
 //! refusal with its code and its text.
 //!
 //! What a command comes to is said above (`aas_step`), and so is the reply that tells a refusal.
+//!
+//! Proved: each refusal has its code and its text; what is read and what is checked is refused by the fault; a
+//! command's frame is its payload, and it has none exactly where that has 2^32 bytes or more; each field of it is
+//! UTF-8; a value that is sent, its compact text, and whether its numbers are whole. By the contract of
+//! `Refusal::code`, `text`, `from`; `encode`; `SentValue`.
 
 #![tactic(auto)]
 

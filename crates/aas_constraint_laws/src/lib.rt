@@ -3,6 +3,15 @@
 //! function that does nothing.
 //!
 //! The constraints themselves stand in `aas_constraint_rules`, and what checks a document for them in `aas_constraints`.
+//!
+//! Proved, by the law functions in `src/lib.rt`:
+//!
+//! - What JSON spells is valid where it has no fault.
+//! - In a valid submodel siblings differ, and each element has one path, which can be written where no list has
+//!   more than 10^9 children.
+//! - The law of place: where an element is changed in its values alone, the submodel has the changed element's
+//!   own faults and no others, and stays valid where there are none.
+//! - The values are the attributes of class V.
 
 #![tactic(auto)]
 

@@ -2,6 +2,10 @@
 //! qualifiers, extensions and specific asset ids.
 //!
 //! What they want of documents, of elements and of their places stands in `aas_constraints`.
+//!
+//! Proved: what texts, references, languages, qualifiers, extensions and specific asset ids break: each test
+//! answers as the constraint says. By the contract of `fault_among`, `are_strings`, `qualifiers_differ`,
+//! `payload_has_form`, ...
 
 #![tactic(auto)]
 

@@ -5,6 +5,9 @@
 //! `laws` do nothing: their contracts say that the tests of texts tell the forms of IDTA-01001-3-0 and XML Schema.
 //!
 //! No document is checked here: that is `aas_constraints`.
+//!
+//! Proved: the tests of texts that the constraints are made of are the grammars of `aas_lexical`. By the law
+//! functions in `src/laws.rt`.
 
 #![tactic(auto)]
 

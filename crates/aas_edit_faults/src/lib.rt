@@ -3,6 +3,18 @@
 //! that does nothing.
 //!
 //! What an edit makes of a submodel is defined in `aas_path_trees`; that it stays whole is a law of `aas_edit_laws`.
+//!
+//! Proved, by the contract of `inserted_elements_have_the_faults`, `replacing_elements_have_the_faults`,
+//! `removing_keeps_faultless`, `edits_keep_valid`, `edits_count`:
+//!
+//! - Where an element is inserted into a submodel without faults, or put in the place of one that has the same
+//!   idShort and the same semanticId, the submodel has the faults of that element and of what lies below it, at
+//!   its place, and no others.
+//! - Its siblings are no matter but where an inserted one repeats an idShort or, in a list, has another
+//!   semanticId.
+//! - Where one is removed the submodel has none.
+//! - So a valid submodel stays valid where what comes in is whole and has none of these faults.
+//! - How many elements there are after each edit.
 
 #![tactic(auto)]
 

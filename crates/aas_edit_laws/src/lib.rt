@@ -3,6 +3,16 @@
 //! a law stands on a function that does nothing.
 //!
 //! What an edit makes of a submodel is defined in `aas_path_trees`; which faults it has then is said in `aas_edit_faults`.
+//!
+//! Proved, by the contract of `inserting_keeps_whole`, `replacing_keeps_whole`, `removing_keeps_whole`,
+//! `edits_keep_attributes`, `edits_leave_others`:
+//!
+//! - A whole submodel stays whole where an element is inserted or put in another's place that is whole at its
+//!   level and fits the role, and where one is removed.
+//! - Whether siblings have their own names is no matter.
+//! - No edit changes an attribute of the submodel itself.
+//! - Where two paths part, an edit at one changes nothing at the other, but that places move up behind an element
+//!   that is taken out of a list.
 
 #![tactic(auto)]
 

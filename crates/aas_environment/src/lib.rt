@@ -2,6 +2,19 @@
 //! and the documents of such a text as one command.
 //!
 //! What a command does is said below (`aas_step`); the console stands above.
+//!
+//! Proved, by the contract of `pour_environment`, `measure_export`, `export`, `import`, `import_frame`;
+//! `exports_come_back`, `twice_is_once`:
+//!
+//! - Over any store: where its documents are valid, the canonical text of all of them as one environment, each
+//!   list in the byte order of identifiers, is put into any end without memory, and the frame of its import is
+//!   made.
+//! - An export of a repository gives that text and a line feed and tells how many bytes these are, or a front
+//!   where the link fails, or nothing exactly where they are 2^64 or more.
+//! - A file is imported as one command, or why it isn't is told exactly, with the first document that is refused,
+//!   and nothing has changed then, unless the keeper fails.
+//! - Where there are no documents, importing an export gives these documents.
+//! - Importing an environment twice is importing it once.
 
 #![tactic(auto)]
 

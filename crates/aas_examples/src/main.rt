@@ -2,6 +2,9 @@
 //! with, with tabs between them. Printed are the examples that give something else, and how many there are in all.
 //!
 //! No definition and no rule stands here.
+//!
+//! Proved: an example fails exactly where what it gives isn't what is expected; the rest of the program, which
+//! runs the examples over the crates above, has no contract. By the contract of `unexpected`.
 
 #![tactic(auto)]
 

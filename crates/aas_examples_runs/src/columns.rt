@@ -20,7 +20,7 @@ const NAMES: [&str; 17] = [
     "input",
     "ends",
     "capabilities",
-    "connections",
+    "visits",
     "replies",
     "broken",
 ];

@@ -1,10 +1,11 @@
 //! Worked examples of whole runs. Each line of the input is an example: the words of the command line, the status,
 //! what the console gets and what it is given, with tabs between them; the last two are JSON strings. Further columns
 //! say what its disk begins with, which of its calls fail and what the run leaves (`disk.rt`), which calls of the
-//! console fail (`runs.rt`), what connections come on its wire (`wire.rt`), and that each front of the input is run too
+//! console fail (`runs.rt`), what visits its wire makes (`wire.rt`), and that each front of the input is run too
 //! (`fronts.rt`). Each is run with its bytes in pieces of three sizes, and over both stores. Lines that begin with
-//! `row_mut` are of rows that a store lends (`rows.rt`), those with `keeper` of a keeper in memory (`keepers.rt`). Printed
-//! are the examples that give something else, and how many there are in all.
+//! `row_mut` are of rows that a store lends (`rows.rt`), those with `keeper` of a keeper in memory (`keepers.rt`), those with
+//! `gather` of environments in memory (`gathering.rt`). Printed are the examples that give something else, and how many
+//! there are in all.
 //!
 //! No definition and no rule stands here.
 
@@ -15,6 +16,7 @@ mod columns;
 mod disk;
 mod example;
 mod fronts;
+mod gathering;
 mod keepers;
 mod not_run;
 mod rows;
@@ -80,6 +82,9 @@ fn given(
             rows::failure(alloc, example, rank, paths)
         }
         [word, room] if word.as_str() == "keeper" => keepers::failure(alloc, example, room),
+        [word, shells, submodels, concepts] if word.as_str() == "gather" => {
+            gathering::failure(alloc, example, shells, submodels, concepts)
+        }
         _ => first_failure(alloc, example, runs),
     }
 }

@@ -2,7 +2,7 @@ ghost use Rattle.std.specs.Prelude.{◌≡◌, IfOk};
 ghost use Rattle.aas_constraint_laws.specs.Values.{without_values};
 ghost use Rattle.aas_form.specs.MetadataForm.{metadata_form, submodel_metadata};
 
-use aas_model::{Duplicate, Element, Many, NoMemory, Payload, Submodel, copy_option};
+use aas_model::{Duplicate, Element, Many, NoMemory, Payload, Submodel, both, copy_option};
 use std::alloc::Global;
 
 /// A kind's own attributes without its values.
@@ -59,16 +59,26 @@ fn without_values(alloc: Global, payload: &Payload) -> Result<Payload, NoMemory>
             min_interval,
             max_interval,
             ..
-        } => Payload::BasicEventElement {
-            observed: None,
-            direction: *direction,
-            state: *state,
-            message_topic: copy_option(message_topic)?,
-            message_broker: copy_option(message_broker)?,
-            last_update: copy_option(last_update)?,
-            min_interval: copy_option(min_interval)?,
-            max_interval: copy_option(max_interval)?,
-        },
+        } => {
+            let messages = both(copy_option(message_topic), copy_option(message_broker));
+            let intervals = both(copy_option(min_interval), copy_option(max_interval));
+            let ((messages, intervals), last_update) = both(
+                both(messages, intervals),
+                copy_option(last_update),
+            )?;
+            let (message_topic, message_broker) = messages;
+            let (min_interval, max_interval) = intervals;
+            Payload::BasicEventElement {
+                observed: None,
+                direction: *direction,
+                state: *state,
+                message_topic,
+                message_broker,
+                last_update,
+                min_interval,
+                max_interval,
+            }
+        }
         Payload::Capability
         | Payload::Operation
         | Payload::SubmodelElementCollection
@@ -82,9 +92,13 @@ fn without_values(alloc: Global, payload: &Payload) -> Result<Payload, NoMemory>
 pub fn metadata(alloc: Global, element: &Element) -> Result<Element, NoMemory>
     ensures { IfOk result (λ form. form ≡ metadata_form element.now) }
 {
+    let (common, payload) = both(
+        element.common.copy(),
+        without_values(alloc, &element.payload),
+    )?;
     Ok(Element {
-        common: element.common.copy()?,
-        payload: without_values(alloc, &element.payload)?,
+        common,
+        payload,
         role: element.role,
         kids: Many::new(alloc),
     })
@@ -96,11 +110,13 @@ pub fn metadata(alloc: Global, element: &Element) -> Result<Element, NoMemory>
 pub fn metadata_of(alloc: Global, submodel: &Submodel) -> Result<Submodel, NoMemory>
     ensures { IfOk result (λ form. form ≡ submodel_metadata submodel.now) }
 {
+    let meaning = both(submodel.semantics.copy(), submodel.qualifiers.copy());
+    let (head, (semantics, qualifiers)) = both(submodel.head.copy(), meaning)?;
     Ok(Submodel {
-        head: submodel.head.copy()?,
+        head,
         kind: submodel.kind,
-        semantics: submodel.semantics.copy()?,
-        qualifiers: submodel.qualifiers.copy()?,
+        semantics,
+        qualifiers,
         kids: Many::new(alloc),
     })
 }

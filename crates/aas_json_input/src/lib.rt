@@ -2,6 +2,10 @@
 //! JSON mapping (IDTA-01001-3-0), and the tree that bytes or a value spell as an object of one sort.
 //!
 //! Here stands what each reader begins with, whatever it reads. How the objects of a sort are read stands with the sort.
+//!
+//! Proved: bytes are read as a JSON value or are none; a value has no fault, or this is its first one; what a
+//! value or bytes without fault say is read. By the contract of `read_value`, `check_value`, `read_part`,
+//! `read_bytes`.
 
 #![tactic(auto)]
 

@@ -3,6 +3,11 @@
 //!
 //! What holds of every sort by the attribute table stands in `aas_json_spelling`, references in `aas_reference`. Nothing
 //! is read or written here.
+//!
+//! Proved: for each sort of tree: what a writer wrote of a whole tree, its reader reads as that tree; a value
+//! spells one tree, or has a mapping fault, or is only too deep; trees that are spelled the same are the same;
+//! what a value says is whole. By the contract of `elements_are_mapped`, `submodels_are_mapped`, .., each by the
+//! record `IsMapped`.
 
 #![tactic(auto)]
 

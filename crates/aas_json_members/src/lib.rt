@@ -2,6 +2,10 @@
 //! that are put together member by member.
 //!
 //! Which members a sort has stands with the sort, above.
+//!
+//! Proved: a member is found by its name and its type, or isn't there; an object is written member by member;
+//! what is appended is UTF-8. By the contract of `word_member`, `list_member`, ..; `Object::put`;
+//! `Exact::append_to`.
 
 #![tactic(auto)]
 

@@ -4,6 +4,10 @@
 //! that is empty is read as if it were absent. Want of memory may be answered at any time.
 //!
 //! Parts are read by `aas_json_parts`. Whether what is read keeps the constraints is not asked here.
+//!
+//! Proved: each reader answers a tree exactly where the bytes spell it, else not JSON, the first mapping fault,
+//! or the first place that is too deep. By the contract of `read_element`, `read_submodel`, `read_shell`,
+//! `read_concept`, `read_asset_information`, `read_environment`, `read_specific`.
 
 #![tactic(auto)]
 

@@ -4,6 +4,16 @@
 //! table, and of kept data. A crate that has trees of its own shows five facts of each sort (`proofs/Laws.antt`), and
 //! has from them all the laws of the mapping of that sort (`specs/Mapped.antt`). How one sort is spelled, and which of
 //! its trees are whole, stands in those crates, and so do readers and writers.
+//!
+//! Proved, by the law functions in `src/lib.rt`:
+//!
+//! - Laws over every sort of tree: a value conforms to the attribute table exactly where it has no mapping fault
+//!   and nothing in it is too deep.
+//! - The pointer of a mapping fault leads to a place that departs from the table, that of a place too deep to one
+//!   for which no level is left.
+//! - What has no fault is read.
+//! - Kept data reads as itself and is said once.
+//! - Compact text reads back, and is UTF-8 where the value's texts are.
 
 #![tactic(auto)]
 

@@ -5,6 +5,9 @@
 //! `specs/LiesTooDeep.antt`; one walk finds the first place where a value departs, and another the first that lies too
 //! deep. What stands here knows the table alone: the trees that values spell begin in `aas_json_spelling`, which also
 //! has the laws that tie the walks to those definitions.
+//!
+//! Proved: the table in code is the attribute table; the first mapping fault, the first place that is too deep,
+//! the text of a pointer. By the contract of `rows_of`, `misfit`, `too_deep`, `pointer`.
 
 #![tactic(auto)]
 

@@ -5,6 +5,11 @@
 //! memory.
 //!
 //! The value form stands in `aas_value`.
+//!
+//! Proved: the canonical text of a document, an element, an environment or a reference, whatever tree it is, is
+//! made in memory, and is UTF-8; each writer appends it, and where memory is refused its output is as it was. By
+//! the contract of `shell_text`, `submodel_text`, `element_text`, ..; `write_shell`, `write_submodel`,
+//! `write_element`, ...
 
 #![tactic(auto)]
 

@@ -5,6 +5,10 @@
 //! goes over the text a bounded number of times.
 //!
 //! Which attribute has which rule is said by the constraints (`aas_constraint_rules`).
+//!
+//! Proved: each test answers exactly by its grammar, both ways, and takes no memory; `native` is the value that
+//! is written natively, and none exactly where that is a string. By the contract of `fits`, `is_language`,
+//! `is_version`, `is_name`, `is_id_short`, `is_identifier`, `is_media_type`, `is_string`, `native`.
 #![tactic(auto)]
 
 mod binary;

@@ -5,6 +5,9 @@
 //! has to be there, and by `unwrap_or(text)` for what may be left out. None takes memory.
 //!
 //! No grammar of a standard stands here.
+//!
+//! Proved: what each cutting function leaves behind the form that it takes. By the contract of `after_one`,
+//! `after_any`, ...
 #![tactic(auto)]
 
 mod ascii;

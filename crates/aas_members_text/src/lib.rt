@@ -3,6 +3,12 @@
 //! What is put is the compact text of what `aas_json_mapping` spells. Children aren't looked for here: what stands above
 //! puts them between the members. That a text made so is the canonical one is the contract of the functions of `laws`,
 //! which do nothing.
+//!
+//! Proved: the members of an element, of a shell and of a concept description, and those before and behind a
+//! submodel's elements, are put into an end piece by piece and without memory, and a front of them where the end
+//! fails; a text made of them and of the children's texts is the canonical one. By the contract of
+//! `CanonicalMembers`, `pour_shell`, `pour_concept`, `begin_submodel`, `end_submodel`, `put_list`; the law
+//! functions in `src/laws.rt`.
 
 #![tactic(auto)]
 

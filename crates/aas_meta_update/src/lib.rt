@@ -2,6 +2,11 @@
 //! PatchSubmodel with the content modifier Metadata): all but the values and the children.
 //!
 //! What comes of it is said in `specs/WithMetadata.antt`, and what that leaves alone in `specs/Laws.antt`.
+//!
+//! Proved: the metadata of a form is put in the place of an element's or a submodel's, exactly where the form is
+//! of its kind and value type: the metadata form is the one that was put then, each value form is as before, at
+//! every other path nothing is another, and what is whole stays whole. By the contract of `put_metadata`,
+//! `put_metadata_of`; `metadata_is_put`, `values_stay`, `only_metadata_changes`, `put_stays_whole`.
 
 #![tactic(auto)]
 
@@ -14,7 +19,7 @@ ghost use Rattle.aas_meta_update.specs.WithMetadata.{with_metadata, with_submode
 ghost use Rattle.aas_meta_update.specs.Put.{Puts};
 
 use crate::payload::{are_alike, with_shown};
-use aas_model::{Duplicate, Element, NoMemory, Submodel};
+use aas_model::{Duplicate, Element, NoMemory, Submodel, both};
 pub use laws::{metadata_is_put, only_metadata_changes, put_stays_whole, values_stay};
 pub use meta_fault::MetaFault;
 
@@ -37,11 +42,16 @@ pub fn put_metadata(element: &Element, form: &Element) -> Result<Element, MetaFa
 fn with_form(element: &Element, form: &Element) -> Result<Element, NoMemory>
     ensures { IfOk result (λ put. put ≡ with_metadata element.now form.now) }
 {
+    let attributes = both(
+        form.common.copy(),
+        with_shown(&element.payload, &form.payload),
+    );
+    let ((common, payload), kids) = both(attributes, element.kids.copy())?;
     Ok(Element {
-        common: form.common.copy()?,
-        payload: with_shown(&element.payload, &form.payload)?,
+        common,
+        payload,
         role: element.role,
-        kids: element.kids.copy()?,
+        kids,
     })
 }
 
@@ -49,11 +59,16 @@ fn with_form(element: &Element, form: &Element) -> Result<Element, NoMemory>
 pub fn put_metadata_of(submodel: &Submodel, form: &Submodel) -> Result<Submodel, NoMemory>
     ensures { IfOk result (λ put. put ≡ with_submodel_metadata submodel.now form.now) }
 {
+    let meaning = both(form.semantics.copy(), form.qualifiers.copy());
+    let ((head, kids), (semantics, qualifiers)) = both(
+        both(form.head.copy(), submodel.kids.copy()),
+        meaning,
+    )?;
     Ok(Submodel {
-        head: form.head.copy()?,
+        head,
         kind: form.kind,
-        semantics: form.semantics.copy()?,
-        qualifiers: form.qualifiers.copy()?,
-        kids: submodel.kids.copy()?,
+        semantics,
+        qualifiers,
+        kids,
     })
 }

@@ -1,7 +1,7 @@
 ghost use Rattle.std.specs.Prelude.{◌≡◌, ◌↔◌, IfOk, IsTrue};
 ghost use Rattle.aas_meta_update.specs.WithMetadata.{AreAlike, value_id_of, value_type_of, with_observed, with_shown};
 
-use aas_model::{Duplicate, NoMemory, Payload, Reference, ValueType, copy_option};
+use aas_model::{Duplicate, NoMemory, Payload, Reference, ValueType, both, copy_option};
 
 /// Whether attributes are of one kind and, for Property and Range, of one value type.
 pub(crate) fn are_alike(payload: &Payload, form: &Payload) -> bool
@@ -31,16 +31,19 @@ pub(crate) fn with_shown(payload: &Payload, form: &Payload) -> Result<Payload, N
             value_type,
             value,
             ..
-        } => Payload::Property {
-            value_type: *value_type,
-            value: copy_option(value)?,
-            value_id: value_id_of(form)?,
-        },
-        Payload::MultiLanguageProperty { value, .. } => Payload::MultiLanguageProperty {
-            value: value.copy()?,
-            value_id: value_id_of(form)?,
-        },
-        Payload::BasicEventElement { observed, .. } => with_observed(copy_option(observed)?, form)?,
+        } => {
+            let (value, value_id) = both(copy_option(value), value_id_of(form))?;
+            Payload::Property {
+                value_type: *value_type,
+                value,
+                value_id,
+            }
+        }
+        Payload::MultiLanguageProperty { value, .. } => {
+            let (value, value_id) = both(value.copy(), value_id_of(form))?;
+            Payload::MultiLanguageProperty { value, value_id }
+        }
+        Payload::BasicEventElement { observed, .. } => with_observed(observed, form)?,
         Payload::SubmodelElementList { .. } => form.copy()?,
         _ => payload.copy()?,
     })
@@ -59,10 +62,10 @@ fn value_id_of(form: &Payload) -> Result<Option<Reference>, NoMemory>
 }
 
 /// The attributes of a BasicEventElement with what it observes; those of another kind as they are.
-fn with_observed(observed: Option<Reference>, form: &Payload) -> Result<Payload, NoMemory>
-    ensures { IfOk result (λ put. put ≡ with_observed observed form.now) }
+fn with_observed(observed: &Option<Reference>, form: &Payload) -> Result<Payload, NoMemory>
+    ensures { IfOk result (λ put. put ≡ with_observed observed.now form.now) }
 {
-    Ok(match form {
+    match form {
         Payload::BasicEventElement {
             direction,
             state,
@@ -72,16 +75,25 @@ fn with_observed(observed: Option<Reference>, form: &Payload) -> Result<Payload,
             min_interval,
             max_interval,
             ..
-        } => Payload::BasicEventElement {
-            observed,
-            direction: *direction,
-            state: *state,
-            message_topic: copy_option(message_topic)?,
-            message_broker: copy_option(message_broker)?,
-            last_update: copy_option(last_update)?,
-            min_interval: copy_option(min_interval)?,
-            max_interval: copy_option(max_interval)?,
-        },
-        _ => form.copy()?,
-    })
+        } => {
+            let messages = both(copy_option(message_topic), copy_option(message_broker));
+            let intervals = both(copy_option(min_interval), copy_option(max_interval));
+            let seen = both(copy_option(observed), copy_option(last_update));
+            let (seen, (messages, intervals)) = both(seen, both(messages, intervals))?;
+            let (observed, last_update) = seen;
+            let (message_topic, message_broker) = messages;
+            let (min_interval, max_interval) = intervals;
+            Ok(Payload::BasicEventElement {
+                observed,
+                direction: *direction,
+                state: *state,
+                message_topic,
+                message_broker,
+                last_update,
+                min_interval,
+                max_interval,
+            })
+        }
+        _ => form.copy(),
+    }
 }

@@ -1,4 +1,4 @@
-use crate::{AssetKind, Duplicate, Many, NoMemory, SpecificAssetId, Text, copy_option};
+use crate::{AssetKind, Duplicate, Many, NoMemory, SpecificAssetId, Text, both, copy_option};
 
 /// A file, by its place.
 ///
@@ -32,12 +32,23 @@ pub struct AssetInformation {
 
 impl Duplicate for AssetInformation {
     fn copy(&self) -> Result<AssetInformation, NoMemory> {
+        let ids = both(
+            copy_option(&self.global_asset_id),
+            self.specific_asset_ids.copy(),
+        );
+        let shown = both(
+            copy_option(&self.asset_type),
+            copy_option(&self.default_thumbnail),
+        );
+        let ((global_asset_id, specific_asset_ids), (asset_type, default_thumbnail)) = both(
+            ids, shown,
+        )?;
         Ok(AssetInformation {
             asset_kind: self.asset_kind,
-            global_asset_id: copy_option(&self.global_asset_id)?,
-            specific_asset_ids: self.specific_asset_ids.copy()?,
-            asset_type: copy_option(&self.asset_type)?,
-            default_thumbnail: copy_option(&self.default_thumbnail)?,
+            global_asset_id,
+            specific_asset_ids,
+            asset_type,
+            default_thumbnail,
         })
     }
 }

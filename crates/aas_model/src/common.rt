@@ -1,6 +1,6 @@
 use crate::{
     Administration, Duplicate, Extension, LangText, Many, NoMemory, Plain, Qualifier, Semantics,
-    Text, copy_option,
+    Text, both, copy_option,
 };
 
 /// The attributes that all documents have.
@@ -21,15 +21,27 @@ pub struct Head {
 
 impl Duplicate for Head {
     fn copy(&self) -> Result<Head, NoMemory> {
+        let identity = both(self.id.copy(), copy_option(&self.administration));
+        let names = both(copy_option(&self.id_short), copy_option(&self.category));
+        let texts = both(self.description.copy(), self.display_name.copy());
+        let kept = both(
+            self.extensions.copy(),
+            self.embedded_data_specifications.copy(),
+        );
+        let ((identity, names), (texts, kept)) = both(both(identity, names), both(texts, kept))?;
+        let (id, administration) = identity;
+        let (id_short, category) = names;
+        let (description, display_name) = texts;
+        let (extensions, embedded_data_specifications) = kept;
         Ok(Head {
-            id: self.id.copy()?,
-            administration: copy_option(&self.administration)?,
-            id_short: copy_option(&self.id_short)?,
-            category: copy_option(&self.category)?,
-            description: self.description.copy()?,
-            display_name: self.display_name.copy()?,
-            extensions: self.extensions.copy()?,
-            embedded_data_specifications: self.embedded_data_specifications.copy()?,
+            id,
+            administration,
+            id_short,
+            category,
+            description,
+            display_name,
+            extensions,
+            embedded_data_specifications,
         })
     }
 }
@@ -53,15 +65,27 @@ pub struct Common {
 
 impl Duplicate for Common {
     fn copy(&self) -> Result<Common, NoMemory> {
+        let names = both(copy_option(&self.id_short), copy_option(&self.category));
+        let texts = both(self.description.copy(), self.display_name.copy());
+        let kept = both(
+            self.extensions.copy(),
+            self.embedded_data_specifications.copy(),
+        );
+        let meaning = both(self.semantics.copy(), self.qualifiers.copy());
+        let ((names, texts), (kept, meaning)) = both(both(names, texts), both(kept, meaning))?;
+        let (id_short, category) = names;
+        let (description, display_name) = texts;
+        let (extensions, embedded_data_specifications) = kept;
+        let (semantics, qualifiers) = meaning;
         Ok(Common {
-            id_short: copy_option(&self.id_short)?,
-            category: copy_option(&self.category)?,
-            description: self.description.copy()?,
-            display_name: self.display_name.copy()?,
-            extensions: self.extensions.copy()?,
-            embedded_data_specifications: self.embedded_data_specifications.copy()?,
-            semantics: self.semantics.copy()?,
-            qualifiers: self.qualifiers.copy()?,
+            id_short,
+            category,
+            description,
+            display_name,
+            extensions,
+            embedded_data_specifications,
+            semantics,
+            qualifiers,
         })
     }
 }

@@ -1,6 +1,6 @@
 use crate::{
     AssetInformation, Duplicate, Element, Head, Many, ModellingKind, NoMemory, Qualifier,
-    Reference, Semantics, copy_option,
+    Reference, Semantics, both, copy_option,
 };
 
 /// One aspect of an asset, with its elements.
@@ -19,12 +19,17 @@ pub struct Submodel {
 
 impl Duplicate for Submodel {
     fn copy(&self) -> Result<Submodel, NoMemory> {
+        let meaning = both(self.semantics.copy(), self.qualifiers.copy());
+        let ((head, kids), (semantics, qualifiers)) = both(
+            both(self.head.copy(), self.kids.copy()),
+            meaning,
+        )?;
         Ok(Submodel {
-            head: self.head.copy()?,
+            head,
             kind: self.kind,
-            semantics: self.semantics.copy()?,
-            qualifiers: self.qualifiers.copy()?,
-            kids: self.kids.copy()?,
+            semantics,
+            qualifiers,
+            kids,
         })
     }
 }
@@ -43,11 +48,16 @@ pub struct Shell {
 
 impl Duplicate for Shell {
     fn copy(&self) -> Result<Shell, NoMemory> {
+        let references = both(copy_option(&self.derived_from), self.submodels.copy());
+        let ((head, asset), (derived_from, submodels)) = both(
+            both(self.head.copy(), self.asset.copy()),
+            references,
+        )?;
         Ok(Shell {
-            head: self.head.copy()?,
-            derived_from: copy_option(&self.derived_from)?,
-            asset: self.asset.copy()?,
-            submodels: self.submodels.copy()?,
+            head,
+            derived_from,
+            asset,
+            submodels,
         })
     }
 }
@@ -63,10 +73,8 @@ pub struct Concept {
 
 impl Duplicate for Concept {
     fn copy(&self) -> Result<Concept, NoMemory> {
-        Ok(Concept {
-            head: self.head.copy()?,
-            is_case_of: self.is_case_of.copy()?,
-        })
+        let (head, is_case_of) = both(self.head.copy(), self.is_case_of.copy())?;
+        Ok(Concept { head, is_case_of })
     }
 }
 

@@ -1,6 +1,6 @@
 ghost use Rattle.std.specs.Prelude.{◌≡◌, IfOk};
 
-use crate::{Common, Duplicate, Kind, Many, NoMemory, Payload};
+use crate::{Common, Duplicate, Kind, Many, NoMemory, Payload, both};
 
 /// Which attribute of its parent holds an element.
 ///
@@ -57,11 +57,13 @@ impl Duplicate for Element {
 fn copy_element(element: &Element) -> Result<Element, NoMemory>
     ensures { IfOk result (λ copied. copied ≡ element.now) }
 {
+    let attributes = both(element.common.copy(), element.payload.copy());
+    let ((common, payload), kids) = both(attributes, copy_kids(&element.kids))?;
     Ok(Element {
-        common: element.common.copy()?,
-        payload: element.payload.copy()?,
+        common,
+        payload,
         role: element.role,
-        kids: copy_kids(&element.kids)?,
+        kids,
     })
 }
 

@@ -5,6 +5,8 @@
 //! enumerations has `Duplicate::copy`, an equal value of its own.
 //!
 //! How a tree is spelled, which are valid and what changes them is said above.
+//!
+//! Proved: each copy of a document, element or part is an equal tree. By the contract of `copy` of each type.
 
 #![tactic(auto)]
 
@@ -24,7 +26,7 @@ pub use aas_model_names::{
     AssetKind, Collection, Direction, ElementName, EntityType, Extent, KeyType, Kind, Level,
     ModellingKind, Named, QualifierKind, ReferenceType, StateOfEvent, ValueType,
 };
-pub use aas_model_text::{Boxed, Duplicate, Many, NoMemory, Text, copy_option, same_text};
+pub use aas_model_text::{Boxed, Duplicate, Many, NoMemory, Text, both, copy_option, same_text};
 pub use asset::{AssetInformation, Resource};
 pub use common::{Common, Head};
 pub use documents::{Concept, Environment, Shell, Submodel};

@@ -1,5 +1,5 @@
 use crate::{
-    Duplicate, Many, NoMemory, Plain, QualifierKind, Reference, Semantics, Text, ValueType,
+    Duplicate, Many, NoMemory, Plain, QualifierKind, Reference, Semantics, Text, ValueType, both,
     copy_option,
 };
 
@@ -36,12 +36,15 @@ pub struct Extension {
 
 impl Duplicate for Extension {
     fn copy(&self) -> Result<Extension, NoMemory> {
+        let meaning = both(self.name.copy(), self.semantics.copy());
+        let values = both(copy_option(&self.value), self.refers_to.copy());
+        let ((name, semantics), (value, refers_to)) = both(meaning, values)?;
         Ok(Extension {
-            name: self.name.copy()?,
+            name,
             value_type: self.value_type,
-            value: copy_option(&self.value)?,
-            refers_to: self.refers_to.copy()?,
-            semantics: self.semantics.copy()?,
+            value,
+            refers_to,
+            semantics,
         })
     }
 }
@@ -63,13 +66,16 @@ pub struct Qualifier {
 
 impl Duplicate for Qualifier {
     fn copy(&self) -> Result<Qualifier, NoMemory> {
+        let meaning = both(self.qualifier_type.copy(), self.semantics.copy());
+        let values = both(copy_option(&self.value), copy_option(&self.value_id));
+        let ((qualifier_type, semantics), (value, value_id)) = both(meaning, values)?;
         Ok(Qualifier {
             kind: self.kind,
-            qualifier_type: self.qualifier_type.copy()?,
+            qualifier_type,
             value_type: self.value_type,
-            value: copy_option(&self.value)?,
-            value_id: copy_option(&self.value_id)?,
-            semantics: self.semantics.copy()?,
+            value,
+            value_id,
+            semantics,
         })
     }
 }
@@ -88,11 +94,19 @@ pub struct SpecificAssetId {
 
 impl Duplicate for SpecificAssetId {
     fn copy(&self) -> Result<SpecificAssetId, NoMemory> {
+        let meaning = both(
+            copy_option(&self.external_subject_id),
+            self.semantics.copy(),
+        );
+        let ((name, value), (external_subject_id, semantics)) = both(
+            both(self.name.copy(), self.value.copy()),
+            meaning,
+        )?;
         Ok(SpecificAssetId {
-            name: self.name.copy()?,
-            value: self.value.copy()?,
-            external_subject_id: copy_option(&self.external_subject_id)?,
-            semantics: self.semantics.copy()?,
+            name,
+            value,
+            external_subject_id,
+            semantics,
         })
     }
 }
@@ -112,12 +126,20 @@ pub struct Administration {
 
 impl Duplicate for Administration {
     fn copy(&self) -> Result<Administration, NoMemory> {
+        let versions = both(copy_option(&self.version), copy_option(&self.revision));
+        let origin = both(copy_option(&self.creator), copy_option(&self.template_id));
+        let ((versions, origin), embedded_data_specifications) = both(
+            both(versions, origin),
+            self.embedded_data_specifications.copy(),
+        )?;
+        let (version, revision) = versions;
+        let (creator, template_id) = origin;
         Ok(Administration {
-            version: copy_option(&self.version)?,
-            revision: copy_option(&self.revision)?,
-            creator: copy_option(&self.creator)?,
-            template_id: copy_option(&self.template_id)?,
-            embedded_data_specifications: self.embedded_data_specifications.copy()?,
+            version,
+            revision,
+            creator,
+            template_id,
+            embedded_data_specifications,
         })
     }
 }

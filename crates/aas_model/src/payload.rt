@@ -3,7 +3,7 @@ ghost use Rattle.aas_model.specs.Payload.{kind_of};
 
 use crate::{
     Direction, Duplicate, ElementName, EntityType, Kind, LangText, Many, NoMemory, Reference,
-    SpecificAssetId, StateOfEvent, Text, ValueType, copy_option,
+    SpecificAssetId, StateOfEvent, Text, ValueType, both, copy_option,
 };
 
 /// The attributes of one kind of element, besides those that all elements have and its children.
@@ -98,64 +98,80 @@ impl Payload {
 
 impl Duplicate for Payload {
     fn copy(&self) -> Result<Payload, NoMemory> {
-        Ok(match self {
+        match self {
             Payload::Property {
                 value_type,
                 value,
                 value_id,
-            } => Payload::Property {
-                value_type: *value_type,
-                value: copy_option(value)?,
-                value_id: copy_option(value_id)?,
-            },
-            Payload::MultiLanguageProperty { value, value_id } => Payload::MultiLanguageProperty {
-                value: value.copy()?,
-                value_id: copy_option(value_id)?,
-            },
+            } => {
+                let (value, value_id) = both(copy_option(value), copy_option(value_id))?;
+                Ok(Payload::Property {
+                    value_type: *value_type,
+                    value,
+                    value_id,
+                })
+            }
+            Payload::MultiLanguageProperty { value, value_id } => {
+                let (value, value_id) = both(value.copy(), copy_option(value_id))?;
+                Ok(Payload::MultiLanguageProperty { value, value_id })
+            }
             Payload::Range {
                 value_type,
                 min,
                 max,
-            } => Payload::Range {
-                value_type: *value_type,
-                min: copy_option(min)?,
-                max: copy_option(max)?,
-            },
+            } => {
+                let (min, max) = both(copy_option(min), copy_option(max))?;
+                Ok(Payload::Range {
+                    value_type: *value_type,
+                    min,
+                    max,
+                })
+            }
             Payload::File {
                 content_type,
                 value,
-            } => Payload::File {
-                content_type: copy_option(content_type)?,
-                value: copy_option(value)?,
-            },
+            } => {
+                let (content_type, value) = both(copy_option(content_type), copy_option(value))?;
+                Ok(Payload::File {
+                    content_type,
+                    value,
+                })
+            }
             Payload::Blob {
                 content_type,
                 value,
-            } => Payload::Blob {
-                content_type: copy_option(content_type)?,
-                value: copy_option(value)?,
-            },
-            Payload::ReferenceElement { value } => Payload::ReferenceElement {
-                value: copy_option(value)?,
-            },
-            Payload::RelationshipElement { first, second } => Payload::RelationshipElement {
-                first: copy_option(first)?,
-                second: copy_option(second)?,
-            },
-            Payload::AnnotatedRelationshipElement { first, second } =>
-                Payload::AnnotatedRelationshipElement {
-                    first: copy_option(first)?,
-                    second: copy_option(second)?,
-                },
+            } => {
+                let (content_type, value) = both(copy_option(content_type), copy_option(value))?;
+                Ok(Payload::Blob {
+                    content_type,
+                    value,
+                })
+            }
+            Payload::ReferenceElement { value } => {
+                let value = copy_option(value)?;
+                Ok(Payload::ReferenceElement { value })
+            }
+            Payload::RelationshipElement { first, second } => {
+                let (first, second) = both(copy_option(first), copy_option(second))?;
+                Ok(Payload::RelationshipElement { first, second })
+            }
+            Payload::AnnotatedRelationshipElement { first, second } => {
+                let (first, second) = both(copy_option(first), copy_option(second))?;
+                Ok(Payload::AnnotatedRelationshipElement { first, second })
+            }
             Payload::Entity {
                 entity_type,
                 global_asset_id,
                 specific_asset_ids,
-            } => Payload::Entity {
-                entity_type: *entity_type,
-                global_asset_id: copy_option(global_asset_id)?,
-                specific_asset_ids: specific_asset_ids.copy()?,
-            },
+            } => {
+                let ids = both(copy_option(global_asset_id), specific_asset_ids.copy());
+                let (global_asset_id, specific_asset_ids) = ids?;
+                Ok(Payload::Entity {
+                    entity_type: *entity_type,
+                    global_asset_id,
+                    specific_asset_ids,
+                })
+            }
             Payload::BasicEventElement {
                 observed,
                 direction,
@@ -165,30 +181,42 @@ impl Duplicate for Payload {
                 last_update,
                 min_interval,
                 max_interval,
-            } => Payload::BasicEventElement {
-                observed: copy_option(observed)?,
-                direction: *direction,
-                state: *state,
-                message_topic: copy_option(message_topic)?,
-                message_broker: copy_option(message_broker)?,
-                last_update: copy_option(last_update)?,
-                min_interval: copy_option(min_interval)?,
-                max_interval: copy_option(max_interval)?,
-            },
-            Payload::Capability => Payload::Capability,
-            Payload::Operation => Payload::Operation,
-            Payload::SubmodelElementCollection => Payload::SubmodelElementCollection,
+            } => {
+                let messages = both(copy_option(message_topic), copy_option(message_broker));
+                let intervals = both(copy_option(min_interval), copy_option(max_interval));
+                let seen = both(copy_option(observed), copy_option(last_update));
+                let (seen, (messages, intervals)) = both(seen, both(messages, intervals))?;
+                let (observed, last_update) = seen;
+                let (message_topic, message_broker) = messages;
+                let (min_interval, max_interval) = intervals;
+                Ok(Payload::BasicEventElement {
+                    observed,
+                    direction: *direction,
+                    state: *state,
+                    message_topic,
+                    message_broker,
+                    last_update,
+                    min_interval,
+                    max_interval,
+                })
+            }
+            Payload::Capability => Ok(Payload::Capability),
+            Payload::Operation => Ok(Payload::Operation),
+            Payload::SubmodelElementCollection => Ok(Payload::SubmodelElementCollection),
             Payload::SubmodelElementList {
                 order_relevant,
                 semantic_id_list_element,
                 type_value_list_element,
                 value_type_list_element,
-            } => Payload::SubmodelElementList {
-                order_relevant: *order_relevant,
-                semantic_id_list_element: copy_option(semantic_id_list_element)?,
-                type_value_list_element: *type_value_list_element,
-                value_type_list_element: *value_type_list_element,
-            },
-        })
+            } => {
+                let semantic_id_list_element = copy_option(semantic_id_list_element)?;
+                Ok(Payload::SubmodelElementList {
+                    order_relevant: *order_relevant,
+                    semantic_id_list_element,
+                    type_value_list_element: *type_value_list_element,
+                    value_type_list_element: *value_type_list_element,
+                })
+            }
+        }
     }
 }

@@ -1,6 +1,9 @@
 //! The enumerations of the Asset Administration Shell (IDTA-01001-3-0, IDTA-01002-3-0) and the names of their values.
 //!
 //! The types that are made of them stand in `aas_model`; which texts an enumeration may have is said nowhere else.
+//!
+//! Proved: each enumeration's names, both ways: a text is the name of one value at most. By the contract of
+//! `Named::from_name`, `name`, `values`.
 
 #![tactic(auto)]
 

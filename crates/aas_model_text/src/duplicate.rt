@@ -1,4 +1,4 @@
-ghost use Rattle.std.specs.Prelude.{◌≡◌, IfOk};
+ghost use Rattle.std.specs.Prelude.{◌≡◌, ◌⊎◌, Err, IfErr, IfOk, IsOk, Ok};
 
 use crate::no_memory::NoMemory;
 
@@ -17,4 +17,16 @@ pub fn copy_option<T: Duplicate>(value: &Option<T>) -> Result<Option<T>, NoMemor
         Some(value) => Ok(Some(value.copy()?)),
         None => Ok(None),
     }
+}
+
+/// Both values, or the first of their faults. What a struct is made of is paired by it, so that no value stands alone where
+/// another one is refused.
+pub fn both<A: Drop, B: Drop, E: Drop>(
+    first: Result<A, E>,
+    second: Result<B, E>,
+) -> Result<(A, B), E>
+    ensures ok { IfOk result (λ values. (first ≡ Ok values.0) × (second ≡ Ok values.1)) }
+    ensures err { IfErr result (λ fault. (first ≡ Err fault) ⊎ (IsOk first × (second ≡ Err fault))) }
+{
+    Ok((first?, second?))
 }

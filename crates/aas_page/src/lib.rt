@@ -2,6 +2,17 @@
 //! cursors that do.
 //!
 //! What a document shows on a page is said above (`aas_answer`).
+//!
+//! Proved, by the contract of `page`, `walks_list_each_once`; `id_from_segment`, `id_to_segment`,
+//! `segments_stand_for_one`:
+//!
+//! - Over any store: a page has the identifiers of the first documents above one that pass a filter, in their
+//!   order, and says whether a further one follows.
+//! - A walk over pages lists each document that stays and passes, and none twice, whatever becomes of the others
+//!   meanwhile.
+//! - An identifier is read from a segment of a path exactly where the segment stands for one, and that is one
+//!   alone.
+//! - The segment without padding is written.
 
 #![tactic(auto)]
 

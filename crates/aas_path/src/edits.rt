@@ -68,7 +68,10 @@ fn add_child(parent: &mut Element, child: Element) -> Result<(), InsertFault>
                 Err(NoMemory) => Err(InsertFault::NoMemory),
             }
         },
-        None => Err(InsertFault::NotAContainer),
+        None => {
+            drop(child);
+            Err(InsertFault::NotAContainer)
+        }
     }
 }
 
@@ -100,7 +103,10 @@ pub fn insert(submodel: &mut Submodel, path: &Path, element: Element) -> Result<
     }
     match at_mut(submodel, path) {
         Ok(parent) => add_child(parent, element),
-        Err(missing) => Err(InsertFault::Missing(missing)),
+        Err(missing) => {
+            drop(element);
+            Err(InsertFault::Missing(missing))
+        }
     }
 }
 
@@ -122,6 +128,7 @@ fn replace_here(slot: &mut Element, element: Element) -> Result<Element, Replace
     ensures same { OnErr result (slot.new ≡ slot.old) }
 {
     if !fits_role(&element, slot.role) {
+        drop(element);
         return Err(ReplaceFault::NotAContainer);
     }
     let mut element = element;
@@ -147,6 +154,9 @@ pub fn replace(
 {
     match at_mut(submodel, path) {
         Ok(slot) => replace_here(slot, element),
-        Err(missing) => Err(ReplaceFault::Missing(missing)),
+        Err(missing) => {
+            drop(element);
+            Err(ReplaceFault::Missing(missing))
+        }
     }
 }

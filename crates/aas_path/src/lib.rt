@@ -4,6 +4,11 @@
 //! but `insert`, `parse_path` and the two that print take memory.
 //!
 //! What a path means, and what an edit makes of a tree, is defined in `aas_path_trees`.
+//!
+//! Proved: paths are read and written, in UTF-8; an element is found, or how far the path leads; a lent element
+//! is put back in its place and nothing else changes, at any depth; edits and patches. By the contract of
+//! `parse_path`, `print_path`, `at`, `at_mut`, `insert`, `replace`, `remove`, `patch_fits`, `apply`,
+//! `patch_fits_all`, `apply_all`.
 
 #![tactic(auto)]
 

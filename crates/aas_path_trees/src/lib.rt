@@ -2,6 +2,9 @@
 //! tree makes of it, and laws of these. It has nothing to run: a law stands on a function that does nothing.
 //!
 //! Paths as text, and the calls that follow a path and change a tree, stand in `aas_path`.
+//!
+//! Proved: where paths lead; each element of a tree whose siblings differ has one path. By the law functions in
+//! `src/`.
 
 #![tactic(auto)]
 

@@ -6,6 +6,15 @@
 //! again, and a row is asked for where it is needed.
 //!
 //! What the members of one element are stands in `aas_members_text`.
+//!
+//! Proved, by the contract of `pour_element`, `pour_elements`, `pour_submodel`, `pour_tree`,
+//! `pour_submodel_tree`, `pour_environment_tree`; `rows_give_the_texts`, `rows_give_the_submodel`:
+//!
+//! - From rows in preorder the text of an element is put, with those of all below it or with its own alone,
+//!   without memory, and a front of it where the end fails.
+//! - The rows of trees give the texts of the trees.
+//! - Of a submodel's head and the rows of its elements it is the canonical text of what is shown of the submodel.
+//! - From trees in memory the canonical text of an element, of a submodel and of an environment is put.
 
 #![tactic(auto)]
 

@@ -3,6 +3,11 @@
 //!
 //! Of which types the fields behind a tag are is the table in `specs/FieldTypes.antt`. Commands and how they are written belong
 //! to `aas_command`; the journal that keeps payloads, and what a command comes to, belong to other crates.
+//!
+//! Proved: a payload is read as the command whose payload it is, or it is that of none, and this is the exact
+//! place where it goes wrong; a payload is that of one command alone, so what `encode` wrote is read as the
+//! command that was written. By the contract of `decode`; `payloads_read_back`, `records_are_of_one_command`,
+//! `records_are_right`, `payloads_go_wrong_once`.
 
 #![tactic(auto)]
 

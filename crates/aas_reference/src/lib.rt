@@ -5,6 +5,11 @@
 //! whole. The laws of the mapping of references are the contract of `references_are_mapped`, which does nothing.
 //!
 //! To what a reference leads is said above (`aas_resolve`).
+//!
+//! Proved: a reference is read exactly where the value spells it, else its first fault; its canonical text is
+//! written; sameness by type and keys, and equality; the least broken number of AASd-121 to 128; the laws of the
+//! mapping. By the contract of `read_reference`, `write_reference`, `same`, `equal`, `first_fault`,
+//! `references_are_mapped`.
 
 #![tactic(auto)]
 

@@ -2,6 +2,11 @@
 //! its rows. A law stands on a function that does nothing; of what runs there is the view of a row alone.
 //!
 //! Rows in memory are kept by `aas_sheet_rows`, and their texts are put by `aas_pour`.
+//!
+//! Proved: the rows of trees stand for these trees, and rows in preorder are the rows of what they stand for; an
+//! edit at a path changes one part of the rows alone, and a patch the payloads at its ranks; a step leads to the
+//! row of the child to which it leads; the row of an element, and a copy of a row, which is its element without
+//! children. By the law functions in `src/`; `RowView::of_element`, `copy`.
 
 #![tactic(auto)]
 

@@ -1,5 +1,5 @@
 -- What serving the repository that was opened on a disk comes to.
-use Rattle.std.proofs.Common.{◌≡◌, ◌≤◌, ℕ, List, [], ◌∷◌, Some, sym, subst, ◌∙◌, arith, lit<}
+use Rattle.std.proofs.Common.{◌≡◌, ◌≤◌, ◌+◌, ℕ, List, [], ◌∷◌, Some, sym, subst, ◌∙◌, arith, lit<}
 use Rattle.std.specs.Prelude.{Contains, IfSome}
 use Rattle.aas_journal.specs.Bank.{IsBankImage}
 use Rattle.aas_journal.specs.Kept.{has_room_behind}
@@ -12,7 +12,7 @@ use Rattle.aas_outside_disk.specs.Files.{Files}
 use Rattle.aas_repo_replay.specs.Laws.{AcceptedReplay, OneReplay}
 use Rattle.aas_rule.specs.Rule.{Repository}
 use Rattle.aas_rule.specs.State.{State, IsSettledState, repository_of}
-use Rattle.aas_session.specs.Connections.{ServesAll}
+use Rattle.aas_session.specs.Visits.{ServesAll}
 use Rattle.aas_session.specs.Served.{Served}
 use Rattle.aas_session.specs.declared.connection.Ended.{Ended}
 use Rattle.aas_session.specs.declared.connection.Ended.TheVariants as ended
@@ -54,8 +54,8 @@ module _ (one_list : HaveOneList) (one_replay : OneReplay) (accepted_replay : Ac
 
   abbrev Sessions : Repository Documents → Connections → List ℕ → ℕ → WireEnded → WireState → WireState → Type 0
   Sessions r c sent count end old new =
-      ServesAll (Turns has_room_behind) IsBankImage r c.coming (sent_on_all c sent) count opened.moment now
-      new.connections new.sent (Rose old.faults new.faults) end
+      ServesAll (Turns has_room_behind) IsBankImage r c (sent_on_all c sent) count opened.moment now
+      new.connections new.sent old.faults new.faults end
 
   abbrev ServesWire : ℕ → WireEnded → WireState → WireState → Type 0
   ServesWire count end old new = (c : Connections) (sent : List ℕ) (records : List (List ℕ)) → old.connections ≡ Some c
@@ -93,8 +93,7 @@ module _ (one_list : HaveOneList) (one_replay : OneReplay) (accepted_replay : Ac
       served = all_since accepted_replay has_room_behind IsBankImage (StandsFor start r) (image_stands start r)
           d last.moment last.left_at kept (state_on last d).kept (kept_opens last d kept told)
           start.moment opened.moment r read reads.later (stood_before start last opened r read images passed)
-          c.coming (sent_on_all c sent) count new.connections new.sent
-          (Rose old.faults new.faults) end
+          c (sent_on_all c sent) count new.connections new.sent old.faults new.faults end
           (subst (λ (x : Repository Documents). Sessions x c sent count end old new) as_told
           (serves c sent held.0 known known_sent held.2));
       valid = valid;
@@ -114,20 +113,21 @@ module _ (one_list : HaveOneList) (one_replay : OneReplay) (accepted_replay : Ac
 
   -- the wire served is as it was before it listened
   pub wire_served : (count status : ℕ) (end : WireEnded) (old mid new : WireState) → mid.connections ≡ old.connections
-      → mid.sent ≡ old.sent → mid.faults ≡ old.faults → old.wire_faults ≤ mid.wire_faults → status ≡ serve_status end
-      → ServesWire count end mid new → (end ≡ wire.WireFault → Rose mid.wire_faults new.wire_faults) → (end ≡ wire.KeeperFault → Rose start.faults last.faults)
+      → mid.sent ≡ old.sent → mid.clients ≡ old.clients → mid.faults ≡ old.faults → old.wire_faults ≤ mid.wire_faults → status ≡ serve_status end
+      → ServesWire count end mid new → new.clients ≤ mid.clients + count → (end ≡ wire.WireFault → Rose mid.wire_faults new.wire_faults) → (end ≡ wire.KeeperFault → Rose start.faults last.faults)
       → IsWireServed count status old new start last
-  wire_served count status end old mid new connections sent faults later is serves wire_fault keeper_fault = record {
+  wire_served count status end old mid new connections sent clients faults later is serves few wire_fault keeper_fault = record {
     ended = end;
     status_is = is;
     has_begun = has_begun start opened is_opened;
     served = λ c bytes r known known_sent opens.
         let s = served r opens count end mid new serves c bytes (connections ∙ known) (sent ∙ known_sent) in record {
           documents = s.documents;
-          served = subst (λ (n : ℕ). ServesAll (Turns has_room_behind) (StandsFor start r) r c.coming (sent_on_all c bytes) count
-              start.moment (state_on last s.documents) new.connections new.sent (Rose n new.faults) end) faults s.served;
+          served = subst (λ (n : ℕ). ServesAll (Turns has_room_behind) (StandsFor start r) r c (sent_on_all c bytes) count
+              start.moment (state_on last s.documents) new.connections new.sent n new.faults end) faults s.served;
           valid = s.valid;
         };
+    few = omega (arith, few, clients);
     wire_fault = λ failed. omega (arith, later, wire_fault failed);
     keeper_fault = keeper_fault;
   }

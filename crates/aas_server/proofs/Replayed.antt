@@ -1,12 +1,12 @@
--- The records behind requests, sessions and connections replay to the documents then.
+-- The records behind requests, sessions and visits replay to the documents then.
 use Rattle.std.proofs.Common.{◌≡◌, inl, inr, ℕ, ◌-◌, Bool, true, false, List, [], ◌∷◌, ◌++◌}
 use Rattle.std.proofs.Common.{refl, sym, ap, ◌∙◌, subst, append_assoc}
-use Rattle.std.specs.Prelude.{if◌then◌else◌, ⊤}
+use Rattle.std.specs.Prelude.{if◌then◌else◌}
 use Rattle.std.proofs.lemmas.List.{append-nil}
 use Rattle.aas_http.specs.FirstRequest.{Message, FirstRequest, Nothing, Bad, TooLarge, NotImplemented, Whole}
 use Rattle.aas_http.specs.declared.replies.Reply.{Reply}
 use Rattle.aas_rule.specs.Rule.{Repository, Room, Outcome, after}
-use Rattle.aas_session.specs.Connections.{Connection, IsSessions, all_commands}
+use Rattle.aas_session.specs.Visits.{Visited, IsSessions, all_commands}
 use Rattle.aas_session.specs.Session.{End, Closed, NoMemory, Place, going, over, start, repository, commands}
 use Rattle.aas_session.specs.Session.{Turn, refusal, closes, TurnAt, Takes, TakesAll}
 use Rattle.aas_session.specs.Refusals.{bad_request, too_large, not_implemented, out_of_memory}
@@ -55,7 +55,7 @@ pub all_replay : (r : Repository Documents) (kept : List (List ℕ)) (next : Rep
     → Replay (r.records ++ kept)
 all_replay r kept next is = (next.documents, subst (λ (l : List (List ℕ)). Replays l next.documents) is.records is.read)
 
--- ---- requests, turns and connections
+-- ---- requests, turns and visits
 
 module _ (accepted_replay : AcceptedReplay) (room : Room) where
   unchanged_read : (r : Repository Documents) (reply : Reply) (outcome : Outcome Documents Reply) → outcome ≡ unchanged r reply
@@ -114,15 +114,15 @@ module _ (accepted_replay : AcceptedReplay) (room : Room) where
       then_more (repository place) (repository next) (repository last) turn.kept (commands turns) goes
       (turns_go next turns last rest goes.read)
 
-  pub sessions_go : (link_failed : Type 0) (old : Repository Documents) (served : List (Connection Documents)) (last : Repository Documents)
-      → IsSessions (Turns room) link_failed old served last → AreRead old → IsBehind old (all_commands served) last
-  sessions_go link_failed old [] last same read = subst (λ (r : Repository Documents). IsBehind old [] r) (sym same) (none_more old read)
-  sessions_go link_failed old (c ∷ cs) last (first, rest) read =
-      let goes = turns_go (start old c.input) c.turns c.last first.0 read in
-      then_more old (repository c.last) last (commands c.turns) (all_commands cs) goes
-      (sessions_go link_failed (repository c.last) cs last rest goes.read)
+  pub sessions_go : (old : Repository Documents) (faults : ℕ) (served : List (Visited Documents)) (last : Repository Documents) (faults_last : ℕ)
+      → IsSessions (Turns room) old faults served last faults_last → AreRead old → IsBehind old (all_commands served) last
+  sessions_go old faults [] last faults_last same read = subst (λ (r : Repository Documents). IsBehind old [] r) (sym same.0) (none_more old read)
+  sessions_go old faults (v ∷ vs) last faults_last (count, first, rest) read =
+      let goes = turns_go (start old v.visit.input) v.turns v.last first.0 read in
+      then_more old (repository v.last) last (commands v.turns) (all_commands vs) goes
+      (sessions_go (repository v.last) v.faults_behind vs last faults_last rest goes.read)
 
 pub sessions_replay : AcceptedReplay → SessionsReplay
-sessions_replay accepted_replay room old mid served bytes turns last sessions taken read =
-    let goes = sessions_go accepted_replay room ⊤ old served mid sessions read in
+sessions_replay accepted_replay room old mid faults faults_mid served bytes turns last sessions taken read =
+    let goes = sessions_go accepted_replay room old faults served mid faults_mid sessions read in
     (turns_go accepted_replay room (start mid bytes) turns last taken goes.read).read

@@ -1,11 +1,12 @@
 -- What was done from a moment on, told of an earlier one on and of what is left where the payloads replay.
-use Rattle.std.proofs.Common.{◌⊎◌, ⊎_elim, inl, inr, ◌≤◌, ℕ, List, [], ◌∷◌, ◌++◌, Option, sym, subst, append_assoc, arith}
+use Rattle.std.proofs.Common.{◌⊎◌, ⊎_elim, inl, inr, ◌≤◌, ◌+◌, ℕ, List, [], ◌∷◌, ◌++◌, Option, sym, subst, append_assoc, arith}
 use Rattle.std.proofs.lemmas.Bool.{cases_lt}
+use Rattle.aas_outside.specs.Faults.{Rose}
 use Rattle.aas_outside.specs.Moments.{During, InTurn}
-use Rattle.aas_outside.specs.Surroundings.{Connections}
+use Rattle.aas_outside.specs.Surroundings.{Connections, Visit}
 use Rattle.aas_rule.specs.Rule.{Repository, Room, after}
 use Rattle.aas_rule.specs.State.{State, Holds, IsFaulted}
-use Rattle.aas_session.specs.Connections.{EndsServing, ServesAll, Serving, all_commands}
+use Rattle.aas_session.specs.Visits.{EndsServing, ServesAll, Serving, all_commands}
 use Rattle.aas_session.specs.Served.{IsBroken, IsFinished, Served}
 use Rattle.aas_session.specs.Session.{End, Closed, NoMemory, Place, Turn, TakesAll, commands, going, repository, start}
 use Rattle.aas_session.specs.declared.connection.Ended.{Ended}
@@ -188,30 +189,32 @@ module _ (accepted_replay : AcceptedReplay) (room : Room)
   served_since input sent_old sent_new link_failed ended.KeeperFault s =
       broken_since [] r input sent_old sent_new link_failed (none_more r read) s
 
-  -- ---- connections one after another
+  -- ---- visits one after another
 
-  all_behind : (coming : List (List ℕ)) (link_failed : Type 0) (s : Serving (Turns room) link_failed r coming)
-      → IsBehind r (all_commands s.served) s.last
-  all_behind coming link_failed s = sessions_go accepted_replay room link_failed r s.served s.last s.sessions read
+  module _ (faults : ℕ) (coming : List Visit) (clients : ℕ) (s : Serving (Turns room) r faults coming clients) where
+    all_behind : IsBehind r (all_commands s.served) s.last
+    all_behind = sessions_go accepted_replay room r faults s.served s.last s.faults_last s.sessions read
 
-  ends_since : (coming sent_before : List (List ℕ)) (count : ℕ) (connections : Option Connections) (sent : Option (List ℕ))
-      (link_failed : Type 0) (s : Serving (Turns room) link_failed r coming) (end : WireEnded)
-      → EndsServing (Turns room) stands r coming sent_before count mid now connections sent link_failed s end
-      → EndsServing (Turns room) stands_then r coming sent_before count from then connections sent link_failed s end
-  ends_since coming sent_before count connections sent link_failed s wire.Done (all, holds, tells) =
-      (all, holds_since (all_commands s.served) s.last (all_behind coming link_failed s) holds, tells)
-  ends_since coming sent_before count connections sent link_failed s wire.WireFault (holds, tells) =
-      (holds_since (all_commands s.served) s.last (all_behind coming link_failed s) holds, tells)
-  ends_since coming sent_before count connections sent link_failed s wire.KeeperFault (input, rest, came, broken, is_begun) = (
-    input,
-    rest,
-    came,
-    broken_since (all_commands s.served) s.last input _ sent link_failed (all_behind coming link_failed s) broken,
-    is_begun,
-  )
+    ends_since : (sent_before : List (List ℕ)) (connections : Option Connections) (sent : Option (List ℕ)) (faults_now : ℕ) (end : WireEnded)
+        → EndsServing (Turns room) stands r faults coming clients sent_before mid now connections sent faults_now s end
+        → EndsServing (Turns room) stands_then r faults coming clients sent_before from then connections sent faults_now s end
+    ends_since sent_before connections sent faults_now wire.Done (all, holds, tells, count) =
+        (all, holds_since (all_commands s.served) s.last all_behind holds, tells, count)
+    ends_since sent_before connections sent faults_now wire.WireFault (holds, tells, count) =
+        (holds_since (all_commands s.served) s.last all_behind holds, tells, count)
+    ends_since sent_before connections sent faults_now wire.KeeperFault (v, behind, begun, came, broken, is_begun) = (
+      v,
+      behind,
+      begun,
+      came,
+      broken_since (all_commands s.served) s.last v.input _ sent (Rose s.faults_last faults_now) all_behind broken,
+      is_begun,
+    )
 
-  pub all_since : (coming sent_before : List (List ℕ)) (count : ℕ) (connections : Option Connections) (sent : Option (List ℕ))
-      (link_failed : Type 0) (end : WireEnded) → ServesAll (Turns room) stands r coming sent_before count mid now connections sent link_failed end
-      → ServesAll (Turns room) stands_then r coming sent_before count from then connections sent link_failed end
-  all_since coming sent_before count connections sent link_failed end s =
-      record { serving = s.serving; ends = ends_since coming sent_before count connections sent link_failed s.serving end s.ends }
+  pub all_since : (c : Connections) (sent_before : List (List ℕ)) (count : ℕ) (connections : Option Connections) (sent : Option (List ℕ))
+      (faults faults_now : ℕ) (end : WireEnded) → ServesAll (Turns room) stands r c sent_before count mid now connections sent faults faults_now end
+      → ServesAll (Turns room) stands_then r c sent_before count from then connections sent faults faults_now end
+  all_since c sent_before count connections sent faults faults_now end s = record {
+    serving = s.serving;
+    ends = ends_since faults c.coming (c.clients + count) s.serving sent_before connections sent faults_now end s.ends;
+  }

@@ -22,8 +22,8 @@ use Rattle.aas_server.specs.ValueAnswer.{IsValueAnswer}
 abbrev pub IsCount : ℕ → ℕ → Type 0
 IsCount most count = (1 ≤ count) × (count ≤ most)
 
-abbrev pub most_connections : ℕ
-most_connections = 1000000
+abbrev pub most_clients : ℕ
+most_clients = 1000000
 
 -- of the demo
 abbrev pub most_properties : ℕ
@@ -41,7 +41,7 @@ AreWordsOf Checkpoint words = words ≡ codes "checkpoint" ∷ []
 AreWordsOf (Conform template instance) words = words ≡ codes "conform" ∷ template.now ∷ instance.now ∷ []
 AreWordsOf (Demo count) words = IsCount most_properties count × (words ≡ codes "demo" ∷ decimal count ∷ [])
 AreWordsOf (Serve count) words =
-    IsCount most_connections count × ((address : List ℕ) × (words ≡ codes "serve" ∷ address ∷ decimal count ∷ []))
+    IsCount most_clients count × ((address : List ℕ) × (words ≡ codes "serve" ∷ address ∷ decimal count ∷ []))
 
 -- What a run of each command, or of no command, does: its status, and the console, the wire and the disk before and after it,
 -- of which the disk is seen so.

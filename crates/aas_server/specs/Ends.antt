@@ -11,14 +11,16 @@ pub record ConsoleState : Type 0 where
   pub sent : Option (List ℕ)
   pub faults : ℕ
 
--- the same of a wire's present connection, and what surrounds it
+-- the same of a wire's present visit, and what surrounds it
 pub record WireState : Type 0 where
   pub connections : Option Connections
   pub left : Option (List ℕ)
   pub sent : Option (List ℕ)
+  -- how many clients were begun
+  pub clients : ℕ
   -- how many takes and gives failed
   pub faults : ℕ
-  -- how many calls failed that begin a connection
+  -- how many calls failed that begin a visit
   pub wire_faults : ℕ
 
 abbrev pub console_of : {C : Type 0} → (left sent : C → Option (List ℕ)) → (C → ℕ) → C → ConsoleState
@@ -29,6 +31,7 @@ wire_of left sent faults surroundings wire = record {
   connections = (surroundings wire).connections;
   left = left wire;
   sent = sent wire;
+  clients = (surroundings wire).clients;
   faults = faults wire;
   wire_faults = (surroundings wire).faults;
 }

@@ -1,11 +1,11 @@
--- What `serve` does: it serves the connections of a wire one after another, each from the repository that the one before
--- left, the first from that on the disk. This profile's own rule.
-use Rattle.std.specs.Prelude.{◌≡◌, ◌⊎◌, ℕ, List, Some}
+-- What `serve` does: it serves the visits of a wire one after another, each from the repository that the one before left,
+-- the first from that on the disk. This profile's own rule.
+use Rattle.std.specs.Prelude.{◌≡◌, ◌≤◌, ◌+◌, ◌⊎◌, ℕ, List, Some}
 use Rattle.aas_journal.specs.Kept.{has_room_behind}
 use Rattle.aas_outside.specs.Faults.{Rose}
 use Rattle.aas_outside.specs.Surroundings.{Connections, sent_on_all}
 use Rattle.aas_rule.specs.Rule.{Repository}
-use Rattle.aas_session.specs.Connections.{ServesAll}
+use Rattle.aas_session.specs.Visits.{ServesAll}
 use Rattle.aas_session.specs.declared.wire.WireEnded.{WireEnded}
 use Rattle.aas_session.specs.declared.wire.WireEnded.TheVariants.{Done, WireFault, KeeperFault}
 use Rattle.aas_step.specs.Valid.{AreValid}
@@ -27,31 +27,33 @@ pub record IsUnserved (status : ℕ) (old new : WireState) (disk_old disk_new : 
   pub has_begun : HasBegun disk_old
   pub fault : Rose old.wire_faults new.wire_faults
   pub connections : new.connections ≡ old.connections
+  pub clients : new.clients ≡ old.clients
   pub left : new.left ≡ old.left
   pub sent : new.sent ≡ old.sent
   pub unwritten : IsUnwritten disk_old disk_new
 
--- From this repository on, of so many of the connections that were to come this was done, and the documents that they left
--- are valid. From the start of the run on it is said for which payloads what a stop leaves stands, and as which documents it
--- opens.
+-- From this repository on this was done of the visits that were to come to so many clients, and the documents that they
+-- left are valid. From the start of the run on it is said for which payloads what a stop leaves stands, and as which
+-- documents it opens.
 pub record IsServed (count : ℕ) (ended : WireEnded) (c : Connections) (sent : List ℕ) (r : Repository Documents)
     (old new : WireState) (disk_old disk_new : DiskState) : Type 0 where
   pub documents : Documents
-  pub served : ServesAll (Turns has_room_behind) (StandsFor disk_old r) r c.coming (sent_on_all c sent) count
-      disk_old.moment (state_on disk_new documents) new.connections new.sent (Rose old.faults new.faults) ended
+  pub served : ServesAll (Turns has_room_behind) (StandsFor disk_old r) r c (sent_on_all c sent) count
+      disk_old.moment (state_on disk_new documents) new.connections new.sent old.faults new.faults ended
   pub valid : AreValid documents
 
--- connections were served
+-- Visits were served, and no more clients were begun, whatever the wire tells.
 pub record IsWireServed (count status : ℕ) (old new : WireState) (disk_old disk_new : DiskState) : Type 0 where
   pub ended : WireEnded
   pub status_is : status ≡ serve_status ended
   pub has_begun : HasBegun disk_old
   pub served : (c : Connections) (sent : List ℕ) (r : Repository Documents) → old.connections ≡ Some c → old.sent ≡ Some sent
       → OpensAs disk_old r → IsServed count ended c sent r old new disk_old disk_new
+  pub few : new.clients ≤ old.clients + count
   pub wire_fault : ended ≡ WireFault → Rose old.wire_faults new.wire_faults
   pub keeper_fault : ended ≡ KeeperFault → Rose disk_old.faults disk_new.faults
 
--- no repository was begun, or the wire can't listen, or its connections were served
+-- no repository was begun, or the wire can't listen, or its clients were served
 abbrev pub Serves : ℕ → ℕ → ConsoleState → ConsoleState → WireState → WireState → DiskState → DiskState → Type 0
 Serves count status old new wire_old wire_new disk_old disk_new =
     (EndsEarly status old new disk_old disk_new × (wire_new ≡ wire_old))

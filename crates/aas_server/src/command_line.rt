@@ -5,8 +5,8 @@ ghost use Rattle.aas_server.specs.CommandLine.{IsAsked, IsCount, begins_with_das
 use aas_model::{Many, Text};
 use itoa::Buffer;
 
-/// The most connections that are served.
-const MOST_CONNECTIONS: u32 = 1_000_000;
+/// The most clients that are served.
+const MOST_CLIENTS: u32 = 1_000_000;
 
 /// The most properties that the demo has.
 const MOST_PROPERTIES: u32 = 65_536;
@@ -20,7 +20,7 @@ pub enum CommandLine<'a> {
     Init,
     /// The repository on the disk, and the console as its one connection.
     Pipe,
-    /// The repository on the disk, and so many connections of a wire, 1 to 1,000,000. The address stands in the words.
+    /// The repository on the disk, and so many clients of a wire, 1 to 1,000,000. The address stands in the words.
     Serve {
         count: u32,
     },
@@ -92,7 +92,7 @@ fn with_two<'a>(word: &Text, first: &'a Text, second: &'a Text) -> Option<Comman
         return None;
     }
     match word.as_str() {
-        "serve" => match count_of(second, MOST_CONNECTIONS) {
+        "serve" => match count_of(second, MOST_CLIENTS) {
             Some(count) => Some(CommandLine::Serve { count }),
             None => None,
         },

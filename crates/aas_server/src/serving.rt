@@ -19,7 +19,7 @@ use aas_journal::{NotOpened, OpenFault, have_one_list};
 use aas_outside::{Failed, Link, Wire};
 use aas_outside_disk::Disk;
 use aas_repo_replay::{accepted_commands_replay, payloads_replay_to_one_state};
-use aas_session::{serve as serve_connections, serve_connection};
+use aas_session::{serve as serve_visits, serve_connection};
 use aas_store::Store;
 use std::alloc::Global;
 
@@ -56,7 +56,7 @@ pub fn pipe<S: Store + Drop, C: Link, D: Disk>(
     }
 }
 
-/// Serves so many connections of the wire, from the repository on the disk.
+/// Serves the visits to so many clients of the wire, from the repository on the disk.
 pub fn serve<S: Store + Drop, C: Link, W: Wire, D: Disk>(
     alloc: Global,
     store: S,
@@ -81,7 +81,7 @@ pub fn serve<S: Store + Drop, C: Link, W: Wire, D: Disk>(
     match Server::open(alloc, store, disk) {
         Ok(mut server) => match wire.listen(address) {
             Ok(()) => {
-                let ended = serve_connections(&mut server.service, wire, &mut server.intake, count);
+                let ended = serve_visits(&mut server.service, wire, &mut server.intake, count);
                 Ran {
                     status: Status::from(ended).exit_code(),
                     disk: server.into_disk(),

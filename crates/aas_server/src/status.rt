@@ -10,7 +10,7 @@ pub enum Status {
     Done = 0,
     /// The words are no command.
     NotACommand = 2,
-    /// The console failed, or the wire couldn't listen or begin a connection.
+    /// The console failed, or the wire couldn't listen or begin a visit.
     LinkFault = 3,
     /// The disk failed.
     DiskFault = 4,

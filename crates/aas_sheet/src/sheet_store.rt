@@ -214,8 +214,13 @@ impl Store for SheetStore {
     }
 
     fn put_shell(&mut self, shell: Shell) -> Result<(), NoMemory> {
-        let id = shell.head.id.copy()?;
-        self.shells.put(id, shell)
+        match shell.head.id.copy() {
+            Ok(id) => self.shells.put(id, shell),
+            Err(NoMemory) => {
+                drop(shell);
+                Err(NoMemory)
+            }
+        }
     }
 
     fn put_submodel(&mut self, submodel: Submodel) -> Result<(), NoMemory> {
@@ -225,8 +230,13 @@ impl Store for SheetStore {
     }
 
     fn put_concept(&mut self, concept: Concept) -> Result<(), NoMemory> {
-        let id = concept.head.id.copy()?;
-        self.concepts.put(id, concept)
+        match concept.head.id.copy() {
+            Ok(id) => self.concepts.put(id, concept),
+            Err(NoMemory) => {
+                drop(concept);
+                Err(NoMemory)
+            }
+        }
     }
 
     fn put_all(&mut self, environment: Environment) -> Result<(), NoMemory> {
@@ -251,14 +261,20 @@ impl Store for SheetStore {
     fn insert_element(&mut self, id: &str, path: &Path, element: Element) -> Result<(), NoMemory> {
         match self.submodels.get_mut(id) {
             Some(sheet) => sheet.insert(path, element),
-            None => Ok(()),
+            None => {
+                drop(element);
+                Ok(())
+            }
         }
     }
 
     fn replace_element(&mut self, id: &str, path: &Path, element: Element) -> Result<(), NoMemory> {
         match self.submodels.get_mut(id) {
             Some(sheet) => sheet.replace(path, element),
-            None => Ok(()),
+            None => {
+                drop(element);
+                Ok(())
+            }
         }
     }
 

@@ -48,7 +48,10 @@ impl Kept {
     {
         match Box::new(alloc, row) {
             Ok(row) => Ok(Kept { row }),
-            Err(_) => Err(NoMemory),
+            Err(refused) => {
+                drop(refused);
+                Err(NoMemory)
+            }
         }
     }
 

@@ -377,6 +377,7 @@ impl Sheet {
     {
         let mut above = Passed::new();
         let Some(rank) = self.trace(path, &mut above) else {
+            drop(element);
             return Ok(());
         };
         let rows = self.rows.as_slice();

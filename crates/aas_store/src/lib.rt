@@ -3,6 +3,22 @@
 //! [`Store`] says what a store is, by the three maps that it holds; [`TreeStore`] is one that keeps trees.
 //!
 //! No constraint is checked here, and nothing is kept for a later run.
+//!
+//! Proved, by the trait `Store`, over `TreeStore`:
+//!
+//! - The content of a store is three finite maps of trees.
+//! - Each read is the map's tree, or what it tells of it: its attributes without its children, how many these
+//!   are.
+//! - `id_after` is the least identifier above.
+//! - A put creates or replaces under the document's own identifier, one of a whole environment does so with each
+//!   of its documents, a delete removes, and nothing else changes.
+//! - An element is found, or how far the path leads.
+//! - A child's place in preorder and its kind, the place of what a path leads to, the row of a rank, and of a
+//!   path with its rank, all rows of a stored submodel, how many these are and which of them are children, and
+//!   what the children of an element say before an edit, are those in the tree.
+//! - An insert, replacement, deletion or patch of elements makes of its submodel what `aas_path_trees` says, and
+//!   nothing else changes.
+//! - A refused call changes nothing.
 
 #![tactic(auto)]
 

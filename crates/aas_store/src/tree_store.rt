@@ -181,18 +181,33 @@ impl Store for TreeStore {
     }
 
     fn put_shell(&mut self, shell: Shell) -> Result<(), NoMemory> {
-        let id = shell.head.id.copy()?;
-        self.shells.put(id, shell)
+        match shell.head.id.copy() {
+            Ok(id) => self.shells.put(id, shell),
+            Err(NoMemory) => {
+                drop(shell);
+                Err(NoMemory)
+            }
+        }
     }
 
     fn put_submodel(&mut self, submodel: Submodel) -> Result<(), NoMemory> {
-        let id = submodel.head.id.copy()?;
-        self.submodels.put(id, submodel)
+        match submodel.head.id.copy() {
+            Ok(id) => self.submodels.put(id, submodel),
+            Err(NoMemory) => {
+                drop(submodel);
+                Err(NoMemory)
+            }
+        }
     }
 
     fn put_concept(&mut self, concept: Concept) -> Result<(), NoMemory> {
-        let id = concept.head.id.copy()?;
-        self.concepts.put(id, concept)
+        match concept.head.id.copy() {
+            Ok(id) => self.concepts.put(id, concept),
+            Err(NoMemory) => {
+                drop(concept);
+                Err(NoMemory)
+            }
+        }
     }
 
     fn put_all(&mut self, environment: Environment) -> Result<(), NoMemory> {
@@ -216,13 +231,17 @@ impl Store for TreeStore {
     fn insert_element(&mut self, id: &str, path: &Path, element: Element) -> Result<(), NoMemory> {
         match self.submodels.get_mut(id) {
             Some(submodel) => insert_at(submodel, path, element),
-            None => Ok(()),
+            None => {
+                drop(element);
+                Ok(())
+            }
         }
     }
 
     fn replace_element(&mut self, id: &str, path: &Path, element: Element) -> Result<(), NoMemory> {
-        if let Some(submodel) = self.submodels.get_mut(id) {
-            replace_at(submodel, path, element);
+        match self.submodels.get_mut(id) {
+            Some(submodel) => replace_at(submodel, path, element),
+            None => drop(element),
         }
         Ok(())
     }

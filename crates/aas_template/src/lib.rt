@@ -1,5 +1,9 @@
 //! Whether a submodel conforms to a template, a submodel of kind Template: which of its elements belong to which of the
 //! template's, and the first difference between them.
+//!
+//! Proved: the first difference of a submodel from a template, and none exactly where it conforms to it; a
+//! submodel without faults in which no list has two children conforms to itself. By the contract of `conforms`;
+//! `submodels_conform_to_themselves`.
 
 #![tactic(auto)]
 

@@ -1,6 +1,10 @@
 //! The value form of elements and submodels (IDTA-01002-3-0, serialization ValueOnly).
 //!
 //! The normal form is written by `aas_json_write`.
+//!
+//! Proved: the value form of every kind, by the attributes of the kind and the children, and of a submodel; which
+//! kinds have one, and which show their children in it. By the contract of `value_form`, `value_of_parts`,
+//! `value_of`, `value_of_submodel`, `has_value_form`, `shows_children`.
 
 #![tactic(auto)]
 

@@ -2,6 +2,15 @@
 //! it doesn't fit.
 //!
 //! Which values may be sent is said in `aas_value_update`.
+//!
+//! Proved, by the contract of `patch_for`, `patch_for_submodel`, `prepare`, `prepare_leaf`, `prepare_submodel`:
+//!
+//! - What a sent value makes of an element or a submodel as a patch: the ranks fit, and the patched tree is the
+//!   one update by the value.
+//! - Else there is no value form, or the path leads to the first element whose own part of the value has the
+//!   wrong shape.
+//! - And before an update is taken, that the updated element breaks no rule by itself, else the first one that it
+//!   breaks.
 
 #![tactic(auto)]
 

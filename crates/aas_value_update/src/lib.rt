@@ -3,6 +3,20 @@
 //! that does nothing.
 //!
 //! The value form itself stands in `aas_value`, and what makes an update of a sent value in `aas_value_patch`.
+//!
+//! Proved, by the law functions in `src/lib.rt`:
+//!
+//! - That the parts from which shape and laying follow make the value form.
+//! - The law of one form: elements that differ in values alone, have the same Operations and Capabilities and the
+//!   same value form are the same.
+//! - So an element, and a valid submodel, has at most one update by a value.
+//! - A valid submodel is whole after one.
+//! - An update by the own value form, or by an object without members, changes nothing.
+//! - A whole value form laid over another of the same parts is itself, and an update by it makes just the element
+//!   whose form it is, if that has the same Operations and Capabilities.
+//! - Two updates one after the other are one by the second value laid over the first, which may be sent where
+//!   both may, of an element and at one path of a valid submodel.
+//! - References and specific asset ids that may be sent are canonical JSON.
 
 #![tactic(auto)]
 

@@ -31,8 +31,8 @@ returns-in-Ok-listen-clause-does g c =
           c.args.count c.exit_code.result c.serve-ended.result
           (wire_of L.left L.sent L.faults L.surroundings c.args.wire.now) (wire_of L.left L.sent L.faults L.surroundings c.listen.new.self)
           (wire_of L.left L.sent L.faults L.surroundings c.serve-ended.new.wire)
-          c.in-Ok-listen.ensures.connections c.in-Ok-listen.ensures.sent c.in-Ok-listen.ensures.faults c.in-Ok-listen.ensures.cause.later
-          (c.exit_code.ensures ∙ c.from.ensures) c.serve-ended.ensures.served c.serve-ended.ensures.wire_fault
+          c.in-Ok-listen.ensures.connections c.in-Ok-listen.ensures.sent c.in-Ok-listen.ensures.clients c.in-Ok-listen.ensures.faults c.in-Ok-listen.ensures.cause.later
+          (c.exit_code.ensures ∙ c.from.ensures) c.serve-ended.ensures.served c.serve-ended.ensures.few c.serve-ended.ensures.wire_fault
           (λ failed. omega (arith, c.in-Ok.ensures.later, c.serve-ended.ensures.keeper_fault failed)),
       refl {a = console_of C.left C.sent C.faults c.args.console.now},
     )))
@@ -59,6 +59,7 @@ returns-in-Err-listen-clause-does g c =
             c.in-Ok.ensures.begun;
         fault = c.in-Err-listen.ensures.cause.failed;
         connections = c.in-Err-listen.ensures.connections;
+        clients = c.in-Err-listen.ensures.clients;
         left = c.in-Err-listen.ensures.left;
         sent = c.in-Err-listen.ensures.sent;
         unwritten = record { seen = c.in-Ok.ensures.reads.same; images = c.in-Ok.ensures.reads.images; past = c.in-Ok.ensures.reads.past };
