@@ -23,8 +23,10 @@ import sys
 import tempfile
 import time
 
-HERE = os.path.dirname(os.path.abspath(__file__))
-PROGRAM = os.path.join(HERE, '..', 'aasd')
+sys.path.insert(0, os.path.join(os.path.dirname(os.path.realpath(__file__)), '..', 'scripts'))
+# pylint: disable=wrong-import-position
+from shared import launched, take_launcher  # noqa: E402
+
 GROWTH = 2
 FOLDER = '/dev/shm' if os.path.isdir('/dev/shm') else None
 # How many submodels are created one by one.
@@ -160,7 +162,7 @@ def memory(process):
 def measured(options, pieces, submodels, words):
     """The size of a file, and the figures of each command with it."""
     with tempfile.TemporaryDirectory(dir=FOLDER) as folder:
-        case = Case(os.path.abspath(options.program), folder, pieces, submodels)
+        case = Case(options.program, folder, pieces, submodels)
         return case.size, {word: case.figures(word, options.runs) for word in words}
 
 
@@ -172,10 +174,10 @@ def created_in_any_order(options):
     requests = ''.join(f'POST /submodels HTTP/1.1\r\nContent-Length: {len(text)}\r\n\r\n{text}' for text in texts)
     took = []
     with tempfile.TemporaryDirectory(dir=FOLDER) as folder:
-        subprocess.run([os.path.abspath(options.program), 'init'], cwd=folder, stdout=subprocess.DEVNULL, check=True)
+        subprocess.run([options.program, 'init'], cwd=folder, stdout=subprocess.DEVNULL, check=True)
         for given in (requests.encode(), b''):
             begun = resource.getrusage(resource.RUSAGE_CHILDREN)
-            replies = subprocess.run([os.path.abspath(options.program), 'pipe'], cwd=folder, input=given, stdout=subprocess.PIPE, check=True).stdout
+            replies = subprocess.run([options.program, 'pipe'], cwd=folder, input=given, stdout=subprocess.PIPE, check=True).stdout
             ended = resource.getrusage(resource.RUSAGE_CHILDREN)
             took.append(ended.ru_utime + ended.ru_stime - begun.ru_utime - begun.ru_stime)
             if replies.count(b'HTTP/1.1 201 Created\r\n') != given.count(b'POST /submodels '):
@@ -211,7 +213,7 @@ def least(program, words, folder, runs, wanted):
 
 def conforming(options):
     """The seconds that pass to compare a submodel with a template, and those that the program runs, both without the replay of the journal."""
-    program = os.path.abspath(options.program)
+    program = options.program
     template = submodel_with('urn:template', 'Template', template_property_text, WANTED)
     instance = submodel_with('urn:instance', 'Instance', compared_property_text, COMPARED)
     given = f'{{"submodels":[{template},{instance}]}}'.encode()
@@ -227,11 +229,10 @@ def conforming(options):
 
 def main():
     parser = argparse.ArgumentParser(description=__doc__, formatter_class=argparse.RawDescriptionHelpFormatter)
-    parser.add_argument('--program', default=PROGRAM, help='the program (the script aasd)')
+    take_launcher(parser)
     parser.add_argument('--runs', type=int, default=5, help='runs of each command with each file (5)')
     options = parser.parse_args()
-    # With no words the script builds the program where that hasn't been done, and the program ends at once.
-    subprocess.run([options.program], stdin=subprocess.DEVNULL, stdout=subprocess.DEVNULL, check=False)
+    options.program = launched(options.program)
     _, idle = measured(options, ['{}'], 0, ('import', 'export', 'checkpoint'))
     good = True
     for name, text, submodels, counts, words in FAMILIES:

@@ -8,17 +8,19 @@ next. So the program keeps between so many submodels and 100 more while it is ti
 All these submodels are also listed, in pages of 100, each of which begins behind the last submodel of the one before.
 
 Then so many elements are put into one submodel, right below it or in the innermost of ten collections, and the last of them is read and updated through
-its value form, gets other metadata, and another one is added behind it and deleted again. Those right below it are listed, too. At last it is printed how much memory a
-property takes that is stored.
+its value form, gets other metadata, and another one is added behind it and deleted again. Those right below it are listed, too. Environments of ten of so many
+submodels are asked for, with the concept descriptions that these take along, beside as many others. At last it is printed how much memory long replies take beside
+the documents, and a property that is stored.
 
 Printed are the microseconds for a request with 10, 100, 1,000 and 10,000 submodels, and with 10, 1,000 and 65,536 elements, those that passed and those
 that the program itself ran, each the median over all batches of some runs, and how much the latter grew from the first to the last; of pages those for
-each entry. The script ends with status 1 where that is past 2 times with submodels. With elements it is printed alone. It wants an idle machine.
+each entry. The script ends with status 1 where that is past 2.5 times with submodels. With elements it is printed alone. It wants an idle machine.
 """
 import argparse
 import base64
 import fcntl
 import json
+import math
 import os
 import select
 import statistics
@@ -27,12 +29,17 @@ import sys
 import tempfile
 import time
 
-HERE = os.path.dirname(os.path.abspath(__file__))
-PROGRAM = os.path.join(HERE, '..', 'aasd')
+sys.path.insert(0, os.path.join(os.path.dirname(os.path.realpath(__file__)), '..', 'scripts'))
+# pylint: disable=wrong-import-position
+from shared import SET_PIPE_SIZE, launched, take_launcher  # noqa: E402
+
 COUNTS = (10, 100, 1_000, 10_000)
 BATCH = 100
 BATCHES = 20
-GROWTH = 2
+# A look-up compares an identifier with as many as a search passes, log2 of their count: so many times as many with the most submodels as with the
+# fewest. A request may grow as one would of which the look-up is a half where there are few.
+SEARCH = math.log2(COUNTS[-1]) / math.log2(COUNTS[0])
+GROWTH = (1 + SEARCH) / 2
 # The entries of a page.
 PAGE = 100
 LONGEST_PAGE = 1_000
@@ -43,6 +50,11 @@ DEPTHS = (0, 10)
 # The most elements of a submodel.
 MOST = 65_536
 OWNER = 'https://example.com/submodels/elements'
+# How many submodels an environment has whose time is taken, and how many one whose memory is: as many as the head of a request names.
+CHOSEN = 10
+MOST_CHOSEN = 200
+# How many concept descriptions the latter takes along, named by elements or by one another.
+TAKEN_ALONG = 10_000
 # How many submodels with a thousand properties are there before memory is measured; four times as many come then.
 OWNERS = 20
 # A batch and its replies fit a pipe of this size, so that neither side waits for the other.
@@ -179,6 +191,42 @@ class Elements:
             yield page(self.at, entries, first or '', behind)
 
 
+class Chosen:
+    """Requests for the environment of some submodels, whose elements name concept descriptions."""
+
+    def __init__(self, submodels, concepts, chain=False):
+        share = concepts // submodels
+        self.concepts = {f'c{number:05}': {'id': f'c{number:05}', 'modelType': 'ConceptDescription'} for number in range(concepts)}
+        if chain:
+            # Each leads to the next one, and the last one back.
+            for number in range(concepts):
+                following = [{'keys': [{'type': 'ConceptDescription', 'value': f'c{(number + 1) % concepts:05}'}], 'type': 'ModelReference'}]
+                self.concepts[f'c{number:05}']['isCaseOf'] = following
+        self.submodels = {}
+        for number in range(submodels):
+            named = range(number * share, (number + 1) * share) if not chain else range(1)
+            elements = [{'idShort': f'P{at}', 'modelType': 'Property', 'semanticId': {'keys': [{
+                'type': 'GlobalReference', 'value': f'c{at:05}'}], 'type': 'ExternalReference'}, 'valueType': 'xs:int'} for at in named]
+            self.submodels[f's{number:04}'] = {'id': f's{number:04}', 'modelType': 'Submodel', 'submodelElements': elements}
+
+    @staticmethod
+    def text(document):
+        return json.dumps(document, separators=(',', ':'), sort_keys=True)
+
+    def create(self):
+        """All requests that create these documents."""
+        for resource, documents in (('/submodels', self.submodels), ('/concept-descriptions', self.concepts)):
+            for document in documents.values():
+                text = self.text(document)
+                yield request('POST ' + resource, text), reply('201 Created', text)
+
+    def get(self):
+        named = '&'.join('submodelIds=' + segment(identity) for identity in self.submodels)
+        lists = {'conceptDescriptions': self.concepts, 'submodels': self.submodels}
+        text = ','.join(f'"{name}":[{",".join(self.text(of[identity]) for identity in sorted(of))}]' for name, of in lists.items())
+        return request(f'GET /serialization?{named}'), reply('200 OK', f'{{{text}}}')
+
+
 class Pipe:
     """A run of the program with one connection on its console, in a folder of its own."""
 
@@ -187,7 +235,7 @@ class Pipe:
         self.process = subprocess.Popen([program, 'pipe'], cwd=folder, stdin=subprocess.PIPE, stdout=subprocess.PIPE)
         self.given, self.taken = self.process.stdin.fileno(), self.process.stdout.fileno()
         for end in (self.given, self.taken):
-            fcntl.fcntl(end, fcntl.F_SETPIPE_SZ, PIPE_SIZE)
+            fcntl.fcntl(end, SET_PIPE_SIZE, PIPE_SIZE)
 
     def ran(self):
         """The seconds that the program has run, once it waits."""
@@ -294,6 +342,30 @@ def element_run(program, count, depth):
     return {name: [(passed / (BATCH if '$' in name else 1), ran / (BATCH if '$' in name else 1)) for passed, ran in of] for name, of in times.items()}
 
 
+def chosen_run(program, count):
+    """What requests for the environment of ten submodels took, beside so many others."""
+    chosen = Chosen(CHOSEN, CHOSEN)
+    with tempfile.TemporaryDirectory(dir=FOLDER) as folder:
+        pipe = Pipe(program, folder)
+        for numbers in batches(list(range(count))):
+            pipe.exchange([post(number) for number in numbers])
+        pipe.exchange(list(chosen.create()))
+        took = [tuple(time / BATCH for time in pipe.exchange([chosen.get()] * BATCH)) for _ in range(BATCHES)]
+        pipe.end()
+    return took
+
+
+def memory_of_chosen(program, chosen):
+    """The most memory that the environment takes beside the documents."""
+    with tempfile.TemporaryDirectory(dir=FOLDER) as folder:
+        pipe = Pipe(program, folder)
+        for calls in batches(list(chosen.create())):
+            pipe.exchange(calls)
+        taken = pipe.peak([chosen.get()])
+        pipe.end()
+    return taken
+
+
 def stored_property(program):
     """The bytes of memory for each property that is stored, by many submodels with a thousand of them."""
     def create(owner):
@@ -328,7 +400,14 @@ def memory_of_texts(program):
         pipe.exchange([asked.create()])
         whole, built = pipe.peak([asked.whole()]), pipe.peak([asked.paths()])
         pipe.end()
-    return {f'a page of {LONGEST_PAGE} submodels': listed, f'a submodel of {MOST - 1} elements': whole, 'its paths, for comparison': built}
+    return {
+        f'a page of {LONGEST_PAGE} submodels': listed,
+        f'a submodel of {MOST - 1} elements': whole,
+        'its paths, for comparison': built,
+        f'an environment of {MOST_CHOSEN} submodels': memory_of_chosen(program, Chosen(MOST_CHOSEN, MOST_CHOSEN)),
+        f'the same with {TAKEN_ALONG} concept descriptions': memory_of_chosen(program, Chosen(MOST_CHOSEN, TAKEN_ALONG)),
+        'the same where each leads to the next': memory_of_chosen(program, Chosen(MOST_CHOSEN, TAKEN_ALONG, chain=True)),
+    }
 
 
 def print_elements(program, runs, depth):
@@ -343,14 +422,23 @@ def print_elements(program, runs, depth):
         print(f'  grew {own[-1] / own[0]:.1f} times')
 
 
+def print_chosen(program, runs):
+    print(f'environment of {CHOSEN} submodels and {CHOSEN} concept descriptions')
+    own = []
+    for count in COUNTS:
+        pairs = [pair for _ in range(runs) for pair in chosen_run(program, count)]
+        passed, ran = (statistics.median(times) * 1e6 for times in zip(*pairs))
+        own.append(ran)
+        print(f'  {count:6} submodels beside {passed:8.1f} us each, {ran:8.1f} of them run')
+    print(f'  grew {own[-1] / own[0]:.2f} times')
+
+
 def main():
     parser = argparse.ArgumentParser(description=__doc__, formatter_class=argparse.RawDescriptionHelpFormatter)
-    parser.add_argument('--program', default=PROGRAM, help='the program (the script aasd)')
+    take_launcher(parser)
     parser.add_argument('--runs', type=int, default=5, help='runs for each count of submodels (5)')
     options = parser.parse_args()
-    program = os.path.abspath(options.program)
-    # With no words the script builds the program where that hasn't been done, and the program ends at once.
-    subprocess.run([program], stdin=subprocess.DEVNULL, stdout=subprocess.DEVNULL, check=False)
+    program = launched(options.program)
     good = True
     took = {count: [] for count in COUNTS}
     for _ in range(options.runs):
@@ -368,6 +456,7 @@ def main():
         print(f'  grew {growth:.2f} times')
     for depth in DEPTHS:
         print_elements(program, options.runs, depth)
+    print_chosen(program, options.runs)
     print('memory beside the documents, at most')
     for text, taken in memory_of_texts(program).items():
         print(f'  {taken / 1_000:8.0f} kB for {text}')

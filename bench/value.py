@@ -8,6 +8,7 @@ times from the first to the last, or peak memory, less that of an input without 
 
 Inputs are files, and the script gives a large file other settings of memory than a small one; through a pipe the time for a byte grows more.
 """
+import argparse
 import fcntl
 import json
 import os
@@ -17,14 +18,18 @@ import sys
 import tempfile
 import time
 
-HERE = os.path.dirname(os.path.abspath(__file__))
-PROGRAM = os.path.join(HERE, '..', 'aasd')
+sys.path.insert(0, os.path.join(os.path.dirname(os.path.realpath(__file__)), '..', 'scripts'))
+# pylint: disable=wrong-import-position
+from shared import SET_PIPE_SIZE, launched, take_launcher  # noqa: E402
+
 COUNTS = (1_000, 10_000, 40_000)
 LIMIT = 4_194_304
 RUNS = 10
 SECONDS = 4
 # The answer to this many characters doesn't fit a pipe, so the program waits with it.
 LONG = 8192
+# A word that makes no command, with the status in which the program ends at once.
+NO_COMMAND = '-', 2
 
 
 def text_property(n):
@@ -113,32 +118,32 @@ def write(path, element):
         return file.write(json.dumps(element, separators=(',', ':')))
 
 
-def one_time(words, path):
-    """The time in seconds of one run."""
+def one_time(program, word, status, path):
+    """The time in seconds of one run, which must end with this status."""
     with open(path, 'rb') as given:
         start = time.perf_counter()
-        process = subprocess.run([PROGRAM, *words], stdin=given, stdout=subprocess.DEVNULL, check=False)
+        process = subprocess.run([program, word], stdin=given, stdout=subprocess.DEVNULL, check=False)
         took = time.perf_counter() - start
-    if words and process.returncode != 0:
+    if process.returncode != status:
         sys.exit(f'{path}: status {process.returncode}')
     return took
 
 
-def best_time(path):
+def best_time(program, path):
     """The best time in seconds of at least some runs and some seconds, less that of runs with no command, which are made in between."""
     took, idle, begun = [], [], time.perf_counter()
     while len(took) < RUNS or time.perf_counter() - begun < SECONDS:
-        idle.append(one_time([], path))
-        took.append(one_time(['value'], path))
+        idle.append(one_time(program, *NO_COMMAND, path))
+        took.append(one_time(program, 'value', 0, path))
     return min(took) - min(idle)
 
 
-def peak_memory(path):
+def peak_memory(program, path):
     """The peak memory in bytes. The program makes its whole answer before it gives the first byte, and waits where nobody reads on."""
     read, write = os.pipe()
-    fcntl.fcntl(write, fcntl.F_SETPIPE_SZ, 4096)
+    fcntl.fcntl(write, SET_PIPE_SIZE, 4096)
     with open(path, 'rb') as given:
-        process = subprocess.Popen([PROGRAM, 'value'], stdin=given, stdout=write)
+        process = subprocess.Popen([program, 'value'], stdin=given, stdout=write)
     os.close(write)
     select.select([read], [], [])
     with open(f'/proc/{process.pid}/status') as status:
@@ -150,13 +155,15 @@ def peak_memory(path):
 
 
 def main():
-    # With no words the script builds the program where that hasn't been done, and the program ends at once.
-    subprocess.run([PROGRAM], stdin=subprocess.DEVNULL, stdout=subprocess.DEVNULL, check=False)
+    parser = argparse.ArgumentParser(description=__doc__, formatter_class=argparse.RawDescriptionHelpFormatter)
+    take_launcher(parser)
+    options = parser.parse_args()
+    program = launched(options.program)
     good = True
     with tempfile.TemporaryDirectory() as folder:
         path = os.path.join(folder, 'input.json')
         write(path, qualified(0))
-        own_size = peak_memory(path)
+        own_size = peak_memory(program, path)
         for name, made, counts in FAMILIES:
             print(name)
             first = None
@@ -164,7 +171,7 @@ def main():
                 size = write(path, made(count))
                 if size > LIMIT:
                     sys.exit(f'{name}: {size} bytes are too many')
-                took, peak = best_time(path), peak_memory(path)
+                took, peak = best_time(program, path), peak_memory(program, path)
                 per_byte = took / size
                 first = first or per_byte
                 good = good and per_byte <= 1.5 * first and peak - own_size <= 40 * size

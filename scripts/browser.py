@@ -5,29 +5,12 @@ import http.client
 import json
 import os
 import shutil
-import socket
 import subprocess
-import sys
 import time
 
+from shared import free_port, wait_for
+
 PATIENCE = 30    # for what a page or a program should do, in seconds
-
-
-def free_port():
-    with socket.socket() as chosen:
-        chosen.bind(('127.0.0.1', 0))
-        return chosen.getsockname()[1]
-
-
-def wait_for(port, process):
-    """Waits until the process takes connections at the port."""
-    begun = time.monotonic()
-    while time.monotonic() - begun < PATIENCE and process.poll() is None:
-        with contextlib.suppress(ConnectionRefusedError):
-            socket.create_connection(('127.0.0.1', port)).close()
-            return
-        time.sleep(0.02)
-    sys.exit(f'{process.args[0]} does not wait at its port; status {process.poll()}')
 
 
 # For what is looked at on the page.
@@ -76,7 +59,7 @@ class Driver:
         log = os.path.join(folder, 'chromedriver.log')
         self.process = subprocess.Popen(['chromedriver', f'--port={self.port}', f'--log-path={log}'],
                                         stdin=subprocess.DEVNULL, stdout=subprocess.DEVNULL)
-        wait_for(self.port, self.process)
+        wait_for(self.port, self.process, PATIENCE)
 
 
 class Page:
