@@ -98,7 +98,11 @@ fn values(alloc: Global, store: &SheetStore, paths: &[Text]) -> Result<String, N
 
 fn value_at(alloc: Global, store: &SheetStore, path: &Path) -> Result<Text, NotRun> {
     match store.element(ID, path) {
-        Ok(element) => Ok(Text::from_str(alloc, value_of(&element.payload))?),
+        Ok(element) => {
+            let value = Text::from_str(alloc, value_of(&element.payload));
+            drop(element);
+            Ok(value?)
+        }
         Err(Lack::NoMemory) => Err(NotRun::NoMemory),
         Err(_) => Ok(Text::from_str(alloc, "nothing")?),
     }

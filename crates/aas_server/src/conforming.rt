@@ -3,8 +3,9 @@ ghost use Rattle.std.specs.Prelude.{◌≡◌, ◌≢◌, [], ◌∷◌, IfErr, 
 ghost use Rattle.std.specs.Str.{encode_utf8_all};
 ghost use Rattle.aas_constraint_rules.specs.Faults.{is_template};
 ghost use Rattle.aas_page.specs.Segment.{IsIdentifierCode};
+ghost use Rattle.aas_path_trees.specs.Places.{SiblingsDiffer};
 ghost use Rattle.aas_server.specs.Answer.{done};
-ghost use Rattle.aas_server.specs.Conforming.{IsConformAnswer, IsUnfit, StandsForNone, conform_text, reason_name, submodel_at};
+ghost use Rattle.aas_server.specs.Conforming.{IsConformAnswer, IsUnfit, StandsForNone, compared_answer, conform_text, not_a_template, reason_name, submodel_at};
 ghost use Rattle.aas_step.specs.Valid.{AreValid};
 
 use crate::console::{end_refused, end_with};
@@ -152,10 +153,29 @@ fn compared_text<S: Store>(
     let template_id = id_from_word(alloc, template)?;
     let instance_id = id_from_word(alloc, instance)?;
     let wanted = submodel(store, &template_id)?;
-    let given = submodel(store, &instance_id)?;
-    if !is_template(wanted.kind) {
+    let given = match submodel(store, &instance_id) {
+        Ok(given) => given,
+        Err(refusal) => {
+            drop(wanted);
+            return Err(Unfit::Refused(refusal));
+        }
+    };
+    let text = compared(alloc, &wanted, &given);
+    drop(wanted);
+    drop(given);
+    text
+}
+
+/// In what a submodel differs from a template, as a line, or that it is compared with none.
+fn compared(alloc: Global, template: &Submodel, instance: &Submodel) -> Result<Vec<u8>, Unfit>
+    requires { SiblingsDiffer template.now }
+    ensures done { IfOk result (λ text. done text.items ≡ compared_answer (Some template.now) (Some instance.now)) }
+    ensures unfit { IfErr result (λ unfit. unfit ≢ Unfit.Refused Refusal.NoMemory →
+        (unfit ≡ Unfit.NotTemplate) × (not_a_template ≡ compared_answer (Some template.now) (Some instance.now))) }
+{
+    if !is_template(template.kind) {
         return Err(Unfit::NotTemplate);
     }
-    let found = conforms(alloc, &wanted, &given)?;
+    let found = conforms(alloc, template, instance)?;
     Ok(conform_text(alloc, &found)?)
 }

@@ -1,41 +1,30 @@
-use Rattle.std.proofs.Common.{refl, sym, ◌∙◌}
+use Rattle.std.proofs.Common.{◌≡◌, ℕ, List, Result, Ok, Err, IfErr, sym, ap₂, ◌∙◌}
+use Rattle.std.specs.Prelude.{◌≢◌}
 use Rattle.std.specs.Str.{encode_utf8_all}
 use Rattle.aas_command.specs.declared.refusal.Refusal.TheVariants.{NoMemory}
-use Rattle.aas_server.proofs.ConformAnswers.{no_instance, of_another_kind, told, unfit_by}
+use Rattle.aas_store.specs.Documents.{Documents}
+use Rattle.aas_server.specs.Conforming.{IsConformAnswer, IsUnfit, compared_answer, not_a_template}
+use Rattle.aas_server.specs.declared.conforming.Unfit.{Unfit}
+use Rattle.aas_server.specs.declared.conforming.Unfit.TheVariants.{NotTemplate, Refused}
+use Rattle.aas_server.proofs.ConformAnswers.{compared}
 use Rattle.aas_server.proofs.conforming.compared_text.Goals as goal
 
-pub returns-in_err-given-clause-unfit : goal.returns-in_err-given-clause-unfit
-returns-in_err-given-clause-unfit g c =
-    let d = g.S.Store.documents c.args.store.now in
-    unfit_by c.from_residual-in_err-given.result c.in_err-given.field-0.0 c.args.template.now c.args.instance.now d
-    (λ some. let absent = c.in_err-given.ensures.absent some in
-    no_instance c.args.template.now c.args.instance.now d c.in_ok-template_id.template_id c.in_ok-instance_id.instance_id c.in_ok-template_id.ensures.ok c.in_ok-instance_id.ensures.ok
-    c.in_err-given.field-0.0 c.in_ok-wanted.wanted absent.0 c.in_ok-wanted.ensures.ok absent.1)
-    c.from_residual-in_err-given.ensures.1
+-- where nothing but want of memory and another kind comes
+of_another_kind : {T P : Type 0} (result : Result T Unfit) (template instance : List ℕ) (d : Documents) → (P → IsConformAnswer template instance d not_a_template)
+    → IfErr result (λ u. u ≢ Refused NoMemory → (u ≡ NotTemplate) × P) → IfErr result (IsUnfit template instance d)
+of_another_kind (Ok t) template instance d answers is = tt
+of_another_kind (Err (Refused r)) template instance d answers is = λ some. let same = (is (λ none. let no : r ≡ NoMemory = cc in some no)).0 in absurd (cc)
+of_another_kind (Err NotTemplate) template instance d answers is = answers (is (λ none. cc)).1
 
-pub returns-then-not-is_template-clause-unfit : goal.returns-then-not-is_template-clause-unfit
-returns-then-not-is_template-clause-unfit g c =
-    of_another_kind c.args.template.now c.args.instance.now (g.S.Store.documents c.args.store.now) c.in_ok-template_id.template_id c.in_ok-instance_id.instance_id
-    c.in_ok-template_id.ensures.ok c.in_ok-instance_id.ensures.ok c.in_ok-wanted.wanted c.in_ok-given.given c.in_ok-wanted.ensures.ok c.in_ok-given.ensures.ok
-    (sym c.is_template.ensures ∙ c.if-not-is_template.true)
-
-pub conforms-requires : goal.conforms-requires
-conforms-requires g c =
+pub compared-text-requires : goal.compared-text-requires
+compared-text-requires g c =
     c.valid_siblings_differ.ensures c.in_ok-wanted.wanted
     (c.requires.submodels (encode_utf8_all c.in_ok-template_id.template_id) c.in_ok-wanted.wanted c.in_ok-wanted.ensures.ok).valid.faultless
 
-pub returns-in_err-found-clause-unfit : goal.returns-in_err-found-clause-unfit
-returns-in_err-found-clause-unfit g c =
-    unfit_by c.from_residual-in_err-found.result NoMemory c.args.template.now c.args.instance.now (g.S.Store.documents c.args.store.now) (λ some. absurd (some refl))
-    c.from_residual-in_err-found.ensures.1
-
-pub returns-in_err-conform_text-clause-unfit : goal.returns-in_err-conform_text-clause-unfit
-returns-in_err-conform_text-clause-unfit g c =
-    unfit_by c.from_residual-in_err-conform_text.result NoMemory c.args.template.now c.args.instance.now (g.S.Store.documents c.args.store.now) (λ some. absurd (some refl))
-    c.from_residual-in_err-conform_text.ensures.1
-
-pub returns-clause-done : goal.returns-clause-done
-returns-clause-done g c =
-    told c.args.template.now c.args.instance.now (g.S.Store.documents c.args.store.now) c.in_ok-template_id.template_id c.in_ok-instance_id.instance_id
-    c.in_ok-template_id.ensures.ok c.in_ok-instance_id.ensures.ok c.in_ok-wanted.wanted c.in_ok-given.given c.in_ok-found.found c.in_ok-conform_text.field-0.items
-    c.in_ok-wanted.ensures.ok c.in_ok-given.ensures.ok (sym c.is_template.ensures ∙ c.if-not-is_template.false) c.in_ok-found.ensures c.in_ok-conform_text.ensures
+pub returns-clause-unfit : goal.returns-clause-unfit
+returns-clause-unfit g c =
+    let d = g.S.Store.documents c.args.store.now in
+    of_another_kind c.compared-text.result c.args.template.now c.args.instance.now d
+    (λ is. compared c.args.template.now c.args.instance.now d c.in_ok-template_id.template_id c.in_ok-instance_id.instance_id c.in_ok-template_id.ensures.ok c.in_ok-instance_id.ensures.ok
+    not_a_template (is ∙ sym (ap₂ compared_answer c.in_ok-wanted.ensures.ok c.in-Ok.ensures.ok)))
+    c.compared-text.ensures.unfit
