@@ -1,3 +1,1 @@
-mod Edited
-mod LaidOut
 mod Lent

@@ -2,28 +2,18 @@
 use denote.RattleType.{RattleType}
 use Rattle.std.specs.Prelude.{ℕ, ◌≤◌, length, IfSome, MatchOption}
 use Rattle.std.specs.FinMap as map
-use Rattle.std.specs.Option.{option_map_or}
 use Rattle.aas_model.specs.declared.documents.Submodel.{Submodel}
 use Rattle.aas_rows.specs.Rows.{rows_of_all}
-use Rattle.aas_sheet.specs.SheetStore.{documents, holding}
-use Rattle.aas_sheet.specs.contracts.sheet_store.SheetStore as store
-use Rattle.aas_sheet.specs.declared.sheet_store.SheetStore.{SheetStore}
+use Rattle.aas_sheet.specs.SheetStore.{SheetStore, documents, holding}
 use Rattle.aas_sheet_rows.specs.Changed.{with_row, IsRow}
 use Rattle.aas_sheet_rows.specs.Lent.{sheet_type}
 use Rattle.aas_sheet_rows.specs.declared.row.Row.{Row}
 use Rattle.aas_store.specs.Documents.{Identifier, Map}
 use Rattle.aas_store.specs.Edited.{with_changed}
-use Rattle.aas_store.specs.contracts.shelf.Shelf as shelf
+use Rattle.aas_store.specs.contracts.document_store.DocumentStore as store
 
 abbrev pub store_type : RattleType
-store_type = store.the_row
-
-abbrev pub sheets_type : RattleType
-sheets_type = shelf.the_row sheet_type
-
--- the submodels with what w says at a rank of the one of the identifier
-abbrev pub with_row_in : Map Submodel → Identifier → ℕ → Row → Map Submodel
-with_row_in submodels id n w = option_map_or (λ s. map.insert submodels id (with_row s n w)) (map.get submodels id) submodels
+store_type = store.the_row sheet_type
 
 -- the store of the same documents but for that row
 abbrev pub holding_row : SheetStore → Identifier → ℕ → Row → SheetStore

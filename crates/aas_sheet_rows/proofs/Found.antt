@@ -285,3 +285,24 @@ path_lost rs ss first end k ks l s p t a is =
       rank_lost l s p ks first none,
       ap (λ o. option_map_or (λ (c : Child). depth_below p c.1 + 1) o 0) (sym none),
     )
+
+-- from a child that stands in a table a path leads on as from its row
+pub record LeadsOn (rs : List Row) (ss : List Side) (first rank end k : ℕ) (ks : List Element) (l in_list : Bool) (s t : PathStep) (p q : List PathStep) : Type 0 where
+  pub kids : List Element
+  pub among : Among rs ss (rank + 1) end k kids
+  pub ranked : option_map (λ r. rank + 1 + r) (rank_among in_list t q kids) ≡ option_map (λ r. first + r) (rank_among l s p ks)
+  pub deep : depth_among in_list t q kids + 1 ≡ depth_among l s p ks
+
+pub leads_on : (rs : List Row) (ss : List Side) (first end k rank next : ℕ) (ks : List Element) (l in_list : Bool) (s t : PathStep) (p q : List PathStep) (row : Row) (side : Side) → IsTable rs ss → Among rs ss first end k ks
+    → Some rank ≡ option_map (λ i. first + i) (side_of_step l s k (take (end - first) (drop first ss))) → p ≡ t ∷ q → rank < length ss → row ≡ get_or rs rank row → side ≡ get_or ss rank side
+    → slice_get (sizes_of ss) rank ≡ Some (next - rank) → rank < next → in_list ≡ is_list_payload row.payload → LeadsOn rs ss first rank next side.level ks l in_list s t p q
+leads_on rs ss first end k rank next ks l in_list s t p q row side table a is path inside row_is side_is size above listed =
+    let st = stepped rs ss first end k rank ks l s table a is in
+    let own = stood rs ss (k + 1) rank next st.child.1 row side table st.stands inside row_is side_is size above in
+    let on = path_goes_on rs ss first k rank ks l s t p q path st in
+    let same : in_list ≡ is_list st.child.1 = listed ∙ own.in_list in record {
+      kids = kids_of st.child.1;
+      among = own.kids;
+      ranked = ap (λ b. option_map (λ r. rank + 1 + r) (rank_among b t q (kids_of st.child.1))) same ∙ on.0;
+      deep = ap (λ b. depth_among b t q (kids_of st.child.1) + 1) same ∙ on.1;
+    }

@@ -1,6 +1,7 @@
 mod Below
 mod Children
 mod Columns
+mod Copied
 pub mod Edits
 mod Found
 mod Grove

@@ -1,5 +1,6 @@
-ghost use Rattle.std.specs.Prelude.{◌≡◌, ◌<◌, ◌≤◌, ◌+◌, ◌-◌, ◌^◌, List, length, take, drop, slice_get, option_map, Some};
+ghost use Rattle.std.specs.Prelude.{◌≡◌, ◌<◌, ◌≤◌, ◌+◌, ◌-◌, ◌^◌, List, length, take, drop, slice_get, option_map, IfErr, IfOk, Some};
 ghost use Rattle.std.specs.Option.{IfSome};
+ghost use Rattle.std.specs.Result.{result_ok};
 ghost use Rattle.aas_model.specs.declared.element.Element.{Element};
 ghost use Rattle.aas_path_trees.specs.Children.{is_list_payload};
 ghost use Rattle.aas_path_trees.specs.ElementAt.{depth_among};
@@ -92,8 +93,8 @@ pub(crate) fn rank_behind(rows: &[Kept], sides: &[Side], rank: usize) -> usize
     rank + sides[rank].size
 }
 
-/// The rank of the element to which a step and then a path lead from the rows of a span. Adds the ranks of the elements on
-/// the way there.
+/// The rank of the element to which a step and then a path lead from the rows of a span, or how many of these steps
+/// lead to an element. Adds the ranks of the elements on the way there.
 pub(crate) fn find_among(
     rows: &[Kept],
     sides: &Sides,
@@ -102,18 +103,21 @@ pub(crate) fn find_among(
     step: &PathStep,
     path: &[PathStep],
     passed: &mut Passed,
-) -> Option<usize>
+) -> Result<usize, usize>
     requires table { IsTable rows.now sides.now }
     requires ordered { span.first ≤ span.end }
     requires within { span.end ≤ length sides.now }
-    ensures value { (ks : List Element) → Among rows.now sides.now span.first span.end span.level ks → result ≡ option_map (λ r. span.first + r) (rank_among in_list step.now path.now ks) }
-    ensures inside { IfSome result (λ r. r < length sides.now) }
+    requires short { length path.now < 2 ^ 63 }
+    ensures value { (ks : List Element) → Among rows.now sides.now span.first span.end span.level ks → result_ok result ≡ option_map (λ r. span.first + r) (rank_among in_list step.now path.now ks) }
+    ensures inside { IfOk result (λ r. r < length sides.now) }
+    ensures depth { (ks : List Element) → Among rows.now sides.now span.first span.end span.level ks → IfErr result (λ n. n ≡ depth_among in_list step.now path.now ks) }
+    ensures bound { IfErr result (λ n. n ≤ length path.now) }
 {
     let Some(rank) = rank_of_step(sides, span, in_list, step_ref(step)) else {
-        return None;
+        return Err(0);
     };
     match path.split_first() {
-        None => Some(rank),
+        None => Ok(rank),
         Some((next, rest)) => {
             pass(passed, rank);
             let all = sides.as_slice();
@@ -123,41 +127,10 @@ pub(crate) fn find_among(
                 end: rank_behind(rows, all, rank),
                 level: all[rank].level,
             };
-            find_among(rows, sides, span, in_list, next, rest, passed)
-        },
-    }
-}
-
-/// How many of these steps lead to an element from the rows of a span.
-pub(crate) fn depth_among(
-    rows: &[Kept],
-    sides: &Sides,
-    span: Span,
-    in_list: bool,
-    step: &PathStep,
-    path: &[PathStep],
-) -> usize
-    requires table { IsTable rows.now sides.now }
-    requires ordered { span.first ≤ span.end }
-    requires within { span.end ≤ length sides.now }
-    requires short { length path.now < 2 ^ 63 }
-    ensures value { (ks : List Element) → Among rows.now sides.now span.first span.end span.level ks → result ≡ depth_among in_list step.now path.now ks }
-    ensures bound { result ≤ length path.now + 1 }
-{
-    let Some(rank) = rank_of_step(sides, span, in_list, step_ref(step)) else {
-        return 0;
-    };
-    match path.split_first() {
-        None => 1,
-        Some((next, rest)) => {
-            let all = sides.as_slice();
-            let in_list = is_list(&rows[rank].get().payload);
-            let span = Span {
-                first: rank + 1,
-                end: rank_behind(rows, all, rank),
-                level: all[rank].level,
-            };
-            depth_among(rows, sides, span, in_list, next, rest) + 1
+            match find_among(rows, sides, span, in_list, next, rest, passed) {
+                Ok(rank) => Ok(rank),
+                Err(steps) => Err(steps + 1),
+            }
         },
     }
 }

@@ -4,7 +4,7 @@
 //!
 //! The store of many stands in `aas_sheet`, the column beside the rows in `aas_sheet_index`.
 //!
-//! Proved, by the contract of `Sheet`, `others_stay`:
+//! Proved, by the contract of `Sheet`, its trait `aas_store::Table`, `others_stay`:
 //!
 //! - A table made of a submodel stands for it.
 //! - What is read of it, the submodel, an element by its path or its rank, a row, a child, how far a path leads,
@@ -27,6 +27,7 @@ mod payloads;
 mod reading;
 mod row;
 mod sheet;
+mod table;
 mod tree;
 
 pub use laws::others_stay;

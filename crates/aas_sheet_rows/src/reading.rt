@@ -25,13 +25,17 @@ pub(crate) fn below(rows: &[Kept], sides: &Sides, path: &Path) -> Option<Span>
     };
     let mut passed = Passed::new();
     let span = all_rows(sides);
-    let rank = find_among(rows, sides, span, false, step, rest, &mut passed)?;
-    let all = sides.as_slice();
-    Some(Span {
-        first: rank + 1,
-        end: rank_behind(rows, all, rank),
-        level: all[rank].level,
-    })
+    match find_among(rows, sides, span, false, step, rest, &mut passed) {
+        Ok(rank) => {
+            let all = sides.as_slice();
+            Some(Span {
+                first: rank + 1,
+                end: rank_behind(rows, all, rank),
+                level: all[rank].level,
+            })
+        },
+        Err(_) => None,
+    }
 }
 
 /// The first semanticId of the elements that stand, as siblings, in the rows from `first` to `end`.

@@ -1,34 +1,36 @@
-ghost use Rattle.std.specs.Prelude.{◌≡◌, ◌<◌, ◌≤◌, List, is_some, length, slice_get, option_map, unwrap_or, IfOk, IsSome, MatchOption, None, OnErr, OnOk, Some};
+ghost use Rattle.std.specs.Prelude.{◌≡◌, ◌≢◌, ◌↔◌, ◌<◌, ◌≤◌, List, is_some, length, slice_get, option_map, unwrap_or, Err, IfErr, IfOk, IsSome, MatchOption, MatchResult, OnErr, OnOk, Some};
 ghost use Rattle.std.specs.Option.{option_copied};
+ghost use Rattle.std.specs.Result.{result_ok};
 
 use crate::editing::{put_rows, remove_rows};
 use crate::finding::{
-    Passed, Span, all_rows, child_among, depth_among, find_among, is_list, pass, rank_behind,
-    rank_of_step,
+    Passed, Span, all_rows, child_among, find_among, is_list, pass, rank_behind, rank_of_step,
 };
 use crate::growing::{element_from, grow};
 use crate::laying::lay_all;
 use crate::payloads::put_payloads;
 use crate::reading::{below, first_semantic_id};
 use crate::row::{Kept, Row, row_mut, view};
-use aas_model::{Duplicate, Element, Many, NoMemory, Patch, Path, Reference, Role, Submodel, Text};
+use aas_model::{
+    Duplicate, Element, Many, Missing, NoMemory, Patch, Path, Reference, Role, Submodel, Text,
+};
 use aas_path::role_within;
 use aas_rows::RowView;
 use aas_sheet_index::Sides;
-use aas_store::{Spot, StepRef};
+use aas_store::{Lack, Spot, StepRef};
 use std::marker::Model;
 use std::mem;
 
 /// A submodel, which contracts see as the tree that its rows stand for.
 ///
-/// A step of a path by name costs a binary search in an index of all rows; one by place costs the siblings that it passes
-/// and what stands below them, in a walk along a narrow column. The children of the submodel are counted as they come and
-/// go; where no row stands deeper, the one in a place is found at once, and else by that walk. An edit moves 8 bytes for
-/// each row behind its place and what stands beside it. It takes few rows out of the index by binary searches, writes 4
-/// bytes for each row in it only where many go or where rows behind the place move, and merges the new ones in. It
-/// measures the new rows, and adds to the sizes of those above them. Of these it knows 30: a place that stands deeper has
-/// the rows before it measured too, up to a child of the submodel. Only `from_submodel`, `insert`, `replace` and copies
-/// take memory.
+/// A step of a path by name costs a binary search in an index of all rows; one by place costs the siblings that it
+/// passes and what stands below them, in a walk along a narrow column. The children of the submodel are counted as they
+/// come and go; where no row stands deeper, the one in a place is found at once, and else by that walk. An edit moves 8
+/// bytes for each row behind its place and what stands beside it. It takes few rows out of the index by binary
+/// searches, writes 4 bytes for each row in it only where many go or where rows behind the place move, and merges the
+/// new ones in. It measures the new rows, and adds to the sizes of those above them. Of these it knows 30: a place that
+/// stands deeper has the rows before it measured too, up to a child of the submodel. Only `from_submodel`, `insert`,
+/// `replace` and copies take memory.
 #[derive(Drop)]
 pub struct Sheet {
     /// It has no children: they stand in the rows.
@@ -65,7 +67,8 @@ impl Sheet {
     ghost use Rattle.aas_sheet_rows.specs.Changed.{with_row, IsRow};
     ghost use Rattle.aas_sheet_rows.specs.Lent.{sheet_type, row_type};
     ghost use Rattle.aas_store.specs.Documents.{without_children};
-    ghost use Rattle.aas_store.specs.Edited.{FitsAt, patched_at};
+    ghost use Rattle.aas_model.specs.declared.path.Missing.{Missing};
+    ghost use Rattle.aas_store.specs.Edited.{FitsAt, LeadsNowhere, patched_at};
     ghost use Rattle.aas_store.specs.Reads.{IsRowOf, first_semantic_id};
     ghost use Rattle.aas_store.specs.Spots.{elements_of_all, rank_at, spot_below, step_of};
     ghost use Rattle.aas_path_trees.specs.Patched.{element_count};
@@ -143,58 +146,49 @@ impl Sheet {
         Some(view(rows[rank].get(), &sides[rank]))
     }
 
-    /// The rank of the element to which the path leads: its place in preorder, counted from the first child on. The empty
-    /// path leads to none.
-    pub fn find(&self, path: &Path) -> Option<usize>
-        ensures { result ≡ rank_at self.now path.now.steps }
+    /// The rank of the element to which the path leads, its place in preorder, counted from the first child on, or how
+    /// far the path leads. The empty path leads to none.
+    pub fn find(&self, path: &Path) -> Result<usize, Missing>
+        ensures value { result_ok result ≡ rank_at self.now path.now.steps }
+        ensures missing { IfErr result (LeadsNowhere self.now path.now.steps) }
     {
         let mut passed = Passed::new();
-        self.trace(path, &mut passed)
+        match self.walk(path, &mut passed) {
+            Ok(rank) => Ok(rank),
+            Err(steps) => Err(Missing { steps }),
+        }
     }
 
-    /// What `find` gives. Adds the ranks of the elements on the way there.
-    fn trace(&self, path: &Path, passed: &mut Passed) -> Option<usize>
-        ensures { result ≡ rank_at self.now path.now.steps }
+    /// What `find` gives, or how many steps of the path lead to an element. Adds the ranks of the elements on the way
+    /// there.
+    fn walk(&self, path: &Path, passed: &mut Passed) -> Result<usize, usize>
+        ensures value { result_ok result ≡ rank_at self.now path.now.steps }
+        ensures depth { IfErr result (λ n. n ≡ depth_found self.now path.now.steps) }
     {
         let Some((step, rest)) = path.steps.as_slice().split_first() else {
-            return None;
+            return Err(0);
         };
         let rows = self.rows.as_slice();
         let span = all_rows(&self.sides);
         find_among(rows, &self.sides, span, false, step, rest, passed)
     }
 
-    /// How many steps of the path lead to an element.
-    pub fn depth(&self, path: &Path) -> usize
-        ensures { result ≡ depth_found self.now path.now.steps }
+    /// The rank of the element to which the path leads. Adds the ranks of the elements on the way there.
+    fn trace(&self, path: &Path, passed: &mut Passed) -> Option<usize>
+        ensures { result ≡ rank_at self.now path.now.steps }
     {
-        let Some((step, rest)) = path.steps.as_slice().split_first() else {
-            return 0;
-        };
-        let rows = self.rows.as_slice();
-        depth_among(rows, &self.sides, all_rows(&self.sides), false, step, rest)
+        self.walk(path, passed).ok()
     }
 
-    /// The rank and the row of the element to which the path leads.
-    pub fn find_row(&self, path: &Path) -> Option<(usize, RowView<'_>)>
-        ensures { MatchOption result (element_at self.now path.now.steps ≡ None) (λ found. (rank_at self.now path.now.steps ≡ Some found.0) × MatchOption (element_at self.now path.now.steps) ⊥ (λ e. IsRowOf e found.1)) }
+    /// The rank and the row of the element to which the path leads, or how far the path leads.
+    pub fn find_row(&self, path: &Path) -> Result<(usize, RowView<'_>), Missing>
+        ensures ranked { IfOk result (λ found. rank_at self.now path.now.steps ≡ Some found.0) }
+        ensures found { MatchResult result (λ found. MatchOption (element_at self.now path.now.steps) ⊥ (λ e. IsRowOf e found.1)) (LeadsNowhere self.now path.now.steps) }
     {
-        let Some(rank) = self.find(path) else {
-            return None;
-        };
+        let rank = self.find(path)?;
         match self.row(rank) {
-            Some(row) => Some((rank, row)),
-            None => None,
-        }
-    }
-
-    /// The row of the element to which the path leads.
-    pub fn row_at(&self, path: &Path) -> Option<RowView<'_>>
-        ensures { MatchOption result (element_at self.now path.now.steps ≡ None) (λ row. MatchOption (element_at self.now path.now.steps) ⊥ (λ e. IsRowOf e row)) }
-    {
-        match self.find(path) {
-            Some(rank) => self.row(rank),
-            None => None,
+            Some(row) => Ok((rank, row)),
+            None => unreachable!(),
         }
     }
 
@@ -229,13 +223,27 @@ impl Sheet {
         }
     }
 
-    /// A copy of the element to which the path leads, with all below it.
-    pub fn element(&self, path: &Path) -> Result<Option<Element>, NoMemory>
-        ensures { IfOk result (λ element. element ≡ element_at self.now path.now.steps) }
+    /// A copy of the element to which the path leads, with all below it, or how far the path leads.
+    pub fn element(&self, path: &Path) -> Result<Element, Lack>
+        ensures found { IfOk result (λ e. element_at self.now path.now.steps ≡ Some e) }
+        ensures there { result ≢ Err Lack.NoSubmodel }
+        ensures no_element { (m : Missing) → (result ≡ Err (Lack.NoElement m)) ↔ LeadsNowhere self.now path.now.steps m }
     {
         match self.find(path) {
-            Some(rank) => self.element_of_rank(rank),
-            None => Ok(None),
+            Ok(rank) => self.copy_of_rank(rank),
+            Err(missing) => Err(Lack::NoElement(missing)),
+        }
+    }
+
+    /// A copy of the element of a rank, which is there.
+    fn copy_of_rank(&self, rank: usize) -> Result<Element, Lack>
+        requires { rank < length (elements_of_all self.now.kids) }
+        ensures { MatchResult result (λ e. slice_get (elements_of_all self.now.kids) rank ≡ Some e) (λ lack. lack ≡ Lack.NoMemory) }
+    {
+        match self.element_of_rank(rank) {
+            Ok(Some(element)) => Ok(element),
+            Ok(None) => unreachable!(),
+            Err(NoMemory) => Err(Lack::NoMemory),
         }
     }
 
@@ -292,8 +300,8 @@ impl Sheet {
 
     /// The row of a rank, to be written in place, or `None` past the end.
     ///
-    /// When the loan ends, the submodel is what it was, but for what the row left says of the element of that rank. It may
-    /// say another kind.
+    /// When the loan ends, the submodel is what it was, but for what the row left says of the element of that rank. It
+    /// may say another kind.
     pub fn row_mut(&mut self, rank: usize) -> Option<&mut Row>
         ensures* writes_back { sem 𝓛 (LendsIf sheet_type row_type self.entry result (with_row self.old rank) self.old) }
         ensures row { MatchOption result (length (rows_of_all self.old.kids 1) ≤ rank) (λ r. IsRow self.old rank r.now) }
@@ -306,8 +314,8 @@ impl Sheet {
         ensures { result ≡ unwrap_or (rank_at self.now path.now.steps) 0 }
     {
         match self.find(path) {
-            Some(rank) => rank,
-            None => 0,
+            Ok(rank) => rank,
+            Err(_) => 0,
         }
     }
 
@@ -329,8 +337,8 @@ impl Sheet {
         put_payloads(self.rows.as_mut_slice(), patch.rows.as_mut_slice(), first);
     }
 
-    /// Adds the element as the last child of what the path leads to, of the submodel itself at the empty path, in the role
-    /// that it has there. That there are at most 65,536 elements then bounds the levels.
+    /// Adds the element as the last child of what the path leads to, of the submodel itself at the empty path, in the
+    /// role that it has there. That there are at most 65,536 elements then bounds the levels.
     pub fn insert(&mut self, path: &Path, element: Element) -> Result<(), NoMemory>
         requires takes { IsSome (role_at self.old path.now.steps element) }
         requires few { element_count (inserted self.old path.now.steps element) ≤ 65536 }

@@ -1,5 +1,9 @@
 pub mod Above
+pub mod Changed
+pub mod Counted
 pub mod InPlace
+pub mod KeptAll
+pub mod LaidOut
 pub mod Listed
 pub mod Merges
 pub mod Ordered

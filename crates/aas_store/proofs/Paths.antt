@@ -1,5 +1,5 @@
 -- What the rank of a path says of where the path leads.
-use Rattle.std.proofs.Common.{◌≡◌, ◌↔◌, ℕ, ◌+◌, Bool, false, List, [], ◌∷◌, length, take, Option, Some, None, option_and_then, option_map, slice_get, MatchOption, Result, Err, refl, sym, ap, ◌∙◌, subst, arith}
+use Rattle.std.proofs.Common.{◌≡◌, ◌↔◌, ℕ, ◌+◌, Bool, false, List, [], ◌∷◌, length, take, Option, Some, None, option_and_then, option_map, slice_get, Result, Err, refl, sym, ap, ◌∙◌, subst, arith}
 use Rattle.aas_model.specs.declared.documents.Submodel.{Submodel}
 use Rattle.aas_model.specs.declared.element.Element.{Element}
 use Rattle.aas_model.specs.declared.path.Missing.{Missing}
@@ -111,7 +111,3 @@ leads_somewhere d p rank m is lost = let none : Some rank ≡ None = is ∙ no_r
 -- so an answer of another kind is right there
 pub is_not_missing : {A : Type 0} (d : Submodel) (p : List PathStep) (rank : ℕ) (m : Missing) (r : Result A Lack) → Some rank ≡ rank_at d p → (r ≡ Err (NoElement m) → ⊥) → (r ≡ Err (NoElement m)) ↔ LeadsNowhere d p m
 is_not_missing d p rank m r is other = (λ e. absurd (other e), λ lost. absurd (leads_somewhere d p rank m is lost))
-
-pub is_there : {A : Type 0} (d : Submodel) (p : List PathStep) (m : Missing) (r : Result A Lack) (P : Element → Type 0) → MatchOption (element_at d p) ⊥ P → (r ≡ Err (NoElement m) → ⊥)
-    → (r ≡ Err (NoElement m)) ↔ LeadsNowhere d p m
-is_there d p m r P there other = (λ e. absurd (other e), λ lost. absurd (subst (λ (o : Option Element). MatchOption o ⊥ P) lost.0 there))

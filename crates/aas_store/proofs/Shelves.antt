@@ -1,6 +1,6 @@
 -- What the places of a shelf's entries say of its map.
 use borrow.Follows.Closed.{read_of}
-use Rattle.std.proofs.Common.{◌≡◌, ℕ, zero, suc, ◌<◌, ◌≤◌, ◌⊎◌, inl, inr, Bool, true, false, not, T, List, [], ◌∷◌, map, length, get_or, slice_get, slice_set, Box, Global, MutBor, Option, Some, None, option_map, Result, Ok, Err, MatchResult, OnOk, OnErr, refl, sym, ap, ◌∙◌, subst, arith, cond}
+use Rattle.std.proofs.Common.{◌≡◌, ℕ, zero, suc, ◌<◌, ◌≤◌, ◌-◌, ◌⊎◌, inl, inr, Bool, true, false, not, T, List, [], ◌∷◌, map, length, get_or, slice_get, slice_set, Box, Global, MutBor, Option, Some, None, option_map, Result, Ok, Err, MatchResult, OnOk, OnErr, refl, sym, ap, ◌∙◌, subst, arith, cond}
 use Rattle.std.specs.Str.{encode_utf8_all}
 use Rattle.std.specs.List.{insert, remove, find}
 use Rattle.std.specs.List.Sorted.{IsBinarySearchResult, IsNonDecreasingBy, IsPartitionPoint, IsPartitionedBy, IsSearchInRange}
@@ -72,6 +72,26 @@ absent_there {D = D} m id place gap = get-entries m id ∙ found_none (fin.entri
     by i e at (inl same) = ap is_eq (gap.above i e (omega arith) at)
     by i e at (inr (inl lt)) = ap is_eq (greater e.0 id (gap.below i e lt at))
     by i e at (inr (inr gt)) = ap is_eq (gap.above i e (omega arith) at)
+
+-- behind the last entry is the gap for what is above it
+pub gap_behind : {D : Type 0} (m : FinMap order D) (id : List ℕ) (last : List ℕ × D)
+    → slice_get (fin.entries m) (length (fin.entries m) - 1) ≡ Some last → order last.0 id ≡ Less
+    → IsGapFor m id (length (fin.entries m))
+gap_behind {D = D} m id last at less = record {
+  within = omega arith;
+  below = λ i e lt at_e. by i e lt at_e (cases_order i (length (fin.entries m) - 1));
+  above = λ i e le at_e. let lt = slice_get_within (fin.entries m) i e at_e in absurd (omega arith);
+}
+  where
+    by : (i : ℕ) (e : List ℕ × D) → i < length (fin.entries m) → slice_get (fin.entries m) i ≡ Some e
+        → (i ≡ length (fin.entries m) - 1)
+        ⊎ ((i < length (fin.entries m) - 1) ⊎ (length (fin.entries m) - 1 < i)) → order e.0 id ≡ Less
+    by i e lt at_e (inl same) =
+        let is : last ≡ e = same_Some last e (sym at ∙ ap (slice_get (fin.entries m)) (sym same) ∙ at_e) in
+        ap (λ (e : List ℕ × D). order e.0 id) (sym is) ∙ less
+    by i e lt at_e (inr (inl before)) = nat_list_cmp_total.trans e.0 last.0 id
+        (rising (fin.entries m) i (length (fin.entries m) - 1) e last (entries_sorted m) before at_e at) less
+    by i e lt at_e (inr (inr behind)) = absurd (omega arith)
 
 pub removed_absent : {D : Type 0} (m : FinMap order D) (id : List ℕ) → fin.get m id ≡ None → m ≡ fin.remove m id
 removed_absent {D = D} m id none = same_map nat_list_cmp_total same_id m (fin.remove m id) (λ q. by q (order q id) refl ∙ sym (get-remove nat_list_cmp_total m id q))
@@ -152,6 +172,11 @@ module _ {D : Type 0} (entries : List (Entry D)) (sorted : T (fin.is_sorted orde
     above = λ i p le at. nat_list_cmp_total.antisymm id p.0
         ∙ ap ordering_reverse (sym (compared i p id at) ∙ (parted (rises id)).1 i (entry_at i p at).0 le (slice_get_within entries i _ (entry_at i p at).1));
   }
+
+  pub behind_last : (id : List ℕ) (last : Entry D) → slice_get entries (length entries - 1) ≡ Some last
+      → order (encode_utf8_all last.id) id ≡ Less → IsGapFor m id (length entries)
+  behind_last id last at less = subst (IsGapFor m id) (sym length_is) (gap_behind m id _
+      (ap (λ n. slice_get (fin.entries m) (n - 1)) (sym length_is) ∙ pair_at (length entries - 1) last at) less)
 
   -- ---- what is read
 

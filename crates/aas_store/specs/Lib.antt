@@ -1,3 +1,4 @@
+pub mod DocumentStore
 pub mod Documents
 pub mod Edited
 pub mod Lent
@@ -9,4 +10,3 @@ pub mod Reads
 pub mod Shelf
 pub mod Spots
 pub mod Storable
-pub mod TreeStore

@@ -104,7 +104,10 @@ impl<D> Shelf<D> {
         ensures { MatchResult result (IsAt self.now id.now) (IsGapFor self.now id.now) }
     {
         let entries = self.entries.as_slice();
-        entries.binary_search_by(|entry| entry.compare(id))
+        match entries.last() {
+            Some(last) if last.compare(id).is_lt() => Err(entries.len()),
+            _ => entries.binary_search_by(|entry| entry.compare(id)),
+        }
     }
 
     /// The document of the identifier.

@@ -4,7 +4,7 @@ use Rattle.aas_model.specs.declared.path.PathStep.{PathStep}
 use Rattle.aas_rows.specs.Edits.{rank_among}
 use Rattle.aas_sheet_index.specs.Sides.{sizes_of}
 use Rattle.aas_sheet_index.specs.declared.side.Side.{Side}
-use Rattle.aas_sheet_rows.specs.Found.{all_rows, Among, AreBelow}
+use Rattle.aas_sheet_rows.specs.Found.{all_rows, Among}
 use Rattle.aas_sheet_rows.specs.declared.finding.Span.{Span}
 use Rattle.aas_sheet_rows.specs.declared.row.Row.{Row}
 use Rattle.aas_store.proofs.Paths.{no_steps}
@@ -28,20 +28,19 @@ returns-in_default-clause-rows c = λ d a.
     let none : c.args.path.now.steps ≡ [] = sym c.as_slice.ensures ∙ no_steps c.as_slice.result.now c.in_default.ensures.cases in
     subst (λ (p : List PathStep). Among rs ss b.first b.end b.level (children_at d p)) (sym none) (among_all rs ss b d.kids c.all_rows.ensures a)
 
-pub returns-in_err-rank-clause-rows : goal.returns-in_err-rank-clause-rows
-returns-in_err-rank-clause-rows c = λ d a.
+pub returns-in-Err-clause-rows : goal.returns-in-Err-clause-rows
+returns-in-Err-clause-rows c = λ d a.
     let rs : List Row = c.args.rows.now in
     let ss : List Side = c.args.sides.now in
     let all = among_all rs ss c.all_rows-span.result d.kids c.all_rows-span.ensures a in
-    subst (AreBelow rs ss (children_at d c.args.path.now.steps)) (sym c.from_residual.ensures)
-    (nothing_below d c.args.path.now.steps c.in-Some.rest.now c.in-Some.step.now (sym c.as_slice.ensures ∙ c.in-Some.ensures.cases.0)
-    (c.in_err-rank.ensures.value d.kids all ∙ from_all ss c.all_rows-span.result c.in-Some.step.now c.in-Some.rest.now d.kids c.all_rows-span.ensures))
+    nothing_below d c.args.path.now.steps c.in-Some.rest.now c.in-Some.step.now (sym c.as_slice.ensures ∙ c.in-Some.ensures.cases.0)
+    (c.in-Err.ensures.value d.kids all ∙ from_all ss c.all_rows-span.result c.in-Some.step.now c.in-Some.rest.now d.kids c.all_rows-span.ensures)
 
-pub returns-clause-rows : goal.returns-clause-rows
-returns-clause-rows c = λ d a.
+pub returns-in-Ok-clause-rows : goal.returns-in-Ok-clause-rows
+returns-in-Ok-clause-rows c = λ d a.
     let rs : List Row = c.args.rows.now in
     let ss : List Side = c.args.sides.now in
-    let rank : ℕ = c.in_ok-rank.rank in
+    let rank : ℕ = c.in-Ok.rank in
     let end : ℕ = c.rank_behind.result in
     let same : c.as_slice-all.result.now ≡ ss = c.as_slice-all.ensures in
     let side : Side = get_or c.as_slice-all.result.now rank c.index-all-rank.result in
@@ -49,5 +48,5 @@ returns-clause-rows c = λ d a.
     let size : slice_get (sizes_of ss) rank ≡ Some (end - rank) = sym (ap (λ (ss : List Side). slice_get (sizes_of ss) rank) same) ∙ c.rank_behind.ensures.value in
     let here : side ≡ get_or ss rank side = ap (get_or c.as_slice-all.result.now rank) c.index-all-rank.is ∙ ap (λ (ss : List Side). get_or ss rank side) same in
     found_below rs ss d c.args.path.now.steps c.in-Some.rest.now c.in-Some.step.now rank end side c.requires a (sym c.as_slice.ensures ∙ c.in-Some.ensures.cases.0)
-    (c.in_ok-rank.ensures.value d.kids all ∙ from_all ss c.all_rows-span.result c.in-Some.step.now c.in-Some.rest.now d.kids c.all_rows-span.ensures) c.in_ok-rank.ensures.inside
+    (c.in-Ok.ensures.value d.kids all ∙ from_all ss c.all_rows-span.result c.in-Some.step.now c.in-Some.rest.now d.kids c.all_rows-span.ensures) c.in-Ok.ensures.inside
     here size c.rank_behind.ensures.above
