@@ -1,6 +1,6 @@
 -- The references that aas_form makes lead back.
-use Rattle.std.proofs.Common.{◌≡◌, ℕ, zero, suc, ◌+◌, ◌<◌, ◌≤◌, ◌^◌, Bool, true, false, cond, nat_lt, List, [], ◌∷◌, ◌++◌, length, take, get_or, slice_get, Option, Some, None, option_map, option_and_then, Ok, refl, sym, ap, ◌∙◌, subst, arith, add-zero, zero-add, length-append}
-use Rattle.std.specs.Prelude.{is_some, unwrap_or, IfSome}
+use Rattle.std.proofs.Common.{◌≡◌, ℕ, zero, suc, ◌+◌, ◌<◌, ◌^◌, Bool, true, false, cond, nat_lt, List, [], ◌∷◌, ◌++◌, length, take, get_or, slice_get, Option, Some, None, option_map, option_and_then, Ok, refl, sym, ap, ◌∙◌, arith, add-zero, zero-add, length-append}
+use Rattle.std.specs.Prelude.{is_some, unwrap_or}
 use Rattle.std.specs.FinMap as map
 use Rattle.std.specs.Option.{option_map_or}
 use Rattle.std.specs.Str.{encode_utf8_all}
@@ -177,7 +177,7 @@ no_more : (l : Bool) (ks : List Element) (keys : List Key) → keys_in l [] ks �
 unfolding keys_in
 no_more l ks keys e = let same : [] ≡ keys = cc in sym same
 
-module _ (m : Documents) (id : Identifier) (d : Submodel) (stored : map.get m.submodels id ≡ Some d) (few : element_count d ≤ 65536) where
+module _ (m : Documents) (id : Identifier) (d : Submodel) (stored : map.get m.submodels id ≡ Some d) (few : element_count d < 2 ^ 64) where
   abbrev all : List Element
   all = elements_of_all d.kids
 
@@ -274,8 +274,7 @@ pub elements_lead_back : ElementsLeadBack
 elements_lead_back m d s p r few stored is =
     let id = encode_utf8_all d.head.id in
     let own = reference_keys d (s ∷ p) r (keys_in false (s ∷ p) d.kids) refl is in
-    let own_few : element_count d ≤ 65536 = subst (λ o. IfSome o (λ d. element_count d ≤ 65536)) stored (few id) in
-    let found = submodel_leads m id d stored own_few s p own.0 own.1 in
+    let found = submodel_leads m id d stored few s p own.0 own.1 in
     record {
       rank = found.0;
       resolves = ap (resolved m) own.2 ∙ by_submodel_key m d own.0 stored ∙ found.1;

@@ -1,11 +1,14 @@
 -- Numbers by their digits.
-use Rattle.std.proofs.Common.{◌≡◌, ℕ, ◌<◌, ◌≤◌, ◌^◌, true, false, cond, List, [], ◌∷◌, ◌++◌, length, decimal, Result, Ok, Err, Some, None, refl, sym, ap, ◌∙◌, subst, arith, rules}
-use Rattle.std.specs.Prelude.{nat_le, IfSome, MatchOption}
+use Rattle.std.proofs.Common.{◌≡◌, ℕ, ◌<◌, ◌≤◌, ◌^◌, true, false, cond, List, [], ◌∷◌, ◌++◌, length, decimal}
+use Rattle.std.proofs.Common.{Result, Ok, Err, Option, Some, None, refl, sym, ap, ◌∙◌, subst, arith, rules}
+use Rattle.std.specs.Prelude.{◌-◌, ◌==◌, min, nat_le, option_map}
 use Rattle.std.specs.List.{list_all}
-use Rattle.std.specs.Result.{OkIff, result_ok}
+use Rattle.std.specs.Result.{OkIff, result_unwrap_or}
 use Rattle.std.specs.Str.{encode_utf8_all}
 use Rattle.std.specs.Str.Parse.{ParsesUnsigned, digits_value}
+use Rattle.std.proofs.Math.Nat.{min-eq_left, min-eq_right}
 use Rattle.std.proofs.lemmas.Bool.{leb-true}
+use Rattle.std.proofs.lemmas.Bool.Decides.{nat_tests}
 use Rattle.std.proofs.lemmas.Fmt.{digits_decimal, digits_value-decimal, decimal_nonempty}
 use Rattle.std.proofs.lemmas.Str.{encode_ascii}
 use Rattle.std.proofs.lemmas.Str.Parse.{IsDigitsTest, IsNumeralModel, numerals_by_value, parse_digits}
@@ -47,18 +50,27 @@ as_bytes (d ∷ ds) e =
     let low : d ≤ 57 = leb-true d 57 (and_right (nat_le 48 d) (nat_le d 57) first) in
     ap (λ bs. bs ++ encode_utf8_all ds) (encode_ascii d (omega arith)) ∙ ap (λ bs. d ∷ bs) (as_bytes ds (and_right (is_digit d) (list_all is_digit ds) e))
 
-Reads : {E : Type 0} → List ℕ → Result ℕ E → Type 0
-Reads ds r = MatchOption (result_ok r) (IfSome (number ds) (λ n. 2 ^ 64 ≤ n)) (λ n. number ds ≡ Some n)
+abbrev capped : Option ℕ → Option ℕ
+capped o = option_map (min (2 ^ 64 - 1)) o
 
-by_result : {E : Type 0} (ds : List ℕ) (r : Result ℕ E) → AreDigits ds → OkIff r ((0 < length ds) × (digits_value 10 ds < 2 ^ 64)) (digits_value 10 ds) → Reads ds r
-unfolding Reads
-by_result ds (Ok n) all h = number_is ds all h.0.0 ∙ ap (λ n. Some n) (sym h.1)
-by_result [] (Err e) all h = tt
-by_result (d ∷ ds) (Err e) all h =
-    let large : 2 ^ 64 ≤ digits_value 10 (d ∷ ds) = omega (arith, λ (small : digits_value 10 (d ∷ ds) < 2 ^ 64). h (omega arith, small)) in
-    subst (λ o. IfSome o (λ n. 2 ^ 64 ≤ n)) (sym (number_is (d ∷ ds) all (omega arith))) large
+by_result : {E : Type 0} (ds : List ℕ) (r : Result ℕ E) → AreDigits ds → 0 < length ds
+    → OkIff r ((0 < length ds) × (digits_value 10 ds < 2 ^ 64)) (digits_value 10 ds)
+    → Some (result_unwrap_or r (2 ^ 64 - 1)) ≡ capped (number ds)
+by_result ds (Ok n) all some h =
+    let fits : digits_value 10 ds ≤ 2 ^ 64 - 1 = omega (arith, h.0.1) in
+    ap (λ n. Some n) (h.1 ∙ sym (min-eq_right fits)) ∙ sym (ap capped (number_is ds all some))
+by_result ds (Err e) all some h =
+    let large : 2 ^ 64 - 1 ≤ digits_value 10 ds =
+    omega (arith, λ (small : digits_value 10 ds < 2 ^ 64). h (some, small)) in
+    ap (λ n. Some n) (sym (min-eq_left large)) ∙ sym (ap capped (number_is ds all some))
 
-pub read : {E : Type 0} (ds bs : List ℕ) (r : Result ℕ E) → bs ≡ encode_utf8_all ds → list_all is_digit ds ≡ true → ParsesUnsigned 64 10 bs r
-    → MatchOption (result_ok r) (IfSome (number ds) (λ n. 2 ^ 64 ≤ n)) (λ n. number ds ≡ Some n)
-unfolding AreDigits Reads
-read ds bs r is all h = by_result ds r all (parse_digits own 64 ds r (subst (λ bs. ParsesUnsigned 64 10 bs r) (is ∙ as_bytes ds all) h) all)
+pub read : {E : Type 0} (ds bs : List ℕ) (r : Result ℕ E) → bs ≡ encode_utf8_all ds → list_all is_digit ds ≡ true
+    → (length bs == 0) ≡ false → ParsesUnsigned 64 10 bs r
+    → Some (result_unwrap_or r (2 ^ 64 - 1)) ≡ option_map (min (2 ^ 64 - 1)) (number ds)
+unfolding AreDigits
+read ds bs r is all some h =
+    let same : bs ≡ ds = is ∙ as_bytes ds all in
+    let long : length bs ≡ length ds = ap length same in
+    let more : 0 < length ds = grind (arith, nat_tests, some, long) in
+    let parsed = parse_digits own 64 ds r (subst (λ bs. ParsesUnsigned 64 10 bs r) same h) all in
+    by_result ds r all more parsed

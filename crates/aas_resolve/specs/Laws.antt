@@ -1,5 +1,5 @@
 -- The references that the server gives out lead back.
-use Rattle.std.specs.Prelude.{◌≡◌, ℕ, ◌+◌, false, List, [], ◌∷◌, length, take, slice_get, Some, None, Option, option_and_then, option_map, Ok}
+use Rattle.std.specs.Prelude.{◌≡◌, ℕ, ◌+◌, ◌<◌, ◌^◌, false, List, [], ◌∷◌, length, take, slice_get, Some, None, Option, option_and_then, option_map, Ok}
 use Rattle.std.specs.FinMap as map
 use Rattle.std.specs.Str.{encode_utf8_all}
 use Rattle.aas_form.specs.ReferenceTo.{reference_to, shell_reference}
@@ -11,9 +11,10 @@ use Rattle.aas_model.specs.declared.reference.Reference.{Reference}
 use Rattle.aas_model_names.specs.declared.collection.Collection.TheVariants.{Shells, Submodels}
 use Rattle.aas_path_trees.specs.Children.{kids_of, is_list}
 use Rattle.aas_path_trees.specs.ElementAt.{child_by, element_at}
+use Rattle.aas_path_trees.specs.Patched.{element_count}
 use Rattle.aas_store.specs.Documents.{Documents}
 use Rattle.aas_store.specs.Spots.{elements_of_all}
-use Rattle.aas_resolve.specs.Resolved.{HaveFewElements, resolved}
+use Rattle.aas_resolve.specs.Resolved.{resolved}
 
 -- the rank in preorder of the element to which a path leads, e itself having rank 0
 unfoldable pub rank_below : List PathStep → Element → Option ℕ
@@ -33,9 +34,9 @@ pub record LeadsTo (m : Documents) (r : Reference) (d : Submodel) (s : PathStep)
   pub of_path : rank_at d s p ≡ Some rank
   pub there : slice_get (elements_of_all d.kids) rank ≡ element_at d (s ∷ p)
 
--- to an element of a submodel that stands under its own identifier
+-- to an element of a submodel that stands under its own identifier and whose elements 64 bits count
 abbrev pub ElementsLeadBack : Type 0
-ElementsLeadBack = (m : Documents) (d : Submodel) (s : PathStep) (p : List PathStep) (r : Reference) → HaveFewElements m
+ElementsLeadBack = (m : Documents) (d : Submodel) (s : PathStep) (p : List PathStep) (r : Reference) → element_count d < 2 ^ 64
     → map.get m.submodels (encode_utf8_all d.head.id) ≡ Some d → reference_to d (s ∷ p) ≡ Some r → LeadsTo m r d s p
 
 -- to that submodel itself

@@ -3,7 +3,7 @@
 -- collections; that an idShort leads to the first child that has it; that under a SubmodelElementList a place is any count of ASCII digits, at
 -- least one; that a FragmentReference leads nowhere but as the last key, where it stays; and that an ExternalReference, as a reference without
 -- keys, leads nowhere at key 0.
-use Rattle.std.specs.Prelude.{ℕ, ◌+◌, ◌≤◌, Bool, true, false, if◌then◌else◌, List, [], ◌∷◌, bytes_eq, Option, Some, None, option_and_then, option_map, Result, Ok, Err, IfSome}
+use Rattle.std.specs.Prelude.{ℕ, ◌+◌, ◌-◌, ◌^◌, min, Bool, true, false, if◌then◌else◌, List, [], ◌∷◌, bytes_eq, Option, Some, None, option_and_then, option_map, Result, Ok, Err}
 use Rattle.std.specs.FinMap as map
 use Rattle.std.specs.List.{find, list_all}
 use Rattle.std.specs.Option.{option_map_or}
@@ -25,7 +25,6 @@ use Rattle.aas_model_names.specs.declared.kind.Kind.TheVariants as kind
 use Rattle.aas_reference.specs.Rules.{is_digit, is_external, is_fragment}
 use Rattle.aas_store.specs.Documents.{Documents, Identifier, has}
 use Rattle.aas_store.specs.Spots.{spot_below}
-use Rattle.aas_path_trees.specs.Patched.{element_count}
 use Rattle.aas_store.specs.declared.spot.Spot.{Spot}
 use Rattle.aas_resolve.specs.declared.target.Target.{Target}
 use Rattle.aas_resolve.specs.declared.target.Unresolved.{Unresolved}
@@ -64,6 +63,11 @@ number (c ∷ cs) = if list_all is_digit (c ∷ cs) then Some (digits_value 10 (
 abbrev pub step_spelled : Bool → List ℕ → Option PathStep
 step_spelled true value = option_map (λ n. Place n) (number value)
 step_spelled false value = Some (Name value)
+
+-- the same step, or that to the greatest place of 64 bits where its place is above that
+abbrev pub capped : PathStep → PathStep
+capped (Name name) = Name name
+capped (Place n) = Place (min (2 ^ 64 - 1) n)
 
 abbrev pub is_list : Kind → Bool
 is_list kind.SubmodelElementList = true
@@ -114,7 +118,3 @@ resolved_by m (k ∷ ks) = option_map_or (λ c. along (child_of m c (encode_utf8
 -- the target of a reference, or its first key that leads nowhere
 abbrev pub resolved : Documents → Reference → Result Target Unresolved
 resolved m r = if is_external (out-Reference r).ref_type then lost 0 else resolved_by m (out-Reference r).keys
-
--- each submodel has at most as many elements as a store takes
-abbrev pub HaveFewElements : Documents → Type 0
-HaveFewElements m = (id : Identifier) → IfSome (map.get m.submodels id) (λ d. element_count d ≤ 65536)

@@ -2,7 +2,6 @@ ghost use Rattle.std.specs.Prelude.{◌≡◌, ◌++◌, [], Bool, List, Option,
 ghost use Rattle.aas_constraint_rules.specs.Sites.{Own, sites, sites_among, tree_of, trees};
 ghost use Rattle.aas_constraints.specs.Walk.{above_of};
 ghost use Rattle.aas_resolve.specs.Dangling.{dangling, dangling_among, dangling_at, dangling_at_site, dangling_in, dangling_in_submodel};
-ghost use Rattle.aas_resolve.specs.Resolved.{HaveFewElements};
 
 use crate::referrer::Referrer;
 use crate::report::Dangling;
@@ -29,7 +28,6 @@ fn add_at<R: Referrer, S: Store>(
     path: &Path,
     referrer: &R,
 ) -> Result<(), NoMemory>
-    requires { HaveFewElements (S.documents store.now) }
     ensures { OnOk result (found.new ≡ found.old ++ dangling_at (S.documents store.now) collection id.now path.now.steps (R.references referrer.now)) }
 {
     let alloc = found.alloc();
@@ -55,7 +53,6 @@ fn add_in<S: Store>(
     path: &mut Path,
     element: &Element,
 ) -> Result<(), NoMemory>
-    requires { HaveFewElements (S.documents store.now) }
     ensures found { OnOk result ((t : Bool) (a : Option Own) (b : List Own) → found.new ≡ found.old ++ flat_map (dangling_at_site (S.documents store.now) id.now path.old.steps) (sites t a b (tree_of element.now))) }
     ensures path { OnOk result (path.new ≡ path.old) }
 {
@@ -73,7 +70,6 @@ fn add_below<S: Store>(
     kids: &Many<Element>,
     above: Option<&Element>,
 ) -> Result<(), NoMemory>
-    requires { HaveFewElements (S.documents store.now) }
     ensures found { OnOk result ((t : Bool) → found.new ≡ found.old ++ flat_map (dangling_at_site (S.documents store.now) id.now path.old.steps) (sites_among t (above_of above.entry) [] (trees (map tree_of kids.now)))) }
     ensures path { OnOk result (path.new ≡ path.old) }
 {
@@ -92,7 +88,6 @@ fn add_submodel<S: Store>(
     id: &str,
     submodel: &Submodel,
 ) -> Result<(), NoMemory>
-    requires { HaveFewElements (S.documents store.now) }
     ensures { OnOk result (found.new ≡ found.old ++ dangling_in_submodel (S.documents store.now) id.now submodel.now) }
 {
     let mut path = no_steps(found.alloc());
@@ -107,7 +102,6 @@ fn add_document<S: Store>(
     collection: Collection,
     id: &str,
 ) -> Result<(), NoMemory>
-    requires { HaveFewElements (S.documents store.now) }
     ensures { OnOk result (found.new ≡ found.old ++ dangling_in (S.documents store.now) collection id.now) }
 {
     let alloc = found.alloc();
@@ -133,7 +127,6 @@ fn add_collection<S: Store>(
     store: &S,
     collection: Collection,
 ) -> Result<(), NoMemory>
-    requires { HaveFewElements (S.documents store.now) }
     ensures { OnOk result (found.new ≡ found.old ++ dangling_among (S.documents store.now) collection) }
 {
     let mut after = None;
@@ -149,7 +142,6 @@ fn add_collection<S: Store>(
 ///
 /// A reference within another one, its `referredSemanticId`, and kept data aren't looked at. Each submodel is copied while it is looked at.
 pub fn dangling<S: Store>(alloc: Global, store: &S) -> Result<Many<Dangling>, NoMemory>
-    requires { HaveFewElements (S.documents store.now) }
     ensures { IfOk result (λ found. found ≡ dangling (S.documents store.now)) }
 {
     let mut found = Many::new(alloc);

@@ -1,7 +1,6 @@
 ghost use Rattle.std.specs.Prelude.{◌≡◌, ◌++◌, OnOk};
 ghost use Rattle.aas_resolve.specs.Dangling.{dangling_keys};
 ghost use Rattle.aas_resolve.specs.OwnMembers.{before_qualifiers, before_semantic_id, behind_all, behind_semantic_id};
-ghost use Rattle.aas_resolve.specs.Resolved.{HaveFewElements};
 
 use crate::referrer::{
     Referrer, add_keys_among, add_keys_if_any, add_keys_of_list, add_keys_of_option,
@@ -16,7 +15,6 @@ fn add_before_qualifiers<S: Store>(
     store: &S,
     keys: &mut Many<usize>,
 ) -> Result<(), NoMemory>
-    requires { HaveFewElements (S.documents store.now) }
     ensures { OnOk result (keys.new ≡ keys.old ++ dangling_keys (S.documents store.now) (before_qualifiers payload.now)) }
 {
     match payload {
@@ -41,7 +39,6 @@ fn add_before_semantic_id<S: Store>(
     store: &S,
     keys: &mut Many<usize>,
 ) -> Result<(), NoMemory>
-    requires { HaveFewElements (S.documents store.now) }
     ensures { OnOk result (keys.new ≡ keys.old ++ dangling_keys (S.documents store.now) (before_semantic_id payload.now)) }
 {
     match payload {
@@ -58,7 +55,6 @@ fn add_behind_semantic_id<S: Store>(
     store: &S,
     keys: &mut Many<usize>,
 ) -> Result<(), NoMemory>
-    requires { HaveFewElements (S.documents store.now) }
     ensures { OnOk result (keys.new ≡ keys.old ++ dangling_keys (S.documents store.now) (behind_semantic_id payload.now)) }
 {
     match payload {
@@ -79,7 +75,6 @@ fn add_behind_all<S: Store>(
     store: &S,
     keys: &mut Many<usize>,
 ) -> Result<(), NoMemory>
-    requires { HaveFewElements (S.documents store.now) }
     ensures { OnOk result (keys.new ≡ keys.old ++ dangling_keys (S.documents store.now) (behind_all payload.now)) }
 {
     match payload {

@@ -2,7 +2,6 @@ ghost use Rattle.std.specs.Prelude.{◌≡◌, ◌∷◌, ◌++◌, [], List, On
 ghost use Rattle.aas_model.specs.declared.reference.Reference.{Reference};
 ghost use Rattle.aas_constraint_rules.specs.Texts.{as_list};
 ghost use Rattle.aas_resolve.specs.Dangling.{dangling_keys};
-ghost use Rattle.aas_resolve.specs.Resolved.{HaveFewElements};
 
 use crate::resolution::resolve;
 use aas_model::{
@@ -18,7 +17,6 @@ pub(crate) trait Referrer {
 
     /// Adds the first lost key of each of its ModelReferences that lead nowhere.
     fn add_dangling_keys<S: Store>(&self, store: &S, keys: &mut Many<usize>) -> Result<(), NoMemory>
-        requires { HaveFewElements (S.documents store.now) }
         ensures { OnOk result (keys.new ≡ keys.old ++ dangling_keys (S.documents store.now) (references self.now)) };
 }
 
@@ -28,7 +26,6 @@ pub(crate) fn add_keys_among<T: Referrer, S: Store>(
     store: &S,
     keys: &mut Many<usize>,
 ) -> Result<(), NoMemory>
-    requires { HaveFewElements (S.documents store.now) }
     ensures { OnOk result (keys.new ≡ keys.old ++ dangling_keys (S.documents store.now) (flat_map T.references items.now)) }
 {
     for item in items.as_slice() {
@@ -43,7 +40,6 @@ pub(crate) fn add_keys_if_any<T: Referrer, S: Store>(
     store: &S,
     keys: &mut Many<usize>,
 ) -> Result<(), NoMemory>
-    requires { HaveFewElements (S.documents store.now) }
     ensures { OnOk result (keys.new ≡ keys.old ++ dangling_keys (S.documents store.now) (flat_map T.references (as_list item.now))) }
 {
     match item {
@@ -58,7 +54,6 @@ pub(crate) fn add_keys_of_list<S: Store>(
     store: &S,
     keys: &mut Many<usize>,
 ) -> Result<(), NoMemory>
-    requires { HaveFewElements (S.documents store.now) }
     ensures { OnOk result (keys.new ≡ keys.old ++ dangling_keys (S.documents store.now) references.now) }
 {
     add_keys_among(references, store, keys)
@@ -70,7 +65,6 @@ pub(crate) fn add_keys_of_option<S: Store>(
     store: &S,
     keys: &mut Many<usize>,
 ) -> Result<(), NoMemory>
-    requires { HaveFewElements (S.documents store.now) }
     ensures { OnOk result (keys.new ≡ keys.old ++ dangling_keys (S.documents store.now) (as_list reference.now)) }
 {
     add_keys_if_any(reference, store, keys)

@@ -1,5 +1,8 @@
-ghost use Rattle.std.specs.Prelude.{◌≡◌, ◌≤◌, ◌^◌, None, Ok, Some, IfSome, MatchOption};
-ghost use Rattle.aas_resolve.specs.Resolved.{HaveFewElements, admits, along, child_of, collection_named, is_list_at, number, rank_of, reached, resolved, stays};
+ghost use Rattle.std.specs.Prelude.{◌≡◌, ◌-◌, ◌^◌, None, Ok, min, option_and_then, option_map};
+ghost use Rattle.std.specs.FinMap as map;
+ghost use Rattle.aas_store.specs.Spots.{step_of};
+ghost use Rattle.aas_resolve.specs.Resolved.{admits, along, capped, child_named, child_of, collection_named, is_list_at};
+ghost use Rattle.aas_resolve.specs.Resolved.{number, rank_of, reached, resolved, stays, step_spelled};
 
 use crate::target::{Target, Unresolved};
 use aas_model::{Collection, Key, KeyType, Kind, Named, Reference, ReferenceType, Text};
@@ -48,16 +51,27 @@ fn admits(key_type: KeyType, kind: Kind) -> bool
     }
 }
 
-/// The number that ASCII digits spell. `None` where the text is something else, and where the number has more than 64 bits.
+/// The number that ASCII digits spell, or the greatest of 64 bits where it is larger. `None` where the text is
+/// something else.
 fn number(text: &Text) -> Option<u64>
-    ensures { MatchOption result (IfSome (number text.now) (λ n. 2 ^ 64 ≤ n)) (λ n. number text.now ≡ Some n) }
+    ensures { result ≡ option_map (min (2 ^ 64 - 1)) (number text.now) }
 {
     let digits = text.as_str();
-    if are_digits(digits) {
-        digits.parse().ok()
-    } else {
-        None
+    if digits.is_empty() || !are_digits(digits) {
+        return None;
     }
+    Some(digits.parse().unwrap_or(u64::MAX))
+}
+
+/// The step that the value of a later key spells, from a list or from something else.
+fn step_spelled(in_list: bool, value: &Text) -> Option<StepRef<'_>>
+    ensures { option_map step_of result ≡ option_map capped (step_spelled in_list value.now) }
+{
+    if in_list {
+        let place = number(value)?;
+        return Some(StepRef::Place(place));
+    }
+    Some(StepRef::Name(value.as_str()))
 }
 
 fn is_list_at(at: Option<Spot>) -> bool
@@ -75,6 +89,20 @@ fn rank_of(at: Option<Spot>) -> Option<u64>
     at.map(|spot| spot.rank)
 }
 
+/// The child that a later key names in the submodel of the identifier, below an element or the submodel itself.
+fn child_named<S: Store>(store: &S, id: &str, at: Option<Spot>, key: &Key) -> Option<Spot>
+    ensures { result
+        ≡ option_and_then (λ d. child_named d at key.now) (map.get (S.documents store.now).submodels id.now) }
+{
+    let step = step_spelled(is_list_at(at), &key.value)?;
+    let spot = store.child(id, rank_of(at), step)?;
+    if admits(key.key_type, spot.kind) {
+        Some(spot)
+    } else {
+        None
+    }
+}
+
 /// The child that a later key names in the document of the identifier, below an element or the document itself.
 fn child_of<S: Store>(
     store: &S,
@@ -83,22 +111,11 @@ fn child_of<S: Store>(
     at: Option<Spot>,
     key: &Key,
 ) -> Option<Spot>
-    requires { HaveFewElements (S.documents store.now) }
     ensures { result ≡ child_of (S.documents store.now) collection id.now at key.now }
 {
-    if !matches!(collection, Collection::Submodels) {
-        return None;
-    }
-    let step = if is_list_at(at) {
-        StepRef::Place(number(&key.value)?)
-    } else {
-        StepRef::Name(key.value.as_str())
-    };
-    let spot = store.child(id, rank_of(at), step)?;
-    if admits(key.key_type, spot.kind) {
-        Some(spot)
-    } else {
-        None
+    match collection {
+        Collection::Submodels => child_named(store, id, at, key),
+        Collection::Shells | Collection::Concepts => None,
     }
 }
 
@@ -125,7 +142,6 @@ fn along<S: Store>(
     id: &str,
     keys: &[Key],
 ) -> Result<Target, Unresolved>
-    requires { HaveFewElements (S.documents store.now) }
     ensures { result ≡ along (child_of (S.documents store.now) collection id.now) collection 1 None keys.now }
 {
     let mut at = None;
@@ -145,7 +161,6 @@ fn along<S: Store>(
 ///
 /// IDTA-01001-3-0, class Reference.
 pub fn resolve<S: Store>(store: &S, reference: &Reference) -> Result<Target, Unresolved>
-    requires { HaveFewElements (S.documents store.now) }
     ensures { result ≡ resolved (S.documents store.now) reference.now }
 {
     if matches!(reference.ref_type, ReferenceType::ExternalReference) {

@@ -103,7 +103,7 @@ module _ {X : Type 0} where
 has_none : (X : Type 0) (q : Identifier) → IsIn {X = X} map.empty q → ⊥
 has_none X q has = true≢false (sym has ∙ ap is_some (get-empty (slice_cmp nat_cmp) q))
 
--- ---- one step after another: identifiers are taken into the set, and those that it hadn't wait
+-- ---- one step after another: identifiers are taken into the set, and those that it hadn't wait, where they lead on
 
 -- how much is left to do: those that aren't taken count twice, those that wait once
 abbrev pub is_out : {X : Type 0} → Map X → Identifier → Bool
@@ -113,28 +113,31 @@ abbrev pub weight : {X : Type 0} → List Identifier → Map X → List Identifi
 weight all taken waiting = 2 * count_by (is_out taken) all + length waiting
 
 -- some identifiers are taken
-pub record Takes {X : Type 0} (all : List Identifier) (taken : Map X) (waiting : List Identifier) (taken' : Map X) (waiting' : List Identifier) (ids : List Identifier) : Type 0 where
+pub record Takes {X : Type 0} (next : Identifier → List Identifier) (all : List Identifier)
+    (taken : Map X) (waiting : List Identifier) (taken' : Map X) (waiting' ids : List Identifier) : Type 0 where
   pub kept : (id : Identifier) → IsIn taken id → IsIn taken' id
   pub added : (id : Identifier) → Contains ids id → IsIn taken' id
   pub from : (id : Identifier) → IsIn taken' id → IsIn taken id ⊎ Contains ids id
   pub still : (id : Identifier) → Contains waiting id → Contains waiting' id
-  pub new : (id : Identifier) → IsIn taken' id → IsIn taken id ⊎ Contains waiting' id
+  pub new : (from id : Identifier) → IsIn taken' from → Contains (next from) id
+      → IsIn taken from ⊎ Contains waiting' from
   pub waits : (id : Identifier) → Contains waiting' id → Contains waiting id ⊎ Contains ids id
   pub lighter : weight all taken' waiting' ≤ weight all taken waiting
 
-module _ {X : Type 0} (all : List Identifier) where
-  pub takes_nothing : (t : Map X) (w : List Identifier) → Takes all t w t w []
+module _ {X : Type 0} (next : Identifier → List Identifier) (all : List Identifier) where
+  pub takes_nothing : (t : Map X) (w : List Identifier) → Takes next all t w t w []
   takes_nothing t w = record {
     kept = λ id has. has;
     added = λ id has. absurd (contains_none id has);
     from = λ id has. inl has;
     still = λ id has. has;
-    new = λ id has. inl has;
+    new = λ id to has leads. inl has;
     waits = λ id has. inl has;
     lighter = omega arith;
   }
 
-  pub takes_both : (t u v : Map X) (w x y xs ys : List Identifier) → Takes all t w u x xs → Takes all u x v y ys → Takes all t w v y (xs ++ ys)
+  pub takes_both : (t u v : Map X) (w x y xs ys : List Identifier) → Takes next all t w u x xs
+      → Takes next all u x v y ys → Takes next all t w v y (xs ++ ys)
   takes_both t u v w x y xs ys a b = record {
     kept = λ id has. b.kept id (a.kept id has);
     added = λ id has. elim (Contains-append_cases xs ys id has) [ inl here ↦ b.kept id (a.added id here) | inr later ↦ b.added id later ];
@@ -143,8 +146,8 @@ module _ {X : Type 0} (all : List Identifier) where
       | inr later ↦ inr (Contains-append_right xs ys id later)
     ];
     still = λ id has. b.still id (a.still id has);
-    new = λ id has. elim (b.new id has) [
-      | inl before ↦ elim (a.new id before) [ inl first ↦ inl first | inr waits ↦ inr (b.still id waits) ]
+    new = λ id to has leads. elim (b.new id to has leads) [
+      | inl before ↦ elim (a.new id to before leads) [ inl first ↦ inl first | inr waits ↦ inr (b.still id waits) ]
       | inr waits ↦ inr waits
     ];
     waits = λ id has. elim (b.waits id has) [
@@ -155,13 +158,13 @@ module _ {X : Type 0} (all : List Identifier) where
   }
 
   -- one that is taken already
-  pub takes_again : (t : Map X) (w : List Identifier) (id : Identifier) → IsIn t id → Takes all t w t w (id ∷ [])
+  pub takes_again : (t : Map X) (w : List Identifier) (id : Identifier) → IsIn t id → Takes next all t w t w (id ∷ [])
   takes_again t w id there = record {
     kept = λ q has. has;
     added = λ q has. elim (contains_cases id q [] has) [ inl same ↦ subst (λ q. IsIn t q) same there | inr none ↦ absurd (contains_none q none) ];
     from = λ q has. inl has;
     still = λ q has. has;
-    new = λ q has. inl has;
+    new = λ q to has leads. inl has;
     waits = λ q has. inl has;
     lighter = omega arith;
   }
@@ -173,19 +176,43 @@ module _ {X : Type 0} (all : List Identifier) where
       by false is = refl
       by true is = absurd (true≢false (sym out ∙ ap not (has_kept t id q x is)))
 
-  -- one that isn't, and is among all
-  pub takes_one : (t : Map X) (w : List Identifier) (id : Identifier) (x : X) → Contains all id → map.contains_key t id ≡ false → Takes all t w (map.insert t id x) (w ++ id ∷ []) (id ∷ [])
-  takes_one t w id x known out =
-      let less : count_by (is_out (map.insert t id x)) all < count_by (is_out t) all = fewer (is_out t) (is_out (map.insert t id x)) id all (out_before t id x) known (ap not out) (ap not (has_inserted t id x)) in
-      let long : length (w ++ id ∷ []) ≡ length w + 1 = length-append w (id ∷ []) in record {
+  -- one that isn't, and is among all: it waits, or leads nowhere
+  takes_new : (t : Map X) (w w' : List Identifier) (id : Identifier) (x : X) → Contains all id
+      → map.contains_key t id ≡ false → ((q : Identifier) → Contains w q → Contains w' q)
+      → ((q : Identifier) → Contains w' q → Contains w q ⊎ Contains (id ∷ []) q)
+      → ((to : Identifier) → Contains (next id) to → Contains w' id) → length w' ≤ length w + 1
+      → Takes next all t w (map.insert t id x) w' (id ∷ [])
+  takes_new t w w' id x known out still waits leading long =
+      let u = map.insert t id x in
+      let less : count_by (is_out u) all < count_by (is_out t) all =
+      fewer (is_out t) (is_out u) id all (out_before t id x) known (ap not out) (ap not (has_inserted t id x)) in
+      record {
         kept = λ q has. has_kept t id q x has;
         added = λ q has. elim (contains_cases id q [] has) [ inl same ↦ subst (λ q. IsIn (map.insert t id x) q) same (has_inserted t id x) | inr none ↦ absurd (contains_none q none) ];
         from = λ q has. elim (has_cases t id q x has) [ inl before ↦ inl before | inr same ↦ inr (subst (λ q. Contains (id ∷ []) q) same (contains_first id [])) ];
-        still = λ q has. Contains-append_left w (id ∷ []) q has;
-        new = λ q has. elim (has_cases t id q x has) [ inl before ↦ inl before | inr same ↦ inr (subst (λ q. Contains (w ++ id ∷ []) q) same (Contains-push w id)) ];
-        waits = λ q has. elim (Contains-append_cases w (id ∷ []) q has) [ inl before ↦ inl before | inr here ↦ inr here ];
+        still = still;
+        new = λ q to has leads. elim (has_cases t id q x has) [
+          | inl before ↦ inl before
+          | inr same ↦
+              inr (subst (λ q. Contains w' q) same (leading to (subst (λ q. Contains (next q) to) (sym same) leads)))
+        ];
+        waits = waits;
         lighter = omega (arith, less, long);
       }
+
+  pub takes_one : (t : Map X) (w : List Identifier) (id : Identifier) (x : X) → Contains all id
+      → map.contains_key t id ≡ false → Takes next all t w (map.insert t id x) (w ++ id ∷ []) (id ∷ [])
+  takes_one t w id x known out =
+      let long : length (w ++ id ∷ []) ≡ length w + 1 = length-append w (id ∷ []) in
+      takes_new t w (w ++ id ∷ []) id x known out
+      (λ q has. Contains-append_left w (id ∷ []) q has) (λ q has. Contains-append_cases w (id ∷ []) q has)
+      (λ to leads. Contains-push w id) (omega (arith, long))
+
+  pub takes_last : (t : Map X) (w : List Identifier) (id : Identifier) (x : X) → Contains all id
+      → map.contains_key t id ≡ false → next id ≡ [] → Takes next all t w (map.insert t id x) w (id ∷ [])
+  takes_last t w id x known out nowhere =
+      takes_new t w w id x known out (λ q has. has) (λ q has. inl has)
+      (λ to leads. absurd (contains_none to (subst (λ ids. Contains ids to) nowhere leads))) (omega arith)
 
 -- ---- from the roots on
 
@@ -197,21 +224,24 @@ pub record Closing {X : Type 0} (next : Identifier → List Identifier) (roots :
   pub closed : (from id : Identifier) → IsIn taken from → Contains (next from) id → IsIn taken id ⊎ Contains waiting from
 
 module _ {X : Type 0} (next : Identifier → List Identifier) (roots all : List Identifier) where
-  pub closing_begun : (t : Map X) (w : List Identifier) → Takes all map.empty [] t w roots → Closing next roots t w
+  pub closing_begun : (t : Map X) (w : List Identifier) → Takes next all map.empty [] t w roots → Closing next roots t w
   closing_begun t w a = record {
     sound = λ id has. elim (a.from id has) [ inl none ↦ absurd (has_none X id none) | inr here ↦ at_root id here ];
     waits = λ id has. elim (a.waits id has) [ inl none ↦ absurd (contains_none id none) | inr here ↦ a.added id here ];
     rooted = a.added;
-    closed = λ from id has leads. elim (a.new from has) [ inl none ↦ absurd (has_none X from none) | inr waits ↦ inr waits ];
+    closed = λ from id has leads. elim (a.new from id has leads) [
+      | inl none ↦ absurd (has_none X from none)
+      | inr waits ↦ inr waits
+    ];
   }
 
   pub closing_next : (t u : Map X) (old w x : List Identifier) (from : Identifier) → ((q : Identifier) → Contains old q → Contains w q ⊎ (from ≡ q)) → ((q : Identifier) → Contains w q → Contains old q) → Contains old from
-      → Closing next roots t old → Takes all t w u x (next from) → Closing next roots u x
+      → Closing next roots t old → Takes next all t w u x (next from) → Closing next roots u x
   closing_next t u old w x from left less first c a = record {
     sound = λ id has. elim (a.from id has) [ inl before ↦ c.sound id before | inr here ↦ onward from id (c.sound from (c.waits from first)) here ];
     waits = λ id has. elim (a.waits id has) [ inl before ↦ a.kept id (c.waits id (less id before)) | inr here ↦ a.added id here ];
     rooted = λ id here. a.kept id (c.rooted id here);
-    closed = λ f id has leads. elim (a.new f has) [
+    closed = λ f id has leads. elim (a.new f id has leads) [
       | inl before ↦ elim (c.closed f id before leads) [
         | inl taken ↦ inl (a.kept id taken)
         | inr waits ↦ elim (left f waits) [ inl still ↦ inr (a.still f still) | inr same ↦ inl (a.added id (subst (λ f. Contains (next f) id) (sym same) leads)) ]
@@ -231,25 +261,36 @@ closing_done next roots t c id = (c.sound id, all_taken next roots t c id)
 -- ---- there is one
 
 -- a set and identifiers that wait
-pub record HasTakenAll (all : List Identifier) (taken : Set) (waiting ids : List Identifier) : Type 0 where
+pub record HasTakenAll (next : Identifier → List Identifier) (all : List Identifier)
+    (taken : Set) (waiting ids : List Identifier) : Type 0 where
   pub taken' : Set
   pub waiting' : List Identifier
-  pub takes : Takes all taken waiting taken' waiting' ids
+  pub takes : Takes next all taken waiting taken' waiting' ids
 
-take_all : (all : List Identifier) (ids : List Identifier) → ((id : Identifier) → Contains ids id → Contains all id) → (t : Set) (w : List Identifier) → HasTakenAll all t w ids
-take_all all [] known t w = record { taken' = t; waiting' = w; takes = takes_nothing all t w }
-take_all all (id ∷ ids) known t w = by (take_all all ids more) (map.contains_key t id) refl
+take_all : (next : Identifier → List Identifier) (all ids : List Identifier)
+    → ((id : Identifier) → Contains ids id → Contains all id) → (t : Set) (w : List Identifier)
+    → HasTakenAll next all t w ids
+take_all next all [] known t w = record { taken' = t; waiting' = w; takes = takes_nothing next all t w }
+take_all next all (id ∷ ids) known t w = by (take_all next all ids more) (map.contains_key t id) refl
   where
     more : (q : Identifier) → Contains ids q → Contains all q
     more q has = known q (contains_more id q ids has)
 
-    with_first : (u : Set) (x : List Identifier) → Takes all t w u x (id ∷ []) → HasTakenAll all u x ids → HasTakenAll all t w (id ∷ ids)
-    with_first u x first rest = record { taken' = rest.taken'; waiting' = rest.waiting'; takes = takes_both all t u rest.taken' w x rest.waiting' (id ∷ []) ids first rest.takes }
+    with_first : (u : Set) (x : List Identifier) → Takes next all t w u x (id ∷ []) → HasTakenAll next all u x ids
+        → HasTakenAll next all t w (id ∷ ids)
+    with_first u x first rest = record {
+      taken' = rest.taken';
+      waiting' = rest.waiting';
+      takes = takes_both next all t u rest.taken' w x rest.waiting' (id ∷ []) ids first rest.takes;
+    }
 
-    by : ((u : Set) (x : List Identifier) → HasTakenAll all u x ids) → (b : Bool) → map.contains_key t id ≡ b → HasTakenAll all t w (id ∷ ids)
-    by rest true there = with_first t w (takes_again all t w id there) (rest t w)
+    by : ((u : Set) (x : List Identifier) → HasTakenAll next all u x ids) → (b : Bool) → map.contains_key t id ≡ b
+        → HasTakenAll next all t w (id ∷ ids)
+    by rest true there = with_first t w (takes_again next all t w id there) (rest t w)
     by rest false out =
-        with_first (map.insert t id tt) (w ++ id ∷ []) (takes_one all t w id tt (known id (contains_first id ids)) out) (rest (map.insert t id tt) (w ++ id ∷ []))
+        with_first (map.insert t id tt) (w ++ id ∷ [])
+        (takes_one next all t w id tt (known id (contains_first id ids)) out)
+        (rest (map.insert t id tt) (w ++ id ∷ []))
 
 module _ (next : Identifier → List Identifier) (roots all : List Identifier) (next_known : (from id : Identifier) → Contains (next from) id → Contains all id) where
   closes : (n : ℕ) (t : Set) (w : List Identifier) → weight all t w ≤ n → Closing next roots t w → (s : Set) × IsReached next roots s
@@ -257,14 +298,14 @@ module _ (next : Identifier → List Identifier) (roots all : List Identifier) (
   closes (suc n) t [] le c = (t, closing_done next roots t c)
   closes zero t (from ∷ w) le c = absurd (omega (arith, le))
   closes (suc n) t (from ∷ w) le c =
-      let more = take_all all (next from) (next_known from) t w in
+      let more = take_all next all (next from) (next_known from) t w in
       closes n more.taken' more.waiting' (omega (arith, le, more.takes.lighter))
       (closing_next next roots all t more.taken' (from ∷ w) w more.waiting' from
       (λ q has. elim (contains_cases from q w has) [ inl same ↦ inr same | inr later ↦ inl later ]) (λ q has. contains_more from q w has) (contains_first from w) c more.takes)
 
   one_reached : ((id : Identifier) → Contains roots id → Contains all id) → (s : Set) × IsReached next roots s
   one_reached roots_known =
-      let begun = take_all all roots roots_known map.empty [] in
+      let begun = take_all next all roots roots_known map.empty [] in
       closes (weight all begun.taken' begun.waiting') begun.taken' begun.waiting' (omega arith) (closing_begun next roots all begun.taken' begun.waiting' begun.takes)
 
   -- the set: all that is known of it stands in the lemma behind it

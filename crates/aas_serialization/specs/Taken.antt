@@ -10,11 +10,12 @@ use Rattle.aas_serialization.specs.declared.taken.Taken.{Taken}
 
 -- the identifiers that wait
 abbrev pub waiting_in : Taken → List Identifier
-waiting_in t = map encode_utf8_all t.waiting.items
+waiting_in t = map (λ id. encode_utf8_all id.now) t.waiting.items
 
 -- some identifiers of concept descriptions are taken
 abbrev pub TakesIds : Documents → Taken → Taken → List Identifier → Type 0
-TakesIds m old new found = Takes (ids Concepts m) old.ids (waiting_in old) new.ids (waiting_in new) found
+TakesIds m old new found =
+    Takes (cases_named m) (ids Concepts m) old.ids (waiting_in old) new.ids (waiting_in new) found
 
 -- what some references name is taken
 abbrev pub TakesAlong : Documents → Taken → Taken → List Reference → Type 0

@@ -2,7 +2,6 @@
 ghost use Rattle.std.specs.Prelude.{◌≡◌, ◌⊎◌, Err, IfOk};
 ghost use Rattle.std.specs.Option.{option_copied};
 ghost use Rattle.aas_serialization.specs.Chosen.{chosen, fault_of, first_absent, set_of, concepts_along};
-ghost use Rattle.aas_resolve.specs.Resolved.{HaveFewElements};
 ghost use Rattle.aas_serialization.specs.declared.fault.GatherFault.TheVariants.{NoMemory as no_memory};
 
 use crate::closing::concept_closure;
@@ -54,7 +53,6 @@ fn concepts_along<S: Store>(
     shells: &Shelf<()>,
     submodels: &Shelf<()>,
 ) -> Result<Shelf<()>, NoMemory>
-    requires { HaveFewElements (S.documents store.now) }
     ensures { IfOk result (λ ids. ids ≡ concepts_along (S.documents store.now) concepts shells.now submodels.now) }
 {
     if concepts {
@@ -81,8 +79,7 @@ fn fault_of<S: Store>(
     Ok(None)
 }
 
-/// The documents of the environment that is asked for, by their identifiers. That a submodel has at most 65,536 elements
-/// bounds the ranks of its rows.
+/// The documents of the environment that is asked for, by their identifiers.
 ///
 /// # Errors
 ///
@@ -93,7 +90,6 @@ pub fn choose<S: Store>(
     submodels: &Many<Text>,
     concepts: bool,
 ) -> Result<Chosen, GatherFault>
-    requires { HaveFewElements (S.documents store.now) }
     ensures { (result ≡ Err no_memory) ⊎ (result ≡ chosen (S.documents store.now) shells.now submodels.now concepts) }
 {
     if let Some(fault) = fault_of(store, shells, submodels)? {

@@ -3,7 +3,6 @@ ghost use Rattle.std.specs.Prelude.{◌≡◌, List, IfOk, OnOk};
 ghost use Rattle.aas_model.specs.declared.reference.Reference.{Reference};
 ghost use Rattle.aas_serialization.specs.Chosen.{roots_of};
 ghost use Rattle.aas_serialization.specs.Closure.{cases_named, concept_closure};
-ghost use Rattle.aas_resolve.specs.Resolved.{HaveFewElements};
 ghost use Rattle.aas_serialization.specs.Taken.{IsClosing, TakesIds};
 
 use crate::rooted::take_list;
@@ -14,7 +13,7 @@ use aas_store::{Shelf, Store};
 use std::alloc::Global;
 
 /// Takes what the isCaseOf references of the concept description of the identifier name.
-fn take_cases<S: Store>(id: &str, store: &S, taken: &mut Taken) -> Result<(), NoMemory>
+fn take_cases<'a, S: Store>(id: &str, store: &'a S, taken: &mut Taken<'a>) -> Result<(), NoMemory>
     ensures { OnOk result (TakesIds (S.documents store.now) taken.old taken.new (cases_named (S.documents store.now) id.now)) }
 {
     match store.concept(id) {
@@ -27,8 +26,8 @@ fn take_cases<S: Store>(id: &str, store: &S, taken: &mut Taken) -> Result<(), No
 }
 
 /// The concept descriptions that some references take along, where all that these name is taken.
-fn follow_cases<S: Store>(store: &S, mut taken: Taken) -> Result<Shelf<()>, NoMemory>
-    ensures { IfOk result (λ ids. (roots : List Reference) → IsClosing (S.documents store.now) roots taken → ids ≡ concept_closure (S.documents store.now) roots) }
+fn follow_cases<'a, S: Store>(store: &'a S, mut taken: Taken<'a>) -> Result<Shelf<()>, NoMemory>
+    ensures { IfOk result (λ ids. (roots : List Reference) → IsClosing (S.documents store.now) roots taken.entry → ids ≡ concept_closure (S.documents store.now) roots) }
 {
     while let Some(id) = taken.waiting.pop() {
         take_cases(id.as_str(), store, &mut taken)?;
@@ -43,7 +42,6 @@ pub(crate) fn concept_closure<S: Store>(
     shells: &Shelf<()>,
     submodels: &Shelf<()>,
 ) -> Result<Shelf<()>, NoMemory>
-    requires { HaveFewElements (S.documents store.now) }
     ensures { IfOk result (λ ids. ids ≡ concept_closure (S.documents store.now) (roots_of (S.documents store.now) shells.now submodels.now)) }
 {
     let mut taken = Taken::nothing(alloc);

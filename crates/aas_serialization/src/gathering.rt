@@ -4,7 +4,6 @@ ghost use Rattle.std.specs.FinMap as map;
 ghost use Rattle.std.specs.Option.{option_to_list};
 ghost use Rattle.aas_store.specs.Documents.{Documents, Map};
 ghost use Rattle.aas_serialization.specs.Chosen.{documents_of, chosen_environment, gathered};
-ghost use Rattle.aas_resolve.specs.Resolved.{HaveFewElements};
 ghost use Rattle.aas_serialization.specs.declared.fault.GatherFault.TheVariants.{NoMemory as no_memory};
 
 use crate::choice::{Chosen, choose};
@@ -95,8 +94,7 @@ fn environment<S: Store>(alloc: Global, store: &S, chosen: &Chosen) -> Result<En
 }
 
 /// The environment of the shells and submodels of the identifiers, each once and in byte order, and where concept descriptions
-/// are asked for of those that they take along (IDTA-01002-3-0, GenerateSerializationByIds). That a submodel has at most
-/// 65,536 elements bounds the ranks of its rows.
+/// are asked for of those that they take along (IDTA-01002-3-0, GenerateSerializationByIds).
 ///
 /// # Errors
 ///
@@ -107,7 +105,6 @@ pub fn gather<S: Store>(
     submodels: &Many<Text>,
     concepts: bool,
 ) -> Result<Environment, GatherFault>
-    requires { HaveFewElements (S.documents store.now) }
     ensures { (result ≡ Err no_memory) ⊎ (result ≡ gathered (S.documents store.now) shells.now submodels.now concepts) }
 {
     let chosen = choose(store, shells, submodels, concepts)?;

@@ -6,9 +6,9 @@
 //!
 //! Proved, by the contract of `gather`, `choose`; `closures_are_one`:
 //!
-//! - Over any store whose submodels have at most 65,536 elements: the environment of some shells and submodels
-//!   has exactly these, each once, in byte order of identifiers, and exactly the concept descriptions that they
-//!   take along, which is one set, or none where they aren't asked for.
+//! - Over any store: the environment of some shells and submodels has exactly these, each once, in byte order of
+//!   identifiers, and exactly the concept descriptions that they take along, which is one set, or none where they
+//!   aren't asked for.
 //! - Or the first shell that isn't there is told, and then the first submodel.
 
 #![tactic(auto)]

@@ -15,7 +15,11 @@ impl Rooted for Semantics {
 
     ghost roots = { semantics_roots };
 
-    fn take_roots<S: Store>(&self, store: &S, taken: &mut Taken) -> Result<(), NoMemory> {
+    fn take_roots<'a, S: Store>(
+        &'a self,
+        store: &S,
+        taken: &mut Taken<'a>,
+    ) -> Result<(), NoMemory> {
         take_option(&self.semantic_id, store, taken)?;
         take_list(&self.supplemental_semantic_ids, store, taken)?;
         Ok(())
@@ -27,7 +31,11 @@ impl Rooted for Extension {
 
     ghost roots = { extension_roots };
 
-    fn take_roots<S: Store>(&self, store: &S, taken: &mut Taken) -> Result<(), NoMemory> {
+    fn take_roots<'a, S: Store>(
+        &'a self,
+        store: &S,
+        taken: &mut Taken<'a>,
+    ) -> Result<(), NoMemory> {
         self.semantics.take_roots(store, taken)
     }
 }
@@ -37,7 +45,11 @@ impl Rooted for Qualifier {
 
     ghost roots = { qualifier_roots };
 
-    fn take_roots<S: Store>(&self, store: &S, taken: &mut Taken) -> Result<(), NoMemory> {
+    fn take_roots<'a, S: Store>(
+        &'a self,
+        store: &S,
+        taken: &mut Taken<'a>,
+    ) -> Result<(), NoMemory> {
         self.semantics.take_roots(store, taken)
     }
 }
@@ -47,7 +59,11 @@ impl Rooted for SpecificAssetId {
 
     ghost roots = { asset_id_roots };
 
-    fn take_roots<S: Store>(&self, store: &S, taken: &mut Taken) -> Result<(), NoMemory> {
+    fn take_roots<'a, S: Store>(
+        &'a self,
+        store: &S,
+        taken: &mut Taken<'a>,
+    ) -> Result<(), NoMemory> {
         self.semantics.take_roots(store, taken)
     }
 }
@@ -58,7 +74,11 @@ impl Rooted for Payload {
     /// What one kind of element has for itself.
     ghost roots = { own_roots };
 
-    fn take_roots<S: Store>(&self, store: &S, taken: &mut Taken) -> Result<(), NoMemory> {
+    fn take_roots<'a, S: Store>(
+        &'a self,
+        store: &S,
+        taken: &mut Taken<'a>,
+    ) -> Result<(), NoMemory> {
         match self {
             Payload::Entity {
                 specific_asset_ids,
@@ -74,11 +94,11 @@ impl Rooted for Payload {
 }
 
 /// Takes what the references of an element name, without those of the elements below it.
-fn take_element<S: Store>(
-    common: &Common,
-    payload: &Payload,
+fn take_element<'a, S: Store>(
+    common: &'a Common,
+    payload: &'a Payload,
     store: &S,
-    taken: &mut Taken,
+    taken: &mut Taken<'a>,
 ) -> Result<(), NoMemory>
     ensures { OnOk result (TakesAlong (S.documents store.now) taken.old taken.new (element_roots common.now payload.now)) }
 {
@@ -90,10 +110,10 @@ fn take_element<S: Store>(
 }
 
 /// The same of an element by its row.
-pub(crate) fn take_row<S: Store>(
-    row: RowView<'_>,
+pub(crate) fn take_row<'a, S: Store>(
+    row: RowView<'a>,
     store: &S,
-    taken: &mut Taken,
+    taken: &mut Taken<'a>,
 ) -> Result<(), NoMemory>
     ensures { OnOk result (TakesAlong (S.documents store.now) taken.old taken.new (line_roots (line_of row.entry))) }
 {

@@ -12,15 +12,15 @@ pub(crate) trait Rooted {
     ghost roots: { Self → List Reference };
 
     /// Takes what those references name.
-    fn take_roots<S: Store>(&self, store: &S, taken: &mut Taken) -> Result<(), NoMemory>
+    fn take_roots<'a, S: Store>(&'a self, store: &S, taken: &mut Taken<'a>) -> Result<(), NoMemory>
         ensures { OnOk result (TakesAlong (S.documents store.now) taken.old taken.new (roots self.now)) };
 }
 
 /// Takes what those of several things name.
-pub(crate) fn take_among<T: Rooted, S: Store>(
-    items: &Many<T>,
+pub(crate) fn take_among<'a, T: Rooted, S: Store>(
+    items: &'a Many<T>,
     store: &S,
-    taken: &mut Taken,
+    taken: &mut Taken<'a>,
 ) -> Result<(), NoMemory>
     ensures { OnOk result (TakesAlong (S.documents store.now) taken.old taken.new (flat_map T.roots items.now)) }
 {
@@ -31,10 +31,10 @@ pub(crate) fn take_among<T: Rooted, S: Store>(
 }
 
 /// Takes what several references name.
-pub(crate) fn take_list<S: Store>(
-    references: &Many<Reference>,
+pub(crate) fn take_list<'a, S: Store>(
+    references: &'a Many<Reference>,
     store: &S,
-    taken: &mut Taken,
+    taken: &mut Taken<'a>,
 ) -> Result<(), NoMemory>
     ensures { OnOk result (TakesAlong (S.documents store.now) taken.old taken.new references.now) }
 {
@@ -45,10 +45,10 @@ pub(crate) fn take_list<S: Store>(
 }
 
 /// Takes what the reference names, if there is one.
-pub(crate) fn take_option<S: Store>(
-    reference: &Option<Reference>,
+pub(crate) fn take_option<'a, S: Store>(
+    reference: &'a Option<Reference>,
     store: &S,
-    taken: &mut Taken,
+    taken: &mut Taken<'a>,
 ) -> Result<(), NoMemory>
     ensures { OnOk result (TakesAlong (S.documents store.now) taken.old taken.new (option_to_list reference.now)) }
 {

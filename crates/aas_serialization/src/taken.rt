@@ -1,6 +1,6 @@
-ghost use Rattle.std.specs.Prelude.{◌≡◌, ◌∷◌, ◌++◌, [], OnOk, option_map};
+ghost use Rattle.std.specs.Prelude.{◌≡◌, ◌↔◌, ◌∷◌, ◌++◌, [], false, OnOk, option_map};
 ghost use Rattle.std.specs.FinMap as map;
-ghost use Rattle.std.specs.Option.{option_copied};
+ghost use Rattle.std.specs.Option.{option_copied, option_map_or};
 ghost use Rattle.std.specs.Str.{encode_utf8_all};
 ghost use Rattle.aas_serialization.specs.Closure.{concept_named, names_concepts};
 
@@ -8,11 +8,12 @@ use aas_model::{Collection, Duplicate, KeyType, NoMemory, Reference, Text};
 use aas_store::{Shelf, Store};
 use std::alloc::Global;
 
-/// Concept descriptions that are taken along, and those of them whose own references weren't looked at yet.
+/// Concept descriptions that are taken along, and those of them whose isCaseOf references weren't looked at yet, by the
+/// references that named them. One that has none doesn't wait.
 #[derive(Drop)]
-pub(crate) struct Taken {
+pub(crate) struct Taken<'a> {
     pub(crate) ids: Shelf<()>,
-    pub(crate) waiting: Vec<Text>,
+    pub(crate) waiting: Vec<&'a Text>,
 }
 
 /// Whether a key of the type may name a concept description.
@@ -42,11 +43,22 @@ fn concept_named<'a, S: Store>(store: &S, reference: &'a Reference) -> Option<&'
     }
 }
 
-impl Taken {
-    ghost use Rattle.aas_serialization.specs.Taken.{TakesAlong};
+/// Whether the concept description of the identifier has isCaseOf references.
+fn has_cases<S: Store>(store: &S, id: &str) -> bool
+    ensures { (result ≡ false)
+        ↔ (option_map_or (λ concept. concept.is_case_of) (map.get (S.documents store.now).concepts id.now) [] ≡ []) }
+{
+    match store.concept(id) {
+        Some(concept) => !concept.is_case_of.is_empty(),
+        None => false,
+    }
+}
+
+impl<'a> Taken<'a> {
+    ghost use Rattle.aas_serialization.specs.Taken.{TakesAlong, waiting_in};
 
     /// Nothing, which takes no memory.
-    pub(crate) fn nothing(alloc: Global) -> Taken
+    pub(crate) fn nothing(alloc: Global) -> Taken<'a>
         ensures ids { result.ids ≡ map.empty }
         ensures waiting { result.waiting.items ≡ [] }
     {
@@ -60,7 +72,7 @@ impl Taken {
     pub(crate) fn take<S: Store>(
         &mut self,
         store: &S,
-        reference: &Reference,
+        reference: &'a Reference,
     ) -> Result<(), NoMemory>
         ensures { OnOk result (TakesAlong (S.documents store.now) self.old self.new (reference.now ∷ [])) }
     {
@@ -71,16 +83,18 @@ impl Taken {
             return Ok(());
         }
         self.ids.put(id.copy()?, ())?;
-        self.wait(id)?;
+        if has_cases(store, id.as_str()) {
+            self.wait(id)?;
+        }
         Ok(())
     }
 
     /// Lets an identifier wait.
-    fn wait(&mut self, id: &Text) -> Result<(), NoMemory>
+    fn wait(&mut self, id: &'a Text) -> Result<(), NoMemory>
         ensures ids { self.new.ids ≡ self.old.ids }
-        ensures waiting { OnOk result (self.new.waiting.items ≡ self.old.waiting.items ++ id.now ∷ []) }
+        ensures waiting { OnOk result (waiting_in self.new ≡ waiting_in self.old ++ encode_utf8_all id.now ∷ []) }
     {
-        match self.waiting.push(id.copy()?) {
+        match self.waiting.push(id) {
             Ok(()) => Ok(()),
             Err(_) => Err(NoMemory),
         }
