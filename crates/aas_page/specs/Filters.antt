@@ -3,6 +3,7 @@
 -- asset ids by name and value, and that what isn't for a collection counts for nothing in it, are this profile's own rules.
 use Rattle.std.specs.Prelude.{◌≡◌, ℕ, List, [], Option, Some, None, codes, bytes_eq, Bool, true, false, ◌&&◌, ◌||◌}
 use Rattle.std.specs.List.{list_all, list_any}
+use Rattle.std.specs.Str.{encode_utf8_all}
 use Rattle.aas_model.specs.declared.asset.AssetInformation.{AssetInformation}
 use Rattle.aas_model.specs.declared.documents.Concept.{Concept}
 use Rattle.aas_model.specs.declared.documents.Shell.{Shell}
@@ -32,19 +33,27 @@ abbrev pub has_reference_among : Option Reference → List Reference → Bool
 has_reference_among None own = true
 has_reference_among (Some wanted) own = list_any (same wanted) own
 
--- it has this name and value
-abbrev pub is_same_id : SpecificAssetId → SpecificAssetId → Bool
-is_same_id wanted own = bytes_eq own.name wanted.name && bytes_eq own.value wanted.value
+-- it has this name and value, in UTF-8
+abbrev pub is_same_id : List ℕ → List ℕ → SpecificAssetId → Bool
+is_same_id name value own = bytes_eq (encode_utf8_all own.name) name && bytes_eq (encode_utf8_all own.value) value
 
--- it asks for the global asset id
-abbrev pub is_global : SpecificAssetId → Bool
-is_global wanted = bytes_eq wanted.name (codes "globalAssetId")
+-- it is this text, in UTF-8
+abbrev pub is_same_text : List ℕ → Option (List ℕ) → Bool
+is_same_text value None = false
+is_same_text value (Some own) = bytes_eq (encode_utf8_all own) value
 
--- An asset has a specific asset id of this name and value; the name globalAssetId stands for its global one too (IDTA-01001-3-0,
--- AssetInformation).
+abbrev pub is_global : List ℕ → Bool
+is_global name = bytes_eq name (codes "globalAssetId")
+
+-- An asset carries a name and a value, both in UTF-8: it has a specific asset id of these; the name globalAssetId
+-- stands for its global one too (IDTA-01001-3-0, AssetInformation).
+abbrev pub carries : AssetInformation → List ℕ → List ℕ → Bool
+carries asset name value =
+    list_any (is_same_id name value) asset.specific_asset_ids
+    || (is_global name && is_same_text value asset.global_asset_id)
+
 abbrev pub has_asset_id : AssetInformation → SpecificAssetId → Bool
-has_asset_id asset wanted =
-    list_any (is_same_id wanted) asset.specific_asset_ids || (is_global wanted && is_text wanted.value asset.global_asset_id)
+has_asset_id asset wanted = carries asset (encode_utf8_all wanted.name) (encode_utf8_all wanted.value)
 
 -- nothing is asked for
 pub record AsksNothing (f : Filter) : Type 0 where

@@ -4,17 +4,18 @@ ghost use Rattle.std.specs.Bool.{OnTrue};
 ghost use Rattle.std.specs.List.{list_all, list_any};
 ghost use Rattle.aas_path_trees.specs.ElementAt.{is_text};
 ghost use Rattle.aas_reference.specs.Same.{same};
-ghost use Rattle.aas_page.specs.Filters.{has_asset_id, has_reference, has_reference_among, has_text, is_global, is_same_id};
-ghost use Rattle.aas_page.specs.Filters.{AsksNothing, passes_concept, passes_shell, passes_submodel};
+ghost use Rattle.aas_page.specs.Filters.{carries, has_asset_id, has_reference, has_reference_among};
+ghost use Rattle.aas_page.specs.Filters.{AsksNothing, has_text, is_global, is_same_id, is_same_text};
+ghost use Rattle.aas_page.specs.Filters.{passes_concept, passes_shell, passes_submodel};
 
 use crate::filter::Filter;
 use aas_model::{
-    AssetInformation, Concept, Many, Reference, Shell, SpecificAssetId, Submodel, Text, same_text,
+    AssetInformation, Concept, Many, Reference, Shell, SpecificAssetId, Submodel, Text,
 };
 use aas_reference::same;
 
 /// The name of a specific asset id that stands for the global asset id.
-const GLOBAL_ASSET_ID: &str = "globalAssetId";
+pub const GLOBAL_ASSET_ID: &str = "globalAssetId";
 
 fn is_text(wanted: &Text, own: &Option<Text>) -> bool
     ensures { result ≡ is_text wanted.now own.now }
@@ -59,32 +60,50 @@ fn has_reference_among(wanted: &Option<Reference>, own: &Many<Reference>) -> boo
     }
 }
 
-fn is_same_id(own: &SpecificAssetId, wanted: &SpecificAssetId) -> bool
-    ensures { result ≡ is_same_id wanted.now own.now }
+fn is_same_id(name: &str, value: &str, own: &SpecificAssetId) -> bool
+    ensures { result ≡ is_same_id name.now value.now own.now }
 {
-    own.name.same(&wanted.name) && own.value.same(&wanted.value)
+    own.name.as_str() == name && own.value.as_str() == value
 }
 
-fn is_listed(wanted: &SpecificAssetId, own: &[SpecificAssetId]) -> bool
-    ensures { result ≡ list_any (is_same_id wanted.now) own.now }
+fn is_listed(name: &str, value: &str, own: &[SpecificAssetId]) -> bool
+    ensures { result ≡ list_any (is_same_id name.now value.now) own.now }
 {
-    own.iter().any(|id| is_same_id(id, wanted))
+    own.iter().any(|id| is_same_id(name, value, id))
 }
 
-fn is_global(wanted: &SpecificAssetId) -> bool
-    ensures { result ≡ is_global wanted.now }
+fn is_same_text(value: &str, own: &Option<Text>) -> bool
+    ensures { result ≡ is_same_text value.now own.now }
 {
-    same_text(wanted.name.as_str(), GLOBAL_ASSET_ID)
+    match own {
+        Some(own) => own.as_str() == value,
+        None => false,
+    }
+}
+
+fn is_global(name: &str) -> bool
+    ensures { result ≡ is_global name.now }
+{
+    name == GLOBAL_ASSET_ID
+}
+
+/// Whether an asset has a specific asset id of the name and the value. The name `globalAssetId` stands for its global
+/// asset id too.
+pub fn carries(asset: &AssetInformation, name: &str, value: &str) -> bool
+    ensures { result ≡ carries asset.now name.now value.now }
+{
+    is_listed(name, value, asset.specific_asset_ids.as_slice())
+        || is_global(name) && is_same_text(value, &asset.global_asset_id)
 }
 
 fn has_asset_id(asset: &AssetInformation, wanted: &SpecificAssetId) -> bool
     ensures { result ≡ has_asset_id asset.now wanted.now }
 {
-    is_listed(wanted, asset.specific_asset_ids.as_slice())
-        || is_global(wanted) && is_text(&wanted.value, &asset.global_asset_id)
+    carries(asset, wanted.name.as_str(), wanted.value.as_str())
 }
 
-fn has_asset_ids(asset: &AssetInformation, wanted: &[SpecificAssetId]) -> bool
+/// Whether an asset has each of the specific asset ids, compared by name and value.
+pub fn has_asset_ids(asset: &AssetInformation, wanted: &[SpecificAssetId]) -> bool
     ensures { result ≡ list_all (has_asset_id asset.now) wanted.now }
 {
     wanted.iter().all(|id| has_asset_id(asset, id))

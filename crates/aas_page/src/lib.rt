@@ -23,6 +23,7 @@ mod paging;
 mod segment;
 
 pub use filter::{Filter, Selection, Span};
+pub use filtering::{GLOBAL_ASSET_ID, carries, has_asset_ids};
 pub use pages::Page;
 pub use paging::{page, walks_list_each_once};
 pub use segment::{

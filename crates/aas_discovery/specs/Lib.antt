@@ -1,0 +1,5 @@
+pub mod Carriers
+pub mod Entries
+pub mod Finding
+pub mod Ids
+pub mod Index
