@@ -4,7 +4,7 @@ use Rattle.std.specs.Option.{option_map_or}
 use Rattle.std.proofs.Math.Numerals.{add-one}
 use Rattle.std.proofs.lemmas.Bool.Decides.{Decides-eqb}
 use Rattle.std.proofs.lemmas.List.{length-drop, take_all}
-use Rattle.std.proofs.lemmas.Option.{same_Some, slice_get_cases}
+use Rattle.std.proofs.lemmas.Option.{slice_get_cases}
 use Rattle.serde_json.specs.Written.{comma_if}
 use Rattle.aas_form.specs.ReferenceTo.{child_reference}
 use Rattle.aas_model.specs.declared.documents.Submodel.{Submodel}
@@ -248,10 +248,9 @@ child_texts child.Reference h s same = ap (λ s e. reference_text (child_referen
 
 pub children_told : (form : ChildForm) (h s : Submodel) (span : Span) (text : List ℕ) (none : Answer) (o : Option Submodel)
     (lines : List Line) (many : ℕ)
-    → Some s ≡ o → without_children h ≡ without_children s → Some many ≡ option_map (λ s. length s.kids) o → lines ≡ rows_of_all s.kids 1
+    → Some s ≡ o → without_children h ≡ without_children s → many ≡ length s.kids → lines ≡ rows_of_all s.kids 1
     → ((kids : List Element) → lines ≡ rows_of_all kids 1 → many ≡ length kids → places_page (child_text form h) span kids ≡ Ok text)
     → Ok text ≡ option_map_or (λ s. places_page (child_text form s) span s.kids) o none
 children_told form h s span text none o lines many is head counted rows told =
-    let same = same_Some many (length s.kids) (counted ∙ ap (option_map (λ s. length s.kids)) (sym is)) in
-    sym (told s.kids rows same) ∙ ap (λ t. places_page t span s.kids) (child_texts form h s head)
+    sym (told s.kids rows counted) ∙ ap (λ t. places_page t span s.kids) (child_texts form h s head)
     ∙ ap (λ o. option_map_or (λ s. places_page (child_text form s) span s.kids) o none) is

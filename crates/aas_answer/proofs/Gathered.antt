@@ -5,20 +5,12 @@ use Rattle.aas_json_mapping.specs.Trees.{environments}
 use Rattle.aas_json_spelling.specs.Spells.{canonical_text}
 use Rattle.aas_model.specs.declared.documents.Environment.{Environment}
 use Rattle.aas_serialization.specs.Chosen.{chosen, chosen_environment, gathered}
-use Rattle.aas_resolve.specs.Resolved.{HaveFewElements}
 use Rattle.aas_serialization.specs.declared.choice.Chosen.{Chosen}
 use Rattle.aas_serialization.specs.declared.fault.GatherFault.{GatherFault}
 use Rattle.aas_serialization.specs.declared.fault.GatherFault.TheVariants as gather
 use Rattle.aas_serialization.proofs.Choices.{environment_gathered, fault_gathered}
-use Rattle.aas_step.specs.Laws.{ValidIsStorable}
-use Rattle.aas_step.specs.Valid.{AreValid}
 use Rattle.aas_store.specs.Documents.{Documents}
-use Rattle.std.specs.FinMap as map
 use Rattle.aas_answer.specs.Answers.{of_gathered, refusal_of_gather}
-use Rattle.aas_answer.proofs.Stored.{few_elements, storable}
-
-pub few_in_each : (d : Documents) → ValidIsStorable → AreValid d → HaveFewElements d
-few_in_each d law valid id = few_elements (map.get d.submodels id) (storable d id law valid)
 
 module _ (d : Documents) (shells submodels : List (List ℕ)) (concepts : Bool) where
   pub environment_planned : (c : Chosen) → (Ok c ≡ Err gather.NoMemory) ⊎ (Ok c ≡ chosen d shells submodels concepts)

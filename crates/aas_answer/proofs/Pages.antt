@@ -16,7 +16,9 @@ use Rattle.std.proofs.lemmas.Simd.{map-map}
 use Rattle.aas_lemmas.proofs.Lists.{map_same}
 use Rattle.base64.specs.Engines.{url_safe_no_pad}
 use Rattle.base64.specs.GeneralPurpose.{encode_of}
-use Rattle.serde_json.specs.Written.{comma_if}
+use Rattle.serde_json.specs.Data.{string}
+use Rattle.serde_json.specs.Written.{comma_if, compact_text}
+use Rattle.aas_json_table.specs.Spelled.{text_of}
 use Rattle.aas_page.specs.Filters.{passes_shell, passes_submodel}
 use Rattle.aas_page.specs.Pages.{PageOf, ids_on, page_after, page_from, page_of}
 use Rattle.aas_page.specs.declared.filter.Selection.{Selection}
@@ -25,7 +27,7 @@ use Rattle.aas_model.specs.declared.documents.Submodel.{Submodel}
 use Rattle.aas_form.specs.ReferenceTo.{shell_reference}
 use Rattle.aas_store.specs.Documents.{Documents, Identifier, Map, is_above, without_children}
 use Rattle.aas_store.proofs.Ordered.{found_at}
-use Rattle.aas_answer.specs.Answers.{documents_page, page_begin, page_text, places_page, reference_text}
+use Rattle.aas_answer.specs.Answers.{documents_page, ids_page, page_begin, page_text, places_page, reference_text}
 use Rattle.aas_answer.specs.Listed.{collection_of, document_text, documents_in, submodel_text}
 use Rattle.aas_answer.specs.declared.forms.DocumentForm.{DocumentForm}
 use Rattle.aas_answer.specs.declared.forms.DocumentForm.TheVariants as document
@@ -175,6 +177,17 @@ documents_told document.ShellReference d s =
 documents_told (document.Submodel form) d s =
     told_on d.submodels (passes_submodel s.filter) (submodel_text form) (λ id. document_text (document.Submodel form) id d) (λ id. refl)
     (option_map encode_utf8_all s.after) s.limit
+
+-- the identifiers of documents, as they are told
+pub ids_told : (ids : List (List ℕ)) (more : Bool) (cursor : Option (List ℕ)) (written page : List ℕ)
+    → cursor ≡ (if more then option_map (encode_of url_safe_no_pad) (last_or None (map encode_utf8_all ids)) else None)
+    → written ≡ page_begin cursor ++ joined (λ id. compact_text (text_of id)) ids → page ≡ written ++ codes "]}"
+    → Ok page ≡ ids_page (record { entries = map encode_utf8_all ids; more = more })
+ids_told ids more cursor written page next whole ended =
+    ap (λ t. Ok t)
+    (page_ended (λ id. compact_text (text_of id)) (λ id. compact_text (string id)) ids (record { entries = map encode_utf8_all ids; more = more }) cursor
+    (option_map (encode_of url_safe_no_pad) (last_or None (map encode_utf8_all ids))) written page
+    (sym (map-map (λ id. compact_text (string id)) encode_utf8_all ids)) next whole ended)
 
 -- the cursor of the page behind one
 

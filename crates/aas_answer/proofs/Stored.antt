@@ -1,6 +1,6 @@
 -- What a store tells of a submodel by its head and its rows.
-use Rattle.std.proofs.Common.{◌≡◌, ℕ, ◌≤◌, List, [], length, Option, Some, None, refl, sym, ap, ◌∙◌, subst, arith}
-use Rattle.std.specs.Prelude.{IfSome, MatchOption, option_map}
+use Rattle.std.proofs.Common.{◌≡◌, ℕ, List, [], Option, Some, None, refl, sym, ap, ◌∙◌, subst}
+use Rattle.std.specs.Prelude.{MatchOption, option_map}
 use Rattle.std.specs.FinMap as map
 use Rattle.std.specs.Option.{option_map_or}
 use Rattle.aas_json_mapping.specs.Documents.{spell_submodel}
@@ -14,11 +14,9 @@ use Rattle.aas_model_names.specs.declared.modifiers.Level.{Level}
 use Rattle.aas_pour.specs.Poured.{AreLow}
 use Rattle.aas_pour.specs.Submodels.{shown_submodel}
 use Rattle.aas_rows.specs.Rows.{Line, line_at, rows_of_all}
-use Rattle.aas_rows.proofs.Edited.{count_at}
 use Rattle.aas_step.specs.Laws.{ValidIsStorable}
 use Rattle.aas_step.specs.Valid.{AreValid}
 use Rattle.aas_store.specs.Documents.{Documents, Identifier, without_children}
-use Rattle.aas_path_trees.specs.Patched.{element_count}
 use Rattle.aas_store.specs.Storable.{IsStorable}
 use Rattle.aas_answer.specs.Answers.{submodel_shown}
 use Rattle.aas_answer.specs.Shown.{show_at}
@@ -39,14 +37,6 @@ HasValid found = (s : Submodel) → found ≡ Some s → IsStorable s
 
 pub storable : (d : Documents) (id : Identifier) → ValidIsStorable → AreValid d → HasValid (map.get d.submodels id)
 storable d id law valid s is = let there = valid.submodels id s is in law s there.valid there.few
-
-pub few_lines : (found : Option Submodel) (s : Submodel) → HasValid found → Some s ≡ found
-    → length (rows_of_all s.kids 1) ≤ 65536
-few_lines found s valid is = let few = (valid s (sym is)).few in omega (arith, few, count_at s.kids 1)
-
-pub few_elements : (found : Option Submodel) → HasValid found → IfSome found (λ s. element_count s ≤ 65536)
-few_elements None valid = tt
-few_elements (Some s) valid = (valid s refl).few
 
 pub low_lines : (found : Option Submodel) (lines : List Line) → HasValid found → HasLines found lines → AreLow lines
 low_lines None lines valid has = absurd has

@@ -1,6 +1,6 @@
 -- What a question is answered in some documents: the text of what it asks for, or why there is none (IDTA-01002-3-0, the operations that get a page
 -- of documents or of a submodel's children, a document by its identifier and an element by its path, with the content modifiers Normal, Metadata,
--- Value, Reference and Path).
+-- Value, Reference and Path; discovery and serialization).
 use Rattle.std.specs.Prelude.{ℕ, ◌+◌, List, [], ◌++◌, map, take, codes, decimal, Option, Some, None, option_map, Result, Ok, Err, if◌then◌else◌}
 use Rattle.std.specs.FinMap as fin
 use Rattle.std.specs.List.{join_by, last_or}
@@ -40,6 +40,7 @@ use Rattle.aas_page.specs.Filters.{passes_concept, passes_shell, passes_submodel
 use Rattle.aas_page.specs.Pages.{PageOf, page_after, page_from}
 use Rattle.aas_page.specs.declared.filter.Selection.{Selection}
 use Rattle.aas_page.specs.declared.filter.Span.{Span}
+use Rattle.aas_discovery.specs.Carriers.{lookup_page}
 use Rattle.aas_serialization.specs.Chosen.{gathered}
 use Rattle.aas_serialization.specs.declared.fault.GatherFault.{GatherFault}
 use Rattle.aas_serialization.specs.declared.fault.GatherFault.TheVariants as gather
@@ -114,6 +115,10 @@ page_text text cursor p = page_begin (if p.more then cursor else None) ++ join_b
 abbrev pub documents_page : {X : Type 0} → (X → List ℕ) → PageOf (Identifier × X) → Answer
 documents_page text p = Ok (page_text (λ e. text e.1) (option_map (encode_of url_safe_no_pad) (last_or None (map (λ e. e.0) p.entries))) p)
 
+-- the identifiers of documents as strings, the last of which is the cursor
+abbrev pub ids_page : PageOf Identifier → Answer
+ids_page p = Ok (page_text (λ id. compact_text (string id)) (option_map (encode_of url_safe_no_pad) (last_or None p.entries)) p)
+
 -- entries at places, the next of which is the cursor
 abbrev pub places_page : {X : Type 0} → (X → List ℕ) → Span → List X → Answer
 places_page text span xs = Ok (page_text text (Some (decimal (span.from + span.limit))) (page_from span.from span.limit xs))
@@ -172,4 +177,5 @@ answer_of d (question.ElementValue id p level extent) = of_element d id p.steps 
 answer_of d (question.ElementReference id p) = of_submodel d id (λ s. of_reference (reference_to s p.steps) (lost p.steps s))
 answer_of d (question.ElementPaths id p level) = of_element d id p.steps (λ e. Ok (paths_text (element_paths p.steps (core_form level e))))
 answer_of d (question.Concept id) = of_concept d id (λ c. Ok (canonical_text concepts c))
+answer_of d (question.Lookup wanted after limit) = ids_page (lookup_page wanted (option_map encode_utf8_all after) limit d)
 answer_of d (question.Serialization s t c) = of_gathered (gathered d s t c)

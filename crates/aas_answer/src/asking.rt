@@ -11,6 +11,7 @@ use crate::element_answers::{
     element_answer, element_metadata_answer, element_paths_answer, element_value_answer,
 };
 use crate::forms::{ChildForm, DocumentForm, SubmodelForm};
+use crate::identifier_pages::lookup_answer;
 use crate::place_pages::{children_answer, references_answer};
 use crate::planning::plan;
 use crate::plans::plan_in_memory;
@@ -19,13 +20,13 @@ use crate::submodel_answers::{
     submodel_value_answer,
 };
 use aas_command::Refusal;
+use aas_discovery::Lookup;
 use aas_model::Many;
 use aas_question::Question;
-use aas_store::Store;
 use std::alloc::Global;
 
 /// The body of the reply to a question, or why there is none.
-pub fn tell<S: Store>(alloc: Global, store: &S, question: &Question) -> Result<Many<u8>, Refusal>
+pub fn tell<S: Lookup>(alloc: Global, store: &S, question: &Question) -> Result<Many<u8>, Refusal>
     requires { AreValid (S.documents store.now) }
     ensures { (result ≡ Err NoMemory) ⊎ (result ≡ answer_of (S.documents store.now) question.now) }
 {
@@ -37,7 +38,7 @@ pub fn tell<S: Store>(alloc: Global, store: &S, question: &Question) -> Result<M
 
 /// The body of the reply to a question whose answers aren't planned, or why there is none.
 #[tactic(auto, unfolding(crate::specs::Answers::answer_of))]
-fn tell_unplanned<S: Store>(
+fn tell_unplanned<S: Lookup>(
     alloc: Global,
     store: &S,
     question: &Question,
@@ -122,5 +123,10 @@ fn tell_unplanned<S: Store>(
             element_paths_answer(alloc, store, id, path, *level)
         }
         Question::Concept { id } => concept_answer(alloc, store, id),
+        Question::Lookup {
+            wanted,
+            after,
+            limit,
+        } => lookup_answer(alloc, store, wanted, after, *limit),
     }
 }

@@ -2,7 +2,7 @@
 ghost use Rattle.std.specs.Prelude.{◌≡◌, ◌⊎◌, [], codes, Ok, Err, IfOk, option_map};
 ghost use Rattle.std.specs.FinMap as map;
 ghost use Rattle.std.specs.List.{join_by};
-ghost use Rattle.std.specs.Option.{option_copied, option_map_or};
+ghost use Rattle.std.specs.Option.{option_map_or};
 ghost use Rattle.std.specs.Str.{encode_utf8_all};
 ghost use Rattle.aas_command.specs.declared.refusal.Refusal.TheVariants as refused;
 ghost use Rattle.aas_form.specs.MetadataForm.{submodel_metadata};
@@ -15,7 +15,7 @@ ghost use Rattle.aas_answer.specs.Answers.{submodel_valued};
 ghost use Rattle.aas_answer.specs.Listed.{collection_of, document_text, documents_in, submodel_text};
 
 use crate::forms::{DocumentForm, SubmodelForm};
-use crate::page_text::{document_cursor, end_page, pour_begin};
+use crate::page_text::{after, document_cursor, end_page, pour_begin};
 use crate::submodel_answers::append_value;
 use aas_command::Refusal;
 use aas_form::{metadata_of, reference_of_shell, reference_of_submodel};
@@ -42,20 +42,10 @@ pub(crate) fn documents_answer<S: Store>(
         store,
         form.collection(),
         &selection.filter,
-        after(selection),
+        after(&selection.after),
         selection.limit,
     )?;
     Ok(page_told(alloc, store, &page, form)?)
-}
-
-/// The identifier behind which the page begins.
-pub(crate) fn after(selection: &Selection) -> Option<&str>
-    ensures { option_copied result ≡ option_map encode_utf8_all selection.now.after }
-{
-    match &selection.after {
-        Some(id) => Some(id.as_str()),
-        None => None,
-    }
 }
 
 /// The text of a page of documents, whichever selection it is of.

@@ -12,7 +12,7 @@ ghost use Rattle.aas_value.specs.ValueForm.{value_form};
 ghost use Rattle.aas_answer.specs.Answers.{element_shown, of_element, paths_text, value_answer};
 
 use crate::pouring::row_in_memory;
-use crate::stored_elements::{stored_element, stored_rank, stored_row};
+use crate::stored_elements::{stored_element, stored_row};
 use crate::stored_rows::StoredRows;
 use crate::texts::{element_text, paths_text, value_text};
 use aas_command::Refusal;
@@ -38,11 +38,11 @@ pub(crate) fn element_answer<S: Store>(
         (λ e. Ok (element_shown level extent e))) }
 {
     valid_submodels_are_storable();
-    let rank = stored_rank(alloc, store, id, path)?;
+    let (rank, _) = stored_row(alloc, store, id, path)?;
     let Some(table) = store.table(id.as_str()) else {
         unreachable!()
     };
-    let rows = StoredRows::<S>::new(table);
+    let rows = StoredRows::new(table);
     Ok(row_in_memory(alloc, &rows, rank, level, extent)?)
 }
 
@@ -53,11 +53,10 @@ pub(crate) fn element_metadata_answer<S: Store>(
     id: &Text,
     path: &Path,
 ) -> Result<Many<u8>, Refusal>
-    requires { AreValid (S.documents store.now) }
     ensures { (result ≡ Err refused.NoMemory) ⊎ (result ≡ of_element (S.documents store.now) id.now path.now.steps
         (λ e. Ok (canonical_text elements (metadata_form e)))) }
 {
-    let row = stored_row(alloc, store, id, path)?;
+    let (_, row) = stored_row(alloc, store, id, path)?;
     let alone = row.copy(alloc)?;
     let text = metadata_text(alloc, &alone);
     drop(alone);
@@ -83,11 +82,10 @@ pub(crate) fn element_value_answer<S: Store>(
     level: Level,
     extent: Extent,
 ) -> Result<Many<u8>, Refusal>
-    requires { AreValid (S.documents store.now) }
     ensures { (result ≡ Err refused.NoMemory) ⊎ (result ≡ of_element (S.documents store.now) id.now path.now.steps
         (λ e. value_answer (value_form extent (core_form level e)))) }
 {
-    let row = stored_row(alloc, store, id, path)?;
+    let (_, row) = stored_row(alloc, store, id, path)?;
     if !shows_children(row.payload) {
         return value_told(alloc, value_of_parts(alloc, row.payload, &[], extent)?);
     }
@@ -133,7 +131,6 @@ pub(crate) fn element_paths_answer<S: Store>(
     path: &Path,
     level: Level,
 ) -> Result<Many<u8>, Refusal>
-    requires { AreValid (S.documents store.now) }
     ensures { (result ≡ Err refused.NoMemory) ⊎ (result ≡ of_element (S.documents store.now) id.now path.now.steps
         (λ e. Ok (paths_text (element_paths path.now.steps (core_form level e))))) }
 {

@@ -19,7 +19,6 @@ use aas_members_text::{Pen, begin_object, comma_of, end_object};
 use aas_model::{Collection, Extent, Level, Many, Text};
 use aas_out::{Out, Pouring, add};
 use aas_serialization::{Chosen, GatherFault, choose};
-use aas_step::valid_submodels_are_storable;
 use aas_store::{Shelf, Store};
 
 /// The documents of the environment that is asked for.
@@ -29,13 +28,11 @@ pub(crate) fn plan_environment<S: Store>(
     submodels: &Many<Text>,
     concepts: bool,
 ) -> Result<Chosen, Refusal>
-    requires { AreValid (S.documents store.now) }
     ensures planned { IfOk result (λ chosen. of_gathered (gathered (S.documents store.now) shells.now submodels.now concepts)
         ≡ Ok (canonical_text environments (chosen_environment (S.documents store.now) chosen))) }
     ensures refused { IfErr result (λ refusal. (refusal ≡ refused.NoMemory)
         ⊎ (of_gathered (gathered (S.documents store.now) shells.now submodels.now concepts) ≡ Err refusal)) }
 {
-    valid_submodels_are_storable();
     match choose(store, shells, submodels, concepts) {
         Ok(chosen) => Ok(chosen),
         Err(fault) => Err(refusal_of(&fault)),

@@ -7,7 +7,8 @@
 //!
 //! - Over any store of valid documents: a question is answered with the text of what it asks for: a document or
 //!   an element at a level and to an extent, its metadata, value form, reference or paths, a page of them with
-//!   the cursor of the next one, or an environment of chosen documents.
+//!   the cursor of the next one, a page of the identifiers of shells by what their assets carry, or an environment
+//!   of chosen documents.
 //! - The answer that tells whole documents, a page of any, one submodel or an environment, is planned: the plan's
 //!   text is that answer, it is put into any end from the stored rows, and a front of it where the end fails, and
 //!   it is counted, up to 2^64.
@@ -19,6 +20,7 @@ mod document_pages;
 mod element_answers;
 mod environments;
 mod forms;
+mod identifier_pages;
 mod page_text;
 mod place_pages;
 mod planning;

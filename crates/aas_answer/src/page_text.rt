@@ -1,18 +1,31 @@
-// The texts of pages, but for their entries.
+// The texts of pages, but for entries that are told by a store.
 ghost use Rattle.std.specs.Prelude.{◌≡◌, ◌+◌, ◌++◌, None, Some, codes, decimal, map, min, nat_lt, option_map, if◌then◌else◌, IfOk};
-ghost use Rattle.std.specs.List.{last_or};
+ghost use Rattle.std.specs.List.{join_by, last_or};
+ghost use Rattle.std.specs.Option.{option_copied};
 ghost use Rattle.std.specs.Str.{encode_utf8_all};
 ghost use Rattle.base64.specs.Engines.{url_safe_no_pad};
 ghost use Rattle.base64.specs.GeneralPurpose.{encode_of};
+ghost use Rattle.serde_json.specs.Written.{compact_text};
 ghost use Rattle.aas_out.specs.Adds.{Adds};
 ghost use Rattle.aas_out.specs.declared.pouring.Pouring.TheVariants.{Going};
 ghost use Rattle.aas_answer.specs.Answers.{cursor_text, page_begin};
 
-use aas_model::{Many, NoMemory};
+use aas_members_text::{Poured, comma_of};
+use aas_model::{Many, NoMemory, Text};
 use aas_out::{Out, Pouring, TextOut, add};
 use aas_page::{Page, Span, id_to_segment};
 use itoa::Buffer;
 use std::alloc::Global;
+
+/// The identifier behind which a page begins.
+pub(crate) fn after(id: &Option<Text>) -> Option<&str>
+    ensures { option_copied result ≡ option_map encode_utf8_all id.now }
+{
+    match id {
+        Some(id) => Some(id.as_str()),
+        None => None,
+    }
+}
 
 /// The cursor of the page behind this one, if a further document follows.
 pub(crate) fn document_cursor(alloc: Global, page: &Page) -> Result<Option<Many<u8>>, NoMemory>
@@ -72,6 +85,22 @@ fn pour_cursor<O: Out>(so_far: Pouring, cursor: &Option<Many<u8>>, out: &mut O) 
             add(told, b"\"}", out)
         }
     }
+}
+
+/// Puts what a page lists, with commas between.
+pub(crate) fn pour_listed<P: Poured, O: Out>(
+    so_far: Pouring,
+    trees: &[P::Tree],
+    out: &mut O,
+) -> Pouring
+    ensures { Adds so_far result (O.told out.old) (O.told out.new) (join_by (λ tree. compact_text (P.spell tree)) (codes ",") trees.now) }
+{
+    let mut state = so_far;
+    for (place, tree) in trees.iter().enumerate() {
+        let comma = add(state, comma_of(place > 0), out);
+        state = P::pour(comma, tree, out);
+    }
+    state
 }
 
 /// The text of a page in memory, whose entries were put.

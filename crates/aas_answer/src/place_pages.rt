@@ -13,7 +13,7 @@ ghost use Rattle.aas_answer.specs.Children.{IsChildAt};
 ghost use Rattle.aas_answer.specs.Listed.{child_text};
 
 use crate::forms::ChildForm;
-use crate::page_text::{end_of, end_page, place_cursor, pour_begin};
+use crate::page_text::{end_of, end_page, place_cursor, pour_begin, pour_listed};
 use crate::pouring::show_at;
 use crate::stored_rows::StoredRows;
 use aas_command::{Absent, Refusal};
@@ -25,7 +25,7 @@ use aas_page::Span;
 use aas_pour::{Rows, pour_element, pour_tree};
 use aas_reference::References;
 use aas_step::valid_submodels_are_storable;
-use aas_store::Store;
+use aas_store::{Store, Table};
 use std::alloc::Global;
 
 /// A page of the shell's references to submodels.
@@ -59,20 +59,8 @@ fn references_page(
     let mut out = TextOut::new(alloc);
     let begun = pour_begin(Pouring::Going, &cursor, &mut out);
     let shown = &references[span.from.min(end) as usize..end as usize];
-    let told = pour_references(begun, shown, &mut out);
+    let told = pour_listed::<References, TextOut>(begun, shown, &mut out);
     end_page(told, out)
-}
-
-/// Puts the references, with commas between them.
-fn pour_references<O: Out>(so_far: Pouring, references: &[Reference], out: &mut O) -> Pouring
-    ensures { Adds so_far result (O.told out.old) (O.told out.new) (join_by reference_text (codes ",") references.now) }
-{
-    let mut state = so_far;
-    for (place, reference) in references.iter().enumerate() {
-        let comma = add(state, comma_of(place > 0), out);
-        state = References::pour(comma, reference, out);
-    }
-    state
 }
 
 /// A page of the submodel's children, with what it tells of each.
@@ -87,22 +75,20 @@ pub(crate) fn children_answer<S: Store>(
     ensures { (result ≡ Err refused.NoMemory)
         ⊎ (result ≡ of_children (S.documents store.now) id.now span (child_text form)) }
 {
-    let id = id.as_str();
-    let (Some(count), Some(table)) = (store.child_count(id), store.table(id)) else {
+    let Some(table) = store.table(id.as_str()) else {
         return Err(Refusal::NotFound {
             what: Absent::Submodel,
         });
     };
     valid_submodels_are_storable();
-    let head = S::head_of(table);
-    let rows = StoredRows::<S>::new(table);
-    Ok(children_page(alloc, &rows, head, count, span, form)?)
+    let rows = StoredRows::new(table);
+    Ok(children_page(alloc, &rows, table.head(), table.child_count(), span, form)?)
 }
 
 /// The page of the children that stand among the rows, so many of a submodel that is `head` but for them.
-fn children_page<S: Store>(
+fn children_page<T: Table>(
     alloc: Global,
-    rows: &StoredRows<'_, S>,
+    rows: &StoredRows<'_, T>,
     head: &Submodel,
     count: u64,
     span: Span,
@@ -120,10 +106,10 @@ fn children_page<S: Store>(
 }
 
 /// Puts what is told of the children on the page, with commas between them.
-fn pour_children<S: Store, O: Out>(
+fn pour_children<T: Table, O: Out>(
     alloc: Global,
     so_far: Pouring,
-    rows: &StoredRows<'_, S>,
+    rows: &StoredRows<'_, T>,
     head: &Submodel,
     span: Span,
     form: ChildForm,
@@ -151,10 +137,10 @@ fn pour_children<S: Store, O: Out>(
 }
 
 /// Puts what is told of the child of the rank.
-fn pour_child<S: Store, O: Out>(
+fn pour_child<T: Table, O: Out>(
     alloc: Global,
     so_far: Pouring,
-    rows: &StoredRows<'_, S>,
+    rows: &StoredRows<'_, T>,
     head: &Submodel,
     rank: u64,
     form: ChildForm,
@@ -183,9 +169,9 @@ fn pour_child<S: Store, O: Out>(
 }
 
 /// A copy of the child of the rank, without its children.
-fn copy_alone<S: Store>(
+fn copy_alone<T: Table>(
     alloc: Global,
-    rows: &StoredRows<'_, S>,
+    rows: &StoredRows<'_, T>,
     rank: u64,
 ) -> Result<Element, NoMemory>
     requires { HasRow rows.now rank }

@@ -1,13 +1,11 @@
 // Answers are planned.
 ghost use Rattle.std.specs.Prelude.{◌≡◌, ◌⊎◌, true, Ok, Err, IfErr, IfOk};
 ghost use Rattle.aas_command.specs.declared.refusal.Refusal.TheVariants as refused;
-ghost use Rattle.aas_step.specs.Valid.{AreValid};
 ghost use Rattle.aas_answer.specs.Answers.{answer_of, of_submodel, submodel_shown};
 ghost use Rattle.aas_answer.specs.Plans.{IsPlanOf, is_planned, listing_text, page_shown};
 
-use crate::document_pages::after;
 use crate::environments::plan_environment;
-use crate::page_text::document_cursor;
+use crate::page_text::{after, document_cursor};
 use crate::plans::{Listing, Plan};
 use aas_command::{Absent, Refusal};
 use aas_model::{Collection, Duplicate, Extent, Level, Many, NoMemory, Text};
@@ -24,7 +22,6 @@ pub fn plan<S: Store>(
     store: &S,
     question: &Question,
 ) -> Result<Option<Plan>, Refusal>
-    requires { AreValid (S.documents store.now) }
     ensures planned { IfOk result (IsPlanOf (S.documents store.now) question.now) }
     ensures refused { IfErr result (λ refusal. (refusal ≡ refused.NoMemory)
         ⊎ ((is_planned question.now ≡ true) × (answer_of (S.documents store.now) question.now ≡ Err refusal))) }
@@ -88,7 +85,7 @@ fn plan_page<S: Store>(
         store,
         collection,
         &selection.filter,
-        after(selection),
+        after(&selection.after),
         selection.limit,
     )?;
     let cursor = document_cursor(alloc, &page)?;

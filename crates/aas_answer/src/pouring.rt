@@ -15,7 +15,7 @@ use aas_model::{Collection, Extent, Level, Many, NoMemory};
 use aas_out::{Out, Pouring, TextOut};
 use aas_pour::{Rows, pour_element, pour_submodel};
 use aas_step::valid_submodels_are_storable;
-use aas_store::Store;
+use aas_store::{Store, Table};
 use std::alloc::Global;
 
 /// A level at which no element stands, since none stands deeper than level 30.
@@ -77,9 +77,8 @@ fn pour_stored<S: Store, O: Out>(
     match store.table(id) {
         Some(table) => {
             valid_submodels_are_storable();
-            let head = S::head_of(table);
-            let rows = StoredRows::<S>::new(table);
-            pour_submodel(so_far, head, &rows, show_at(0, level, extent), out)
+            let rows = StoredRows::new(table);
+            pour_submodel(so_far, table.head(), &rows, show_at(0, level, extent), out)
         }
         None => so_far,
     }

@@ -1,8 +1,7 @@
-// The elements of stored submodels, by their paths: their ranks, their rows, and copies of them.
+// The elements of stored submodels, by their paths: their ranks and rows, and copies of them.
 ghost use Rattle.std.specs.Prelude.{◌≡◌, IfErr, IfOk, Some};
 ghost use Rattle.std.specs.Str.{encode_utf8_all};
 ghost use Rattle.aas_model.specs.declared.element.Element as trees;
-ghost use Rattle.aas_step.specs.Valid.{AreValid};
 ghost use Rattle.aas_store.specs.Edited.{Holds};
 ghost use Rattle.aas_store.specs.Reads.{IsRowOf};
 ghost use Rattle.aas_store.specs.Spots.{rank_at};
@@ -10,42 +9,23 @@ ghost use Rattle.aas_answer.specs.Found.{IsFound, IsLost};
 
 use aas_command::Refusal;
 use aas_model::{Element, Path, Text};
-use aas_step::{refusal_of, valid_submodels_are_storable};
+use aas_step::refusal_of;
 use aas_store::{RowView, Store};
 use std::alloc::Global;
 
-/// The rank of the element to which the path leads in the submodel of the identifier.
-pub(crate) fn stored_rank<S: Store>(
-    alloc: Global,
-    store: &S,
-    id: &Text,
-    path: &Path,
-) -> Result<u64, Refusal>
-    requires { AreValid (S.documents store.now) }
-    ensures found { IfOk result (λ rank. Holds (S.documents store.now) (encode_utf8_all id.now) (λ s. rank_at s path.now.steps ≡ Some rank)) }
-    ensures lost { IfErr result (λ refusal. IsLost (S.documents store.now) id.now path.now.steps refusal) }
-{
-    valid_submodels_are_storable();
-    match store.find(id.as_str(), path) {
-        Ok(rank) => Ok(rank),
-        Err(lack) => Err(refusal_of(alloc, path, lack)),
-    }
-}
-
-/// The row of the element to which the path leads in the submodel of the identifier.
+/// The rank and the row of the element to which the path leads in the submodel of the identifier.
 pub(crate) fn stored_row<'a, S: Store>(
     alloc: Global,
     store: &'a S,
     id: &Text,
     path: &Path,
-) -> Result<RowView<'a>, Refusal>
-    requires { AreValid (S.documents store.now) }
-    ensures found { IfOk result (λ row. (e : trees.Element) × IsFound (S.documents store.now) id.now path.now.steps e × IsRowOf e row) }
+) -> Result<(u64, RowView<'a>), Refusal>
+    ensures ranked { IfOk result (λ it. Holds (S.documents store.now) (encode_utf8_all id.now) (λ s. rank_at s path.now.steps ≡ Some it.0)) }
+    ensures found { IfOk result (λ it. (e : trees.Element) × IsFound (S.documents store.now) id.now path.now.steps e × IsRowOf e it.1) }
     ensures lost { IfErr result (λ refusal. IsLost (S.documents store.now) id.now path.now.steps refusal) }
 {
-    valid_submodels_are_storable();
-    match store.row_at(id.as_str(), path) {
-        Ok(row) => Ok(row),
+    match store.find_row(id.as_str(), path) {
+        Ok(found) => Ok(found),
         Err(lack) => Err(refusal_of(alloc, path, lack)),
     }
 }

@@ -1,25 +1,25 @@
 // The rows of a stored submodel.
-ghost use Rattle.std.specs.Prelude.{◌≡◌, ◌-◌, ◌^◌, ◌<◌, ◌≤◌, length, IfSome};
+ghost use Rattle.std.specs.Prelude.{◌≡◌, ◌-◌, ◌^◌, ◌<◌, IfSome};
 ghost use Rattle.aas_rows.specs.Children.{is_at, nth_where};
 ghost use Rattle.aas_rows.specs.Rows.{rows_of_all};
 ghost use Rattle.aas_answer.specs.Children.{child_from};
 
 use aas_pour::Rows;
 use aas_rows::RowView;
-use aas_store::Store;
+use aas_store::Table;
 use std::marker::Model;
 
-/// The rows of a stored submodel that has at most 65,536 elements.
+/// The rows of a stored submodel, fewer than 2^64.
 ///
 /// Contracts see it as these rows.
 #[derive(Drop)]
-pub(crate) struct StoredRows<'a, S: Store> {
-    table: &'a S::Table,
+pub(crate) struct StoredRows<'a, T: Table> {
+    table: &'a T,
 }
 
-impl<'a, S: Store> Model for StoredRows<'a, S> {
+impl<'a, T: Table> Model for StoredRows<'a, T> {
     ghost use Rattle.std.specs.Coded.{codes};
-    ghost use Rattle.std.specs.Prelude.{◌≤◌, List, length};
+    ghost use Rattle.std.specs.Prelude.{◌<◌, ◌^◌, List, length};
     ghost use Rattle.aas_model.specs.contracts.common.Common as common;
     ghost use Rattle.aas_model.specs.contracts.payload.Payload as payload;
     ghost use Rattle.aas_rows.specs.Rows.{Line, rows_of_all};
@@ -28,16 +28,17 @@ impl<'a, S: Store> Model for StoredRows<'a, S> {
 
     ghost coded = { Prim.hlevel (codes, common.the_row.coded, payload.the_row.coded) };
 
-    ghost view = { λ rows. rows_of_all (S.kept rows.table.now).kids 1 };
+    ghost view = { λ rows. rows_of_all (T.kept rows.table.now).kids 1 };
 
-    ghost invariant = { λ rows. length (rows_of_all (S.kept rows.table.now).kids 1) ≤ 65536 };
+    ghost invariant = { λ rows. length (rows_of_all (T.kept rows.table.now).kids 1) < 2 ^ 64 };
 }
 
-impl<'a, S: Store> StoredRows<'a, S> {
-    pub(crate) fn new(table: &'a S::Table) -> StoredRows<'a, S>
-        requires { length (rows_of_all (S.kept table.now).kids 1) ≤ 65536 }
-        ensures { result ≡ rows_of_all (S.kept table.now).kids 1 }
+impl<'a, T: Table> StoredRows<'a, T> {
+    pub(crate) fn new(table: &'a T) -> StoredRows<'a, T>
+        ensures { result ≡ rows_of_all (T.kept table.now).kids 1 }
     {
+        // They are as many as the table counts.
+        let _count = table.element_count();
         StoredRows { table }
     }
 
@@ -45,7 +46,7 @@ impl<'a, S: Store> StoredRows<'a, S> {
     pub(crate) fn child_rank(&self, place: u64) -> Option<u64>
         ensures { result ≡ nth_where (is_at 1) place self.now }
     {
-        S::child_rank(self.table, place)
+        self.table.child_rank(place)
     }
 
     /// The rank of the first child from a rank on.
@@ -64,10 +65,10 @@ impl<'a, S: Store> StoredRows<'a, S> {
     }
 }
 
-impl<'a, S: Store> Rows for StoredRows<'a, S> {
+impl<'a, T: Table> Rows for StoredRows<'a, T> {
     ghost lines = { λ rows. rows };
 
     fn row(&self, rank: u64) -> Option<RowView<'_>> {
-        S::row_of(self.table, rank)
+        self.table.row(rank)
     }
 }

@@ -33,7 +33,7 @@ use Rattle.aas_question.specs.declared.question.Question.{Question}
 use Rattle.aas_question.specs.declared.question.Question.TheVariants as question
 use Rattle.aas_http.specs.FirstRequest.{Message}
 use Rattle.aas_page.specs.Segment.{StandsFor}
-use Rattle.aas_target.specs.Given.{Gives, IsBadIn, concepts_of, extent_of, level_of, selection_of, span_of}
+use Rattle.aas_target.specs.Given.{Gives, IsBadIn, concepts_of, extent_of, level_of, limit_of, selection_of, span_of}
 use Rattle.aas_target.specs.Query.{parameter_name}
 use Rattle.aas_target.specs.Routes.{Found, Texts, allow_text, method_among, methods_of, parameters_of, path_in, query_in, resource_at}
 use Rattle.aas_target.specs.declared.given.Given.{Given}
@@ -41,7 +41,7 @@ use Rattle.aas_target.specs.declared.method.Method.{Method}
 use Rattle.aas_target.specs.declared.method.Method.TheVariants.{Get, Post, Put, Patch, Delete}
 use Rattle.aas_target.specs.declared.parameter.Parameter.{Parameter}
 use Rattle.aas_target.specs.declared.routes.Resource.{Resource}
-use Rattle.aas_target.specs.declared.routes.Resource.TheVariants.{Shells, ShellsReference, Shell, ShellReference, AssetInformation, ReferencesOf, ReferencesTo, Submodels, SubmodelsMetadata, SubmodelsValue, SubmodelsReference, Submodel, SubmodelMetadata, SubmodelValue, SubmodelReference, SubmodelPaths, Elements, ElementsMetadata, ElementsReference, Element, ElementMetadata, ElementValue, ElementReference, ElementPaths, Concepts, Concept, Serialization}
+use Rattle.aas_target.specs.declared.routes.Resource.TheVariants.{Shells, ShellsReference, Shell, ShellReference, AssetInformation, ReferencesOf, ReferencesTo, Submodels, SubmodelsMetadata, SubmodelsValue, SubmodelsReference, Submodel, SubmodelMetadata, SubmodelValue, SubmodelReference, SubmodelPaths, Elements, ElementsMetadata, ElementsReference, Element, ElementMetadata, ElementValue, ElementReference, ElementPaths, Concepts, Concept, Lookup, Serialization}
 use Rattle.aas_api.specs.Interfaces.{Interface, shell_interface, submodel_interface, concept_interface}
 use Rattle.aas_api.specs.Numbers.{broken_number}
 use Rattle.aas_api.specs.declared.ask.Ask.{Ask}
@@ -240,6 +240,7 @@ AsksResource ElementPaths t query body method =
     AtElement t (λ id p. Shows ElementPaths query (λ g. question.ElementPaths id p (level_of g)))
 AsksResource Concepts t query body method = AsksCollection concept_interface Concepts query body method
 AsksResource Concept t query body method = AsksDocument concept_interface Concept t.id query body method
+AsksResource Lookup t query body method = Shows Lookup query (λ g. question.Lookup g.asset_ids g.after (limit_of g))
 AsksResource Serialization t query body method = Shows Serialization query (λ g. question.Serialization g.shells g.submodels (concepts_of g))
 
 -- ---- requests

@@ -17,7 +17,8 @@ use crate::metadata::{ask_element_metadata, ask_submodel_metadata};
 use crate::segments::identifier;
 use crate::serialization::ask_serialization;
 use crate::shells::{
-    ask_asset, ask_references, ask_shell_reference, ask_shells_reference, drop_reference,
+    ask_asset, ask_lookup, ask_references, ask_shell_reference, ask_shells_reference,
+    drop_reference,
 };
 use crate::submodels::{
     ask_submodel_paths, ask_submodel_reference, ask_submodels_metadata, ask_submodels_reference,
@@ -115,6 +116,7 @@ fn ask_resource(
         Resource::Concept => {
             ask_document::<Concept>(alloc, resource, texts.id, method, query, body)
         }
+        Resource::Lookup => ask_lookup(alloc, query),
         Resource::Serialization => ask_serialization(alloc, query),
     }
 }

@@ -6,7 +6,7 @@ ghost use Rattle.aas_json_mapping.specs.Trees.{asset_informations};
 ghost use Rattle.aas_reference.specs.Trees.{references};
 ghost use Rattle.aas_command.specs.declared.command.Command.TheVariants.{AddReference, DropReference, SetAsset};
 ghost use Rattle.aas_question.specs.declared.question.Question.TheVariants as question;
-ghost use Rattle.aas_target.specs.Given.{selection_of, span_of};
+ghost use Rattle.aas_target.specs.Given.{limit_of, selection_of, span_of};
 ghost use Rattle.aas_target.specs.Routes.{IsOneOf};
 ghost use Rattle.aas_target.specs.declared.method.Method.TheVariants.{Get, Post, Put};
 ghost use Rattle.aas_target.specs.declared.routes.Resource.TheVariants as resource;
@@ -32,6 +32,21 @@ pub(crate) fn ask_shells_reference(alloc: Global, query: &[u8]) -> Result<Ask, R
     Ok(Ask::Answer {
         question: Question::ShellsReference {
             selection: Boxed::new(alloc, given.into_selection())?,
+        },
+    })
+}
+
+/// What is asked of the identifiers of shells, by what their assets carry.
+pub(crate) fn ask_lookup(alloc: Global, query: &[u8]) -> Result<Ask, Refusal>
+    ensures { OrNoMemory (Shows resource.Lookup query.now
+        (λ given. question.Lookup given.asset_ids given.after (limit_of given))) result }
+{
+    let given = given_by(alloc, Resource::Lookup, query)?;
+    Ok(Ask::Answer {
+        question: Question::Lookup {
+            limit: given.limit(),
+            wanted: given.asset_ids,
+            after: given.after,
         },
     })
 }

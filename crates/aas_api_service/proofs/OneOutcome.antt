@@ -49,7 +49,7 @@ use Rattle.aas_step.specs.Causes.{Cause}
 use Rattle.aas_step.specs.Laws.{OneResult}
 use Rattle.aas_step.specs.Valid.{AreValid}
 use Rattle.aas_step.specs.Step.{Result as StepResult}
-use Rattle.aas_target.specs.Given.{concepts_of, extent_of, level_of, selection_of, span_of}
+use Rattle.aas_target.specs.Given.{concepts_of, extent_of, level_of, limit_of, selection_of, span_of}
 use Rattle.aas_target.specs.Laws.{QueriesSayOne}
 use Rattle.aas_target.specs.Query.{parameter_name}
 use Rattle.aas_target.specs.Routes.{Found, Texts, allow_text, method_among, methods_of, parameters_of, path_in, query_in, resource_at}
@@ -58,7 +58,7 @@ use Rattle.aas_target.specs.declared.method.Method.{Method}
 use Rattle.aas_target.specs.declared.method.Method.TheVariants.{Get, Post, Put, Patch, Delete}
 use Rattle.aas_target.specs.declared.parameter.Parameter.{Parameter}
 use Rattle.aas_target.specs.declared.routes.Resource.{Resource}
-use Rattle.aas_target.specs.declared.routes.Resource.TheVariants.{Shells, ShellsReference, Shell, ShellReference, AssetInformation, ReferencesOf, ReferencesTo, Submodels, SubmodelsMetadata, SubmodelsValue, SubmodelsReference, Submodel, SubmodelMetadata, SubmodelValue, SubmodelReference, SubmodelPaths, Elements, ElementsMetadata, ElementsReference, Element, ElementMetadata, ElementValue, ElementReference, ElementPaths, Concepts, Concept, Serialization}
+use Rattle.aas_target.specs.declared.routes.Resource.TheVariants.{Shells, ShellsReference, Shell, ShellReference, AssetInformation, ReferencesOf, ReferencesTo, Submodels, SubmodelsMetadata, SubmodelsValue, SubmodelsReference, Submodel, SubmodelMetadata, SubmodelValue, SubmodelReference, SubmodelPaths, Elements, ElementsMetadata, ElementsReference, Element, ElementMetadata, ElementValue, ElementReference, ElementPaths, Concepts, Concept, Lookup, Serialization}
 use Rattle.aas_api.specs.Asked.{Asked, AsksAsset, AsksElementMetadata, AsksSubmodelMetadata, DescribesElement, DescribesSubmodel, AsksCollection, AsksDocument, AsksElement, AsksElements, AsksElementValue, AsksReferences, AsksResource, AsksSubmodelValue, AtElement, ByBody, ById, ByPath, ByQuery, ByRoute, Called, Inserts, IsAsked, IsByMethod, IsByRead, IsBySent, IsCall, IsCommand, IsQuestion, Replaces, Shows, Through, UnlessBroken, Updates, as_call, has_last, if_same, root}
 use Rattle.aas_api.specs.Interfaces.{Interface, concept_interface, shell_interface, submodel_interface}
 use Rattle.aas_api.specs.Numbers.{broken_number}
@@ -404,6 +404,7 @@ module _ (one_id : SegmentsStandForOne) (one_query : QueriesSayOne) (a b : Asked
   on_resource ElementPaths t query body = λ m. shown_at t ElementPaths query (λ id p g. question.ElementPaths id p (level_of g))
   on_resource Concepts t query body = on_collection concept_interface concepts_once Concepts query body
   on_resource Concept t query body = on_document concept_interface concepts_once Concept t.id query body
+  on_resource Lookup t query body = λ m. by_shown Lookup query (λ g. question.Lookup g.asset_ids g.after (limit_of g))
   on_resource Serialization t query body =
       λ m. by_shown Serialization query (λ g. question.Serialization g.shells g.submodels (concepts_of g))
 

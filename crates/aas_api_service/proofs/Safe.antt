@@ -11,7 +11,7 @@ use Rattle.aas_target.specs.declared.given.Given.{Given}
 use Rattle.aas_target.specs.declared.method.Method.{Method}
 use Rattle.aas_target.specs.declared.method.Method.TheVariants.{Get, Post, Put, Patch, Delete}
 use Rattle.aas_target.specs.declared.routes.Resource.{Resource}
-use Rattle.aas_target.specs.declared.routes.Resource.TheVariants.{Shells, ShellsReference, Shell, ShellReference, AssetInformation, ReferencesOf, ReferencesTo, Submodels, SubmodelsMetadata, SubmodelsValue, SubmodelsReference, Submodel, SubmodelMetadata, SubmodelValue, SubmodelReference, SubmodelPaths, Elements, ElementsMetadata, ElementsReference, Element, ElementMetadata, ElementValue, ElementReference, ElementPaths, Concepts, Concept, Serialization}
+use Rattle.aas_target.specs.declared.routes.Resource.TheVariants.{Shells, ShellsReference, Shell, ShellReference, AssetInformation, ReferencesOf, ReferencesTo, Submodels, SubmodelsMetadata, SubmodelsValue, SubmodelsReference, Submodel, SubmodelMetadata, SubmodelValue, SubmodelReference, SubmodelPaths, Elements, ElementsMetadata, ElementsReference, Element, ElementMetadata, ElementValue, ElementReference, ElementPaths, Concepts, Concept, Lookup, Serialization}
 use Rattle.aas_api.specs.Asked.{Asked, AsksResource, AtElement, ById, IsAsked, IsQuestion, Shows}
 use Rattle.aas_api.specs.declared.ask.Ask.{Ask}
 use Rattle.aas_api.specs.declared.ask.Ask.TheVariants.{Act, Answer, Describe}
@@ -80,6 +80,7 @@ module _ (a : Ask) where
   by_get ElementPaths is_through has t query body = shown_at t ElementPaths query _
   by_get Concepts is_through has t query body = shows Concepts query _
   by_get Concept is_through has t query body = shown t.id Concept query _
+  by_get Lookup is_through has t query body = shows Lookup query _
   by_get Serialization is_through has t query body = shows Serialization query _
 
 -- ---- requests

@@ -5,8 +5,8 @@
 //! Proved, by the contract of `Service`'s `answer`, `answer`, `refused`; `requests_come_to_one_outcome`,
 //! `asks_are_well_formed`, `sessions_stay_valid`, `own_replies_are_of_refusals`:
 //!
-//! - Over any store and any keeper: what a request comes to in a repository, its reply with what is poured behind
-//!   it, its documents and the command that is kept.
+//! - Over any store that finds shells by what their assets carry, and any keeper: what a request comes to in a
+//!   repository, its reply with what is poured behind it, its documents and the command that is kept.
 //! - A reply counts what is poured.
 //! - The reply of a refusal has its status, its code and its text as JSON, and the methods that are allowed.
 //! - Where documents are valid, a request comes to one outcome alone.

@@ -14,6 +14,7 @@ ghost use Rattle.aas_api_service.specs.Turns.{answer_reply, counted_reply, reply
 use crate::refusals::too_long;
 use crate::replies::{open_reply, refuse, told};
 use aas_answer::{Plan, measure_plan};
+use aas_discovery::Lookup;
 use aas_http::Reply;
 use aas_model::{Many, NoMemory};
 use aas_question::Question;
@@ -22,7 +23,7 @@ use aas_store::Store;
 use std::alloc::Global;
 
 /// What a question is answered.
-pub(crate) fn tell<S: Store>(
+pub(crate) fn tell<S: Lookup>(
     alloc: Global,
     store: &S,
     question: &Question,

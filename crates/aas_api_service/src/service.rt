@@ -23,6 +23,7 @@ use crate::replies::{finish, refuse, success};
 use aas_answer::{Plan, pour_plan};
 use aas_api::{Ask, Call, Metadata, read_call};
 use aas_command::{Command, Refusal};
+use aas_discovery::Lookup;
 use aas_http::{Reply, Request};
 use aas_model::NoMemory;
 use aas_out::Out;
@@ -49,7 +50,7 @@ impl<S: Store, K: Keeper> Service<S, K> {
     }
 }
 
-impl<S: Store, K: Keeper> Machine for Service<S, K> {
+impl<S: Lookup, K: Keeper> Machine for Service<S, K> {
     ghost use Rattle.aas_repo.specs.Held.{state_of};
     ghost use Rattle.aas_store.specs.Documents.{Documents};
     ghost use Rattle.aas_api_service.specs.Turns.{Turns};
@@ -93,7 +94,7 @@ impl<S: Store, K: Keeper> Machine for Service<S, K> {
 /// # Errors
 ///
 /// Want of memory, which leaves everything as it was, or a fault of the keeper.
-pub fn answer<S: Store, K: Keeper>(
+pub fn answer<S: Lookup, K: Keeper>(
     alloc: Global,
     repo: &mut Repo<S, K>,
     call: Call,
@@ -135,7 +136,7 @@ fn reach<S: Store, K: Keeper>(repo: &Repo<S, K>, call: &Call) -> Result<(), Refu
 }
 
 /// Takes the command, or answers the question.
-fn answer_ask<S: Store, K: Keeper>(
+fn answer_ask<S: Lookup, K: Keeper>(
     alloc: Global,
     repo: &mut Repo<S, K>,
     ask: Ask,

@@ -1,11 +1,11 @@
-use aas_model::{Boxed, Extent, Level, Many, Path, Text};
+use aas_model::{Boxed, Extent, Level, Many, Path, SpecificAssetId, Text};
 use aas_page::{Selection, Span};
 
 /// What is asked of a repository and changes nothing. Selections, which are large, lie in boxes.
 ///
 /// IDTA-01002-3-0, the operations of the three repository interfaces that get a page of documents or of a document's children, a
-/// document by its identifier, or an element of a submodel by its path; with the modifiers of what is told of it. A path that is
-/// asked for isn't empty.
+/// document by its identifier, or an element of a submodel by its path, with the modifiers of what is told of it; and those of
+/// discovery and serialization. A path that is asked for isn't empty.
 #[derive(Drop)]
 pub enum Question {
     /// A page of shells.
@@ -122,6 +122,15 @@ pub enum Question {
     },
     Concept {
         id: Text,
+    },
+    /// A page of the identifiers of shells that have each of the wanted specific asset ids, compared by name and value. The name
+    /// `globalAssetId` stands for the asset's global id too.
+    Lookup {
+        wanted: Many<SpecificAssetId>,
+        /// The identifier behind which the page begins.
+        after: Option<Text>,
+        /// The most identifiers of the page, 1 to 1000.
+        limit: u32,
     },
     /// The environment of the shells and the submodels of some identifiers, and of the concept descriptions that they take
     /// along, where these are asked for too.

@@ -10,7 +10,7 @@ use Rattle.aas_target.specs.declared.method.Method.TheVariants.{Get, Post, Put, 
 use Rattle.aas_target.specs.declared.parameter.Parameter.{Parameter}
 use Rattle.aas_target.specs.declared.parameter.Parameter.TheVariants.{IdShort, AssetIds, SemanticId, IsCaseOf, Limit, After, From, Level, Extent, AasIds, SubmodelIds, IncludeConceptDescriptions}
 use Rattle.aas_target.specs.declared.routes.Resource.{Resource}
-use Rattle.aas_target.specs.declared.routes.Resource.TheVariants.{Shells, ShellsReference, Shell, ShellReference, AssetInformation, ReferencesOf, ReferencesTo, Submodels, SubmodelsMetadata, SubmodelsValue, SubmodelsReference, Submodel, SubmodelMetadata, SubmodelValue, SubmodelReference, SubmodelPaths, Elements, ElementsMetadata, ElementsReference, Element, ElementMetadata, ElementValue, ElementReference, ElementPaths, Concepts, Concept, Serialization}
+use Rattle.aas_target.specs.declared.routes.Resource.TheVariants.{Shells, ShellsReference, Shell, ShellReference, AssetInformation, ReferencesOf, ReferencesTo, Submodels, SubmodelsMetadata, SubmodelsValue, SubmodelsReference, Submodel, SubmodelMetadata, SubmodelValue, SubmodelReference, SubmodelPaths, Elements, ElementsMetadata, ElementsReference, Element, ElementMetadata, ElementValue, ElementReference, ElementPaths, Concepts, Concept, Lookup, Serialization}
 
 -- ---- the table
 
@@ -60,6 +60,9 @@ reference = word (codes "$reference")
 abbrev pub paths : Segment
 paths = word (codes "$path")
 
+abbrev pub lookup : Segment
+lookup = word (codes "lookup")
+
 abbrev pub serialization : Segment
 serialization = word (codes "serialization")
 
@@ -90,6 +93,7 @@ row_of ElementReference = row (submodels ∷ id ∷ elements ∷ path ∷ refere
 row_of ElementPaths = row (submodels ∷ id ∷ elements ∷ path ∷ paths ∷ []) (Get ∷ []) (Level ∷ [])
 row_of Concepts = row (concepts ∷ []) (Get ∷ Post ∷ []) (IdShort ∷ IsCaseOf ∷ Limit ∷ After ∷ [])
 row_of Concept = row (concepts ∷ id ∷ []) (Get ∷ Put ∷ Delete ∷ []) []
+row_of Lookup = row (lookup ∷ shells ∷ []) (Get ∷ []) (AssetIds ∷ Limit ∷ After ∷ [])
 row_of Serialization = row (serialization ∷ []) (Get ∷ []) (AasIds ∷ SubmodelIds ∷ IncludeConceptDescriptions ∷ [])
 
 abbrev pub parameters_of : Resource → List Parameter
@@ -107,7 +111,7 @@ abbrev pub other_resources : List Resource
 other_resources =
     Shells ∷ ShellsReference ∷ Shell ∷ ShellReference ∷ AssetInformation ∷ ReferencesOf ∷ ReferencesTo
     ∷ Submodels ∷ SubmodelsMetadata ∷ SubmodelsValue ∷ SubmodelsReference
-    ∷ Concepts ∷ Concept ∷ Serialization ∷ []
+    ∷ Concepts ∷ Concept ∷ Lookup ∷ Serialization ∷ []
 
 -- ---- paths
 

@@ -17,6 +17,7 @@ segment_of segments.Metadata = routes.metadata
 segment_of segments.Value = routes.value
 segment_of segments.Reference = routes.reference
 segment_of segments.Paths = routes.paths
+segment_of segments.Lookup = routes.lookup
 segment_of segments.Serialization = routes.serialization
 segment_of segments.Id = routes.id
 segment_of segments.Submodel = routes.submodel

@@ -123,7 +123,8 @@ impl Given {
         }
     }
 
-    fn limit(&self) -> u32
+    /// The most entries of a page, by default a hundred.
+    pub fn limit(&self) -> u32
         ensures { result ≡ limit_of self.now }
     {
         self.limit.unwrap_or(100)

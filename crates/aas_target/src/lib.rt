@@ -6,7 +6,7 @@
 //! Proved: a path names exactly the resource that the table says, with its methods there, or none; a query gives
 //! exactly what its parameters say, or the first of them that is bad is named; it gives one thing alone. By the
 //! contract of `resource_at`, `path_and_query`, `Found::methods`, `method_among`, `allow_text`; `read_query`,
-//! `read_shown`, `Given`'s `shown`, `span`, `into_selection`; `queries_say_one`.
+//! `read_shown`, `Given`'s `shown`, `limit`, `span`, `into_selection`; `queries_say_one`.
 
 #![tactic(auto)]
 

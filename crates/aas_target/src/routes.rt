@@ -59,6 +59,8 @@ pub enum Resource {
     Concepts,
     /// The concept description of an identifier.
     Concept,
+    /// The identifiers of shells, by what their assets carry.
+    Lookup,
     /// The environment of some chosen documents.
     Serialization,
 }
@@ -76,6 +78,7 @@ pub(crate) enum Segment {
     Value,
     Reference,
     Paths,
+    Lookup,
     Serialization,
     /// The identifier of a document.
     Id,
@@ -103,7 +106,7 @@ pub(crate) const SUBMODEL_RESOURCES: [Resource; 13] = [
 ];
 
 /// All others, which are meant before those.
-pub(crate) const OTHER_RESOURCES: [Resource; 14] = [
+pub(crate) const OTHER_RESOURCES: [Resource; 15] = [
     Resource::Shells,
     Resource::ShellsReference,
     Resource::Shell,
@@ -117,6 +120,7 @@ pub(crate) const OTHER_RESOURCES: [Resource; 14] = [
     Resource::SubmodelsReference,
     Resource::Concepts,
     Resource::Concept,
+    Resource::Lookup,
     Resource::Serialization,
 ];
 
@@ -156,6 +160,7 @@ impl Resource {
             Resource::ElementPaths => &[Submodels, Id, Elements, Path, Paths],
             Resource::Concepts => &[Concepts],
             Resource::Concept => &[Concepts, Id],
+            Resource::Lookup => &[Lookup, Shells],
             Resource::Serialization => &[Serialization],
         }
     }
@@ -198,6 +203,7 @@ impl Resource {
                 &[IdShort, SemanticId, Limit, After]
             }
             Resource::Concepts => &[IdShort, IsCaseOf, Limit, After],
+            Resource::Lookup => &[AssetIds, Limit, After],
             Resource::Serialization => &[AasIds, SubmodelIds, IncludeConceptDescriptions],
             Resource::Submodel
             | Resource::SubmodelValue
@@ -232,6 +238,7 @@ impl Segment {
             Segment::Value => Some("$value"),
             Segment::Reference => Some("$reference"),
             Segment::Paths => Some("$path"),
+            Segment::Lookup => Some("lookup"),
             Segment::Serialization => Some("serialization"),
             Segment::Id | Segment::Submodel | Segment::Path => None,
         }

@@ -3,11 +3,8 @@ use Rattle.aas_command.specs.declared.refusal.Refusal.{Refusal}
 use Rattle.aas_command.specs.declared.refusal.Refusal.TheVariants as refused
 use Rattle.aas_serialization.specs.Chosen.{gathered}
 use Rattle.aas_answer.specs.Answers.{Answer, of_gathered}
-use Rattle.aas_answer.proofs.Gathered.{environment_planned, environment_refused, few_in_each}
+use Rattle.aas_answer.proofs.Gathered.{environment_planned, environment_refused}
 use Rattle.aas_answer.proofs.environments.plan_environment.Goals as goal
-
-pub choose-requires : goal.choose-requires
-choose-requires g c = few_in_each (g.S.Store.documents c.args.store.now) c.valid_submodels_are_storable.ensures c.requires
 
 pub returns-in-Ok-clause-planned : goal.returns-in-Ok-clause-planned
 returns-in-Ok-clause-planned g c =

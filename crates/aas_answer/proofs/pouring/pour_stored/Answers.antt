@@ -6,21 +6,15 @@ use Rattle.aas_out.proofs.Adding.{adds_same}
 use Rattle.aas_pour.specs.Submodels.{shown_submodel}
 use Rattle.aas_answer.specs.Answers.{submodel_shown}
 use Rattle.aas_answer.proofs.Entries.{adds_none}
-use Rattle.aas_answer.proofs.Stored.{few_lines, has_lines, low_lines, shown_by_head, storable}
+use Rattle.aas_answer.proofs.Stored.{has_lines, low_lines, shown_by_head, storable}
 use Rattle.aas_answer.proofs.pouring.pour_stored.Goals as goal
-
-pub new-rows-requires : goal.new-rows-requires
-new-rows-requires g c =
-    let d = g.S.Store.documents c.args.store.now in
-    few_lines (map.get d.submodels c.args.id.now) (g.S.Store.kept c.in-Some.table.now)
-    (storable d c.args.id.now c.valid_submodels_are_storable.ensures c.requires) c.in-Some.ensures
 
 pub pour_submodel-requires : goal.pour_submodel-requires
 pour_submodel-requires g c =
     let d = g.S.Store.documents c.args.store.now in
     let found = map.get d.submodels c.args.id.now in
     low_lines found c.new-rows.result (storable d c.args.id.now c.valid_submodels_are_storable.ensures c.requires)
-    (has_lines found (g.S.Store.kept c.in-Some.table.now) c.new-rows.result c.in-Some.ensures c.new-rows.ensures)
+    (has_lines found (g.S.Table.Table.kept c.in-Some.table.now) c.new-rows.result c.in-Some.ensures c.new-rows.ensures)
 
 pub returns-in-Some : goal.returns-in-Some
 returns-in-Some g c =
@@ -28,13 +22,13 @@ returns-in-Some g c =
     let found = map.get d.submodels c.args.id.now in
     let t = g.O.Out.told c.args.out.now in
     let u = g.O.Out.told c.pour_submodel.new.out in
-    let s = g.S.Store.kept c.in-Some.table.now in
-    let h = c.head_of-head.result.now in
+    let s = g.S.Table.Table.kept c.in-Some.table.now in
+    let h = c.head.result.now in
     adds_same c.args.so_far c.pour_submodel.result t u (compact_text (spell_submodel (shown_submodel c.show_at.result h s.kids))) _
     (c.pour_submodel.ensures.canonical s.kids c.new-rows.ensures)
     (ap (λ w. compact_text (spell_submodel (shown_submodel w h s.kids))) c.show_at.ensures
     ∙ shown_by_head c.args.level c.args.extent found h s (storable d c.args.id.now c.valid_submodels_are_storable.ensures c.requires)
-    c.in-Some.ensures c.head_of-head.ensures)
+    c.in-Some.ensures c.head.ensures)
 
 pub returns-in-None : goal.returns-in-None
 returns-in-None g c =
