@@ -18,6 +18,7 @@ use Rattle.aas_model.specs.declared.path.Fault.{Fault}
 use Rattle.aas_model_names.specs.declared.collection.Collection.TheVariants.{Concepts, Shells, Submodels}
 use Rattle.aas_reference.specs.Rules.{first}
 use Rattle.aas_repo.proofs.Imported.{later_cause}
+use Rattle.aas_repo.specs.Decisions.{has_room_for}
 use Rattle.aas_repo.specs.Faulty.{first_faulty_from, first_faulty_in, in_list}
 use Rattle.aas_rule.specs.Rule.{Repository, Room}
 use Rattle.aas_rule.specs.State.{Holds, State}
@@ -25,7 +26,7 @@ use Rattle.aas_step.specs.Causes.{Cause, document_causes, first_of, first_repeat
 use Rattle.aas_step.specs.Made.{with_documents}
 use Rattle.aas_step.specs.Step.{ComesBy, ComesTo, Steps, later_causes, refused, result_of}
 use Rattle.aas_store.specs.Documents.{Documents}
-use Rattle.aas_environment.specs.Imports.{Blames, Imports, IsFileFault, IsRefused, Place, Spell, refusal_of}
+use Rattle.aas_environment.specs.Imports.{Blames, Comes, ComesOut, Imports, IsFileFault, IsRefused, Place, Spell, refusal_of}
 use Rattle.aas_environment.specs.Refusing.{IsOwn}
 use Rattle.aas_environment.specs.declared.import_fault.ImportFault.{ImportFault}
 use Rattle.aas_environment.specs.declared.import_fault.ImportFault.TheVariants.{Full, NoMemory, Read, Rule, Storage, TooMany, Twice}
@@ -102,21 +103,24 @@ by_room has_room why (Some f) none cause = absurd (cc)
 by_room true why None none cause = absurd (cc)
 by_room false why None none cause = cc
 
-blamed : (room : Room) (r : Repository Documents) (e : Environment) (why : Refusal) (fault : ImportFault) → Steps room r (Import e) (refused why) → Blames e fault → why ≡ refusal_of fault
-unfolding Steps ComesTo
-blamed room r e why (Read fault) steps blames = absurd blames
-blamed room r e why (Twice pointer) steps blames = by_repeated (room r.records (length (payload_of (Import e)))) r.documents e why (first_repeated_in e) blames.0 blames.1 steps
-blamed room r e why (Rule pointer fault) steps blames =
-    let has_room = room r.records (length (payload_of (Import e))) in
-    by_faulty has_room r.documents e why (first_faulty_in e) blames.1.0 (refusal_of_fault fault) blames.1.1 (by_later has_room r.documents e why (first_repeated_in e) blames.0 steps)
-blamed room r e why (TooMany pointer) steps blames =
-    let has_room = room r.records (length (payload_of (Import e))) in
-    by_faulty has_room r.documents e why (first_faulty_in e) blames.1.0 TooManyElements blames.1.1 (by_later has_room r.documents e why (first_repeated_in e) blames.0 steps)
-blamed room r e why Full steps blames =
-    let has_room = room r.records (length (payload_of (Import e))) in
-    by_room has_room why (first_faulty_in e) blames.1 (by_later has_room r.documents e why (first_repeated_in e) blames.0 steps)
-blamed room r e why Storage steps blames = absurd blames
-blamed room r e why NoMemory steps blames = absurd blames
+blamed : (has_room : Bool) (d : Documents) (e : Environment) (why : Refusal) (fault : ImportFault) → ComesTo has_room d (Import e) (refused why) → Blames e fault
+    → why ≡ refusal_of fault
+unfolding ComesTo
+blamed has_room d e why (Read fault) comes blames = absurd blames
+blamed has_room d e why (Twice pointer) comes blames = by_repeated has_room d e why (first_repeated_in e) blames.0 blames.1 comes
+blamed has_room d e why (Rule pointer fault) comes blames =
+    by_faulty has_room d e why (first_faulty_in e) blames.1.0 (refusal_of_fault fault) blames.1.1 (by_later has_room d e why (first_repeated_in e) blames.0 comes)
+blamed has_room d e why (TooMany pointer) comes blames =
+    by_faulty has_room d e why (first_faulty_in e) blames.1.0 TooManyElements blames.1.1 (by_later has_room d e why (first_repeated_in e) blames.0 comes)
+blamed has_room d e why Full comes blames =
+    by_room has_room why (first_faulty_in e) blames.1 (by_later has_room d e why (first_repeated_in e) blames.0 comes)
+blamed has_room d e why Storage comes blames = absurd blames
+blamed has_room d e why NoMemory comes blames = absurd blames
+
+blamed_there : (room : Room) (r : Repository Documents) (e : Environment) (why : Refusal) (fault : ImportFault) → Steps room r (Import e) (refused why)
+    → Blames e fault → why ≡ refusal_of fault
+unfolding Steps
+blamed_there room r e why fault steps = blamed (room r.records (length (payload_of (Import e)))) r.documents e why fault steps
 
 -- ---- what is answered
 
@@ -133,7 +137,7 @@ file_fault bytes spelled NoMemory blames = tt
 module _ {I : Type 0} (room : Room) (stands_for : I → List (List ℕ) → Type 0) (r : Repository Documents) (bytes : List ℕ) (from : ℕ) (now : State Documents I)
     (e : Environment) (spelled : Spell bytes e) (why : Refusal) (steps : Steps room r (Import e) (refused why)) (still : Holds stands_for r.records [] r from now) where
   refuses : (fault : ImportFault) → Blames e fault → IsRefused room r bytes fault
-  refuses fault blames = record { environment = e; spelled = spelled; steps = subst (λ w. Steps room r (Import e) (refused w)) (blamed room r e why fault steps blames) steps; blames = blames }
+  refuses fault blames = record { environment = e; spelled = spelled; steps = subst (λ w. Steps room r (Import e) (refused w)) (blamed_there room r e why fault steps blames) steps; blames = blames }
 
   pub answered : (fault : ImportFault) → (fault ≢ NoMemory → Blames e fault) → Imports room stands_for r bytes from now (Err fault)
   answered (Read fault) blames = absurd (blames (λ is. absurd (cc)))
@@ -143,3 +147,23 @@ module _ {I : Type 0} (room : Room) (stands_for : I → List (List ℕ) → Type
   answered Full blames = (refuses Full (blames (λ is. absurd (cc))), still)
   answered Storage blames = absurd (blames (λ is. absurd (cc)))
   answered NoMemory blames = still
+
+-- ---- whatever the keeper tells
+
+module _ (has_room : ℕ → Bool) (old new : Documents) (bytes : List ℕ) (e : Environment) (spelled : Spell bytes e) (why : Refusal)
+    (came : ComesTo (has_room_for has_room (Import e)) old (Import e) (refused why)) where
+  came_by : (fault : ImportFault) → Blames e fault → Comes has_room old bytes (refused (refusal_of fault))
+  came_by fault blames = record {
+    environment = e;
+    spelled = spelled;
+    comes = subst (λ w. ComesTo (has_room_for has_room (Import e)) old (Import e) (refused w)) (blamed (has_room_for has_room (Import e)) old e why fault came blames) came;
+  }
+
+  pub comes_out : (fault : ImportFault) → (fault ≢ NoMemory → Blames e fault) → ComesOut has_room old bytes new (Err fault)
+  comes_out (Read fault) blames = tt
+  comes_out (Twice pointer) blames = came_by (Twice pointer) (blames (λ is. absurd (cc)))
+  comes_out (Rule pointer fault) blames = came_by (Rule pointer fault) (blames (λ is. absurd (cc)))
+  comes_out (TooMany pointer) blames = came_by (TooMany pointer) (blames (λ is. absurd (cc)))
+  comes_out Full blames = came_by Full (blames (λ is. absurd (cc)))
+  comes_out Storage blames = absurd (blames (λ is. absurd (cc)))
+  comes_out NoMemory blames = tt

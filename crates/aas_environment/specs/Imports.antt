@@ -1,5 +1,5 @@
 -- What is done with the bytes of a file that is imported. This profile's own rule.
-use Rattle.std.specs.Prelude.{◌≡◌, ◌≢◌, ℕ, List, [], ◌∷◌, length, Some, None, Result, Ok, Err}
+use Rattle.std.specs.Prelude.{◌≡◌, ◌≢◌, ℕ, Bool, List, [], ◌∷◌, length, Some, None, Result, Ok, Err}
 use Rattle.std.specs.Str.{encode_utf8_all}
 use Rattle.aas_command.specs.Refusals.{refusal_of_fault, refusal_of_read}
 use Rattle.aas_command.specs.declared.command.Command.TheVariants.{Import}
@@ -14,12 +14,14 @@ use Rattle.aas_model.specs.declared.documents.Environment.{Environment}
 use Rattle.aas_model.specs.declared.read_fault.ReadFault.TheVariants as read
 use Rattle.aas_model_names.specs.declared.collection.Collection.{Collection}
 use Rattle.aas_repo.specs.Acts.{IsAccepted, IsTorn}
+use Rattle.aas_repo.specs.Decisions.{has_room_for}
 use Rattle.aas_repo.specs.Faulty.{first_faulty_in}
 use Rattle.aas_repo.specs.declared.repo.Counts.{Counts}
 use Rattle.aas_rule.specs.Rule.{Repository, Room}
 use Rattle.aas_rule.specs.State.{Holds, State}
 use Rattle.aas_step.specs.Causes.{first_repeated_in}
-use Rattle.aas_step.specs.Step.{Steps, refused}
+use Rattle.aas_step.specs.Step as step
+use Rattle.aas_step.specs.Step.{ComesTo, Steps, accepted, refused}
 use Rattle.aas_store.specs.Documents.{Documents}
 use Rattle.aas_environment.specs.Members.{name_of}
 use Rattle.aas_environment.specs.declared.import_fault.ImportFault.{ImportFault}
@@ -102,3 +104,19 @@ Imports room stands_for r bytes from now (Err (Read fault)) = (fault ≢ read.No
 Imports room stands_for r bytes from now (Err Storage) = IsTornImport room stands_for r bytes from now
 Imports room stands_for r bytes from now (Err NoMemory) = Holds stands_for r.records [] r from now
 Imports room stands_for r bytes from now (Err fault) = IsRefused room r bytes fault × Holds stands_for r.records [] r from now
+
+-- ---- whatever the keeper tells
+
+-- The bytes spell an environment, and its command comes to this, where the keeper has room for so many bytes or not.
+pub record Comes (has_room : ℕ → Bool) (old : Documents) (bytes : List ℕ) (result : step.Result) : Type 0 where
+  pub environment : Environment
+  pub spelled : Spell bytes environment
+  pub comes : ComesTo (has_room_for has_room (Import environment)) old (Import environment) result
+
+-- by what is answered
+abbrev pub ComesOut : (ℕ → Bool) → Documents → List ℕ → Documents → Result Counts ImportFault → Type 0
+ComesOut has_room old bytes new (Ok counts) = Comes has_room old bytes (accepted new)
+ComesOut has_room old bytes new (Err Storage) = Comes has_room old bytes (accepted new)
+ComesOut has_room old bytes new (Err NoMemory) = Unit {0}
+ComesOut has_room old bytes new (Err (Read fault)) = Unit {0}
+ComesOut has_room old bytes new (Err fault) = Comes has_room old bytes (refused (refusal_of fault))

@@ -1,8 +1,8 @@
-ghost use Rattle.std.specs.Prelude.{◌≡◌, ◌≢◌, ◌≤◌, ℕ, List, Err, IfErr, false};
+ghost use Rattle.std.specs.Prelude.{◌≡◌, ◌≢◌, ◌≤◌, ℕ, List, Err, IfErr, false, true};
 ghost use Rattle.aas_outside.specs.Faults.{Rose};
 ghost use Rattle.aas_repo.specs.Held.{state_of};
 ghost use Rattle.aas_rule.specs.State.{IsSettledState, PassesTo, repository_of};
-ghost use Rattle.aas_environment.specs.Imports.{Imports, IsFileFault, counts_of};
+ghost use Rattle.aas_environment.specs.Imports.{ComesOut, Imports, IsFileFault, counts_of};
 ghost use Rattle.aas_environment.specs.declared.import_fault.ImportFault.TheVariants.{Storage};
 
 use crate::blame::fault_of;
@@ -21,8 +21,8 @@ use std::alloc::Global;
 /// # Errors
 ///
 /// `Read`; else `Twice`; else `Rule` or `TooMany`, document by document; else `Full`: nothing has changed then, nor at
-/// `NoMemory`. Lists are looked at in the order shells, submodels, concept descriptions. At `Storage` the keeper failed, and the
-/// repository is stopped; its documents are those with the file's.
+/// `NoMemory`, also in a keeper that doesn't tell what it keeps. Lists are looked at in the order shells, submodels, concept
+/// descriptions. At `Storage` the keeper failed, and the repository is stopped; its documents are those with the file's.
 ///
 /// Where a document is refused the bytes are read again, to find its place.
 pub fn import<S: Store, K: Keeper>(
@@ -40,6 +40,9 @@ pub fn import<S: Store, K: Keeper>(
     ensures room { K.room_behind repo.new.keeper ≡ K.room_behind repo.old.keeper }
     ensures past { PassesTo (state_of K.kept K.moment K.left_at repo.old) (state_of K.kept K.moment K.left_at repo.new) }
     ensures stopped { result ≢ Err Storage → repo.new.stopped ≡ false }
+    ensures stops { result ≡ Err Storage → repo.new.stopped ≡ true }
+    ensures outcome { ComesOut (K.has_room repo.old.keeper) repo.old.documents bytes.now repo.new.documents result }
+    ensures unchanged { IfErr result (λ fault. fault ≢ Storage → repo.new ≡ repo.old) }
     ensures later { K.faults repo.old.keeper ≤ K.faults repo.new.keeper }
     ensures fault { result ≡ Err Storage → Rose (K.faults repo.old.keeper) (K.faults repo.new.keeper) }
 {

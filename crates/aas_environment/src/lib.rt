@@ -12,7 +12,8 @@
 //! - An export of a repository gives that text and a line feed and tells how many bytes these are, or a front
 //!   where the link fails, or nothing exactly where they are 2^64 or more.
 //! - A file is imported as one command, or why it isn't is told exactly, with the first document that is refused,
-//!   and nothing has changed then, unless the keeper fails.
+//!   and nothing has changed then, neither the documents nor the keeper, unless this fails: then the repository is
+//!   stopped. But for what is kept, this holds also of a keeper that doesn't tell it.
 //! - Where there are no documents, importing an export gives these documents.
 //! - Importing an environment twice is importing it once.
 

@@ -1,5 +1,5 @@
 -- What is done with a command. This profile's own rule.
-use Rattle.std.specs.Prelude.{◌≡◌, ◌≢◌, ℕ, List, [], ◌∷◌, ◌++◌, length, Result, Ok, Err}
+use Rattle.std.specs.Prelude.{◌≡◌, ◌≢◌, ℕ, Bool, List, [], ◌∷◌, ◌++◌, length, Result, Ok, Err}
 use Rattle.aas_command.specs.Commands.{payload_of}
 use Rattle.aas_command.specs.Encoding.{HasFields}
 use Rattle.aas_command.specs.declared.command.Command.{Command}
@@ -9,7 +9,7 @@ use Rattle.aas_command.specs.declared.refusal.Refusal.TheVariants.{NoMemory, Sto
 use Rattle.aas_rule.specs.Rule.{Repository, Room}
 use Rattle.aas_rule.specs.State.{State, Holds, IsFaulted}
 use Rattle.aas_store.specs.Documents.{Documents}
-use Rattle.aas_step.specs.Step.{Steps, accepted, refused}
+use Rattle.aas_step.specs.Step.{ComesTo, Steps, accepted, refused}
 use Rattle.aas_repo.specs.declared.repo.Done.{Done}
 use Rattle.aas_repo.specs.declared.repo.Done.TheVariants.{Created, Changed, Imported}
 
@@ -44,3 +44,10 @@ Acts room stands_for r c from now (Err refusal) =
     (refusal ≡ StorageFault → IsTorn room stands_for r c from now)
     × (refusal ≢ StorageFault → Holds stands_for r.records [] r from now)
     × (refusal ≢ StorageFault → refusal ≢ NoMemory → Steps room r c (refused refusal))
+
+-- by what is answered, whatever the keeper tells: what the command comes to, where there is room to keep it or not
+abbrev pub ComesOut : Bool → Documents → Command → Documents → Result Done Refusal → Type 0
+ComesOut has_room old c new (Ok done) = (done ≡ done_of c) × ComesTo has_room old c (accepted new)
+ComesOut has_room old c new (Err refusal) =
+    (refusal ≡ StorageFault → ComesTo has_room old c (accepted new))
+    × (refusal ≢ StorageFault → refusal ≢ NoMemory → ComesTo has_room old c (refused refusal))

@@ -1,5 +1,5 @@
 -- What is decided on a command on whole documents, and what becomes of a command that is taken, before it is kept. This profile's own rule.
-use Rattle.std.specs.Prelude.{◌≡◌, ◌≢◌, ℕ, Bool, List, [], ◌∷◌, Some, None, Result, Ok, Err, IsTrue, length}
+use Rattle.std.specs.Prelude.{◌≡◌, ◌≢◌, ◌^◌, ◌&&◌, ℕ, nat_lt, Bool, List, [], ◌∷◌, Some, None, Result, Ok, Err, IsTrue, length}
 use Rattle.std.specs.Str.{encode_utf8_all}
 use Rattle.aas_model_names.specs.declared.collection.Collection.{Collection}
 use Rattle.aas_constraint_rules.specs.Faults.{shell}
@@ -10,24 +10,24 @@ use Rattle.aas_command.specs.declared.refusal.Refusal.{Refusal}
 use Rattle.aas_command.specs.declared.refusal.Refusal.TheVariants.{NoMemory, StorageFault}
 use Rattle.aas_model.specs.declared.asset.AssetInformation.{AssetInformation}
 use Rattle.aas_model.specs.declared.documents.Shell.{Shell}
-use Rattle.aas_rule.specs.Rule.{Room}
 use Rattle.aas_store.specs.Documents.{Documents, without}
 use Rattle.aas_step.specs.Causes.{Cause, causes, first_of, in_shell, is_absent}
 use Rattle.aas_step.specs.Made.{IsMade, changed_shell, left}
-use Rattle.aas_step.specs.Step.{Steps, accepted, refused}
+use Rattle.aas_step.specs.Step.{ComesTo, accepted, refused}
 use Rattle.aas_repo.specs.declared.taking.Taken.{Taken}
 use Rattle.aas_repo.specs.declared.taking.Taken.TheVariants as taken
 
--- the same, where the keeper that keeps these records has room for so many bytes or not
-abbrev pub IsTaken : (has_room : ℕ → Bool) (kept : List (List ℕ) → Type 0) (room : Room) → Documents → Command → Documents → Taken → Type 0
-IsTaken has_room kept room old c new (taken.Made frame) =
-    (frame ≡ payload_of c) × IsTrue (has_room (length frame))
-    × ((records : List (List ℕ)) → kept records → Steps room (record { documents = old; records = records }) c (accepted new))
-    × HasFields c
-IsTaken has_room kept room old c new (taken.Refused refusal) =
-    (new ≡ old) × (refusal ≢ StorageFault)
-    × ((records : List (List ℕ)) → kept records → Steps room (record { documents = old; records = records }) c (refused refusal))
-IsTaken has_room kept room old c new taken.NoMemory = new ≡ old
+-- a keeper that has room for so many bytes or not has room for the command; for a payload that has no frame there is none
+abbrev pub has_room_for : (has_room : ℕ → Bool) → Command → Bool
+has_room_for has_room c = nat_lt (length (payload_of c)) (2 ^ 32) && has_room (length (payload_of c))
+
+-- with the documents before and after
+abbrev pub IsTaken : (has_room : ℕ → Bool) → Documents → Command → Documents → Taken → Type 0
+IsTaken has_room old c new (taken.Made frame) =
+    (frame ≡ payload_of c) × IsTrue (has_room (length frame)) × ComesTo (has_room_for has_room c) old c (accepted new) × HasFields c
+IsTaken has_room old c new (taken.Refused refusal) =
+    (new ≡ old) × (refusal ≢ StorageFault) × ComesTo (has_room_for has_room c) old c (refused refusal)
+IsTaken has_room old c new taken.NoMemory = new ≡ old
 
 -- It takes the document of an identifier away, where one is there.
 pub record Deletes (d : Documents) (c : Command) (collection : Collection) (id : List ℕ) : Type 0 where

@@ -5,9 +5,11 @@
 //! answered over the repository's store (`aas_answer`).
 //!
 //! Proved: over any store and any keeper: a command is refused by the first of its causes, or the documents
-//! become what it makes and its payload is kept behind the others; a refusal and want of memory change nothing;
-//! where the keeper fails, that is answered, and what a stop may leave then; every document stays valid. By the
-//! contract of `Repo::act`, `refers`, `stopped`; `change`.
+//! become what it makes and its payload is kept behind the others; a refusal and want of memory change nothing,
+//! neither the documents nor the keeper; where the keeper fails, that is answered, the repository is stopped, and
+//! what a stop may leave then; after every other answer it isn't stopped; every document stays valid. But for what
+//! is kept, this holds also of a keeper that doesn't tell it. By the contract of `Repo::act`, `refers`, `stopped`;
+//! `change`.
 #![tactic(auto)]
 
 mod deciding;

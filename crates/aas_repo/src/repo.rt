@@ -1,12 +1,13 @@
 // Documents in a store, and the commands that made them in a keeper.
-ghost use Rattle.std.specs.Prelude.{◌≡◌, ◌≢◌, ◌≤◌, ◌⊎◌, ◌^◌, ℕ, List, length, nat_lt, None, Some, true, false, Err, IfErr, IfOk, MatchResult, if◌then◌else◌};
+ghost use Rattle.std.specs.Prelude.{◌≡◌, ◌≢◌, ◌≤◌, ℕ, List, None, Some, true, false, Err, IfErr, MatchResult};
 ghost use Rattle.aas_command.specs.Commands.{IsWellFormed};
 ghost use Rattle.aas_command.specs.declared.refusal.Refusal.TheVariants.{NoMemory, StorageFault};
 ghost use Rattle.aas_outside.specs.Faults.{Rose};
 ghost use Rattle.aas_rule.specs.State.{IsSettledState, PassesTo, repository_of};
 ghost use Rattle.aas_step.specs.Causes.{first_of, reference_causes};
 ghost use Rattle.aas_step.specs.Valid.{AreValid};
-ghost use Rattle.aas_repo.specs.Acts.{Acts, done_of};
+ghost use Rattle.aas_repo.specs.Acts.{Acts, ComesOut, done_of};
+ghost use Rattle.aas_repo.specs.Decisions.{has_room_for};
 ghost use Rattle.aas_repo.specs.Held.{state_of};
 
 use crate::references::referring;
@@ -101,7 +102,7 @@ impl<S: Store, K: Keeper> Repo<S, K> {
 
     /// Does what a command asks for, or refuses it by the first of its causes, in the order of [`Refusal`] from `NotFound`
     /// on. At `Ok` every stop leaves the command from now on. At `StorageFault` the keeper failed, and the repository is
-    /// stopped; at any other error nothing has changed.
+    /// stopped; at any other error nothing has changed, also in a keeper that doesn't tell what it keeps.
     pub fn act(&mut self, command: Command) -> Result<Done, Refusal>
         requires open { self.old.stopped ≡ false }
         requires well_formed { IsWellFormed command }
@@ -113,6 +114,10 @@ impl<S: Store, K: Keeper> Repo<S, K> {
         ensures room { K.room_behind self.new.keeper ≡ K.room_behind self.old.keeper }
         ensures past { PassesTo (state_of K.kept K.moment K.left_at self.old) (state_of K.kept K.moment K.left_at self.new) }
         ensures stopped { result ≢ Err StorageFault → self.new.stopped ≡ false }
+        ensures stops { result ≡ Err StorageFault → self.new.stopped ≡ true }
+        ensures outcome { ComesOut (has_room_for (K.has_room self.old.keeper) command)
+            self.old.documents command self.new.documents result }
+        ensures unchanged { IfErr result (λ refusal. refusal ≢ StorageFault → self.new ≡ self.old) }
         ensures later { K.faults self.old.keeper ≤ K.faults self.new.keeper }
         ensures fault { result ≡ Err StorageFault → Rose (K.faults self.old.keeper) (K.faults self.new.keeper) }
     {

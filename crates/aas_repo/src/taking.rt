@@ -33,8 +33,7 @@ pub(crate) fn take<S: Store, K: Keeper>(
 ) -> Taken
     requires valid { AreValid (S.documents store.old) }
     requires well_formed { IsWellFormed command }
-    ensures taken { IsTaken (K.has_room keeper.now) (K.kept keeper.now) (K.room_behind keeper.now)
-        (S.documents store.old) command (S.documents store.new) result }
+    ensures taken { IsTaken (K.has_room keeper.now) (S.documents store.old) command (S.documents store.new) result }
     ensures valid { AreValid (S.documents store.new) }
 {
     match encode(alloc, &command) {

@@ -1,6 +1,6 @@
 -- What an accepted change comes to.
-use Rattle.std.proofs.Common.{◌≡◌, ℕ, ◌<◌, ◌≤◌, length, Bool, true, false, List, [], ◌∷◌, Option, Some, None, refl, sym, ap, ap₂, ◌∙◌, subst, arith, ltb-false}
-use Rattle.std.specs.Prelude.{◌≢◌, IfSome, MatchOption, option_map}
+use Rattle.std.proofs.Common.{◌≡◌, ℕ, ◌<◌, length, Bool, true, false, List, [], ◌∷◌, Option, Some, None, refl, sym, ap, ap₂, ◌∙◌, subst, arith}
+use Rattle.std.specs.Prelude.{◌≢◌, MatchOption, option_map}
 use Rattle.std.specs.FinMap as map
 use Rattle.std.specs.Option.{option_map_or}
 use Rattle.std.specs.Str.{encode_utf8_all}
@@ -19,7 +19,6 @@ use Rattle.aas_step.specs.Step.{later_causes}
 use Rattle.aas_step.specs.Valid.{AreValid}
 use Rattle.aas_store.specs.Documents.{Documents}
 use Rattle.aas_store.specs.Edited.{Holds, with_changed}
-use Rattle.aas_path_trees.specs.Patched.{element_count}
 use Rattle.aas_store.specs.Storable.{IsStorable}
 use Rattle.aas_repo_documents.proofs.Decided.{makes, refuses}
 use Rattle.aas_repo_documents.proofs.Edited.{makes_one}
@@ -27,14 +26,7 @@ use Rattle.aas_repo_documents.specs.Accepted.{IsAccepted}
 use Rattle.aas_repo_documents.specs.Decisions.{Edits, IsDecision}
 use Rattle.aas_repo_documents.specs.declared.decision.Decision.TheVariants as decision
 
--- ---- in valid documents
-
-pub few_elements : (d : Documents) (id : List ℕ) → AreValid d → IfSome (map.get d.submodels id) (λ s. element_count s ≤ 65536)
-few_elements d id valid = by_submodel (map.get d.submodels id) refl
-  where
-    by_submodel : (found : Option Submodel) → map.get d.submodels id ≡ found → IfSome found (λ s. element_count s ≤ 65536)
-    by_submodel None is = tt
-    by_submodel (Some s) is = ltb-false 65536 (element_count s) (valid.submodels id s is).few
+-- ---- by the submodel of an identifier
 
 -- what holds of the submodel of an identifier, by its bytes
 pub holds_at : (d : Documents) (id bytes : List ℕ) (P : Submodel → Type 0) → bytes ≡ id → Holds d id P → Holds d bytes P

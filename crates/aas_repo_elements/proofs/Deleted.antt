@@ -1,5 +1,5 @@
 -- What the deletion of an element comes to.
-use Rattle.std.proofs.Common.{◌≡◌, ◌⊎◌, ℕ, ◌+◌, Bool, true, false, List, [], ◌∷◌, Option, Some, None, refl, sym, ap, ◌∙◌, arith}
+use Rattle.std.proofs.Common.{◌≡◌, ◌⊎◌, ℕ, ◌+◌, Bool, true, false, List, [], ◌∷◌, Option, Some, None, inl, inr, refl, sym, ap, ◌∙◌, subst, arith}
 use Rattle.std.proofs.lemmas.Bool.Decides.{nat_tests}
 use Rattle.std.specs.Prelude.{◌≢◌, IsSome, MatchOption, nat_lt, take}
 use Rattle.std.specs.FinMap as map
@@ -19,10 +19,13 @@ use Rattle.aas_path_trees.specs.Edits.{removed}
 use Rattle.aas_path_trees.specs.ElementAt.{depth_found, element_at}
 use Rattle.aas_rows.specs.declared.view.RowView.{RowView}
 use Rattle.aas_step.specs.Causes.{delete_causes, first_of, unless}
+use Rattle.aas_step.specs.Lost.{IsRefusalOf}
 use Rattle.aas_step.specs.Valid.{AreValid}
 use Rattle.aas_store.specs.Documents.{Documents}
 use Rattle.aas_store.specs.Edited.{Holds, LeadsNowhere, with_changed}
 use Rattle.aas_store.specs.Reads.{IsRowOf}
+use Rattle.aas_store.specs.declared.lack.Lack.{Lack}
+use Rattle.aas_store.specs.declared.lack.Lack.TheVariants as lack
 use Rattle.aas_path_trees.specs.Patched.{element_count}
 use Rattle.aas_repo_documents.proofs.Accepted as accepted
 use Rattle.aas_repo_documents.proofs.Accepted.{holds_at, holds_then, some_steps}
@@ -54,12 +57,15 @@ module _ (d : Documents) (id : List ℕ) (p : Path) where
       some None is = absurd is
       some (Some e) is = refl
 
-  pub submodel_lost : (bytes : List ℕ) → bytes ≡ encode_utf8_all id → map.get d.submodels bytes ≡ None
+  no_memory : (r : Refusal) → r ≡ NoMemory → (room : Bool) → IsDecision room d (DeleteElement id p) d (decision_of r)
+  no_memory r is room = subst (λ (r : Refusal). IsDecision room d (DeleteElement id p) d (decision_of r)) (sym is) refl
+
+  submodel_lost : (bytes : List ℕ) → bytes ≡ encode_utf8_all id → map.get d.submodels bytes ≡ None
       → (room : Bool) → IsDecision room d (DeleteElement id p) d (decision_of (NotFound absent.Submodel))
   submodel_lost bytes same none room =
       edited.is_missing d (DeleteElement id p) id causes_in changed edits room d (ap (map.get d.submodels) (sym same) ∙ none) refl
 
-  pub element_lost : (bytes : List ℕ) (m : Missing) (r : Refusal) → bytes ≡ encode_utf8_all id → p.steps ≢ [] → Holds d bytes (λ s. LeadsNowhere s p.steps m)
+  element_lost : (bytes : List ℕ) (m : Missing) (r : Refusal) → bytes ≡ encode_utf8_all id → p.steps ≢ [] → Holds d bytes (λ s. LeadsNowhere s p.steps m)
       → (r ≡ NoMemory) ⊎ (r ≡ NotFound (absent.Element (record { steps = take m.steps p.steps })))
       → (room : Bool) → IsDecision room d (DeleteElement id p) d (decision_of r)
   element_lost bytes m r same some nowhere made room =
@@ -71,6 +77,15 @@ module _ (d : Documents) (id : List ℕ) (p : Path) where
       by_submodel (Some s) is nowhere =
           edited.is_refused d (DeleteElement id p) id causes_in changed edits room d s r is
           (λ other. is_missing_at s p.steps m.steps r [] (some_steps p.steps some) nowhere.0 nowhere.1 made other) refl
+
+  pub is_lost_by : (bytes : List ℕ) (l : Lack) (r : Refusal) → bytes ≡ encode_utf8_all id → p.steps ≢ [] → (l ≡ lack.NoSubmodel → map.get d.submodels bytes ≡ None)
+      → ((m : Missing) → l ≡ lack.NoElement m → Holds d bytes (λ s. LeadsNowhere s p.steps m)) → (r ≡ NoMemory) ⊎ IsRefusalOf p.steps l r
+      → (room : Bool) → IsDecision room d (DeleteElement id p) d (decision_of r)
+  is_lost_by bytes l r same some none nowhere (inl is) room = no_memory r is room
+  is_lost_by bytes lack.NoSubmodel r same some none nowhere (inr is) room =
+      subst (λ (r : Refusal). IsDecision room d (DeleteElement id p) d (decision_of r)) (sym is) (submodel_lost bytes same (none refl) room)
+  is_lost_by bytes (lack.NoElement m) r same some none nowhere (inr is) room = element_lost bytes m r same some (nowhere m refl) (inr is) room
+  is_lost_by bytes lack.NoMemory r same some none nowhere (inr is) room = no_memory r is room
 
   -- ---- an element that is there
 

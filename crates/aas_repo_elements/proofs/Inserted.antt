@@ -1,19 +1,15 @@
 -- What the insertion of an element comes to, where it is accepted by its place.
 use Rattle.std.proofs.Common.{◌≡◌, ⊎_elim, ℕ, ◌+◌, ◌≤◌, Bool, true, false, List, [], ◌∷◌, ◌++◌, length, map as each, flat_map, Option, Some, None, option_and_then, inl, inr, refl, sym, ap, ap₂, ◌∙◌, arith}
 use Rattle.std.proofs.lemmas.Bool.Decides.{nat_tests}
-use Rattle.std.specs.Prelude.{◌&&◌, IfSome, IsSome, MatchOption, is_some, nat_lt, option_map}
-use Rattle.std.specs.FinMap as map
+use Rattle.std.specs.Prelude.{◌&&◌, IsSome, is_some, nat_lt, option_map}
 use Rattle.std.specs.Option.{option_map_or, option_or}
-use Rattle.std.specs.Str.{encode_utf8_all}
-use Rattle.aas_command.specs.declared.command.Command.TheVariants.{InsertElement}
-use Rattle.aas_command.specs.declared.refusal.Absent.TheVariants as absent
-use Rattle.aas_command.specs.declared.refusal.Refusal.TheVariants.{Conflict, NotAContainer, NotFound, StorageFull}
+use Rattle.aas_command.specs.declared.refusal.Refusal.TheVariants.{Conflict, NotAContainer}
 use Rattle.aas_constraint_laws.specs.Law.{behind}
-use Rattle.aas_constraint_rules.specs.Faults.{broken, fault, faults_at}
+use Rattle.aas_constraint_laws.specs.Valid.{IsValid}
+use Rattle.aas_constraint_rules.specs.Faults.{broken, fault, faults_at, submodel}
 use Rattle.aas_constraint_rules.specs.Rules.{agree, first_some, is_repeat, semantics_of}
 use Rattle.aas_constraint_rules.specs.Sites.{Own, Site, own_of, sites, sites_among, stands_in_list, step_to, tree_of, trees, under}
 use Rattle.aas_edit_faults.specs.Laws.{EditsCount, EditsKeepValid, InsertedStandsAlone, IsNewName, faults_as_child}
-use Rattle.aas_edit_laws.proofs.Attributes.{insert_keeps_attributes}
 use Rattle.aas_edit_laws.specs.Laws.{at_level}
 use Rattle.aas_json_mapping.specs.Whole.{is_whole_element}
 use Rattle.aas_lemmas.proofs.Lists.{no_first, no_map, no_second}
@@ -23,28 +19,18 @@ use Rattle.aas_model.specs.declared.documents.Submodel.{Submodel}
 use Rattle.aas_model.specs.declared.element.Element.{Element, out-Element}
 use Rattle.aas_model.specs.declared.element.Role.{Role}
 use Rattle.aas_model.specs.declared.path.Fault.{Fault}
-use Rattle.aas_model.specs.declared.path.Path.{Path}
 use Rattle.aas_model.specs.declared.path.PathStep.{PathStep}
 use Rattle.aas_model.specs.declared.reference.Reference.{Reference}
 use Rattle.aas_path_trees.specs.Children.{id_short_of, with_role}
 use Rattle.aas_path_trees.specs.Edits.{if_fits, inserted, role_at, role_under_found, role_within}
 use Rattle.aas_path_trees.specs.ElementAt.{element_at, place_named, children_at}
 use Rattle.aas_path_trees.specs.Patched.{kinds, element_count}
-use Rattle.aas_step.specs.Causes.{Cause, causes, first_of, insert_causes, is_container, is_named_among, unless, when}
-use Rattle.aas_step.specs.Laws.{ValidIsStorable}
-use Rattle.aas_step.specs.Valid.{AreValid}
-use Rattle.aas_store.specs.Documents.{Documents}
-use Rattle.aas_store.specs.Edited.{Holds, with_changed}
+use Rattle.aas_step.specs.Causes.{Cause, first_of, insert_causes, is_container, is_named_among, unless, when}
 use Rattle.aas_store.specs.Reads as reads
-use Rattle.aas_store.specs.Storable.{IsStorable}
-use Rattle.aas_repo_documents.proofs.Accepted as accepted
-use Rattle.aas_repo_documents.proofs.Accepted.{holds_at, holds_then}
 use Rattle.aas_repo_documents.specs.Accepted.{IsAccepted}
-use Rattle.aas_repo_documents.specs.Decisions.{Edits, IsDecision}
 use Rattle.aas_repo_elements.proofs.Placed.{common_with_role, none_alone}
-use Rattle.aas_repo_elements.specs.Placing.{IsAbove, IsFaultless, IsInsertable, IsLead, IsParent, own_of_parent, role_below}
+use Rattle.aas_repo_elements.specs.Placing.{IsAbove, IsFaultless, IsLead, IsParent, own_of_parent, role_below}
 use Rattle.aas_repo_elements.specs.declared.placing.Parent.{Parent}
-use Rattle.aas_repo_documents.specs.declared.decision.Decision.TheVariants as decision
 
 -- ---- the first semanticId
 
@@ -57,14 +43,9 @@ first_is (k ∷ ks) = by_own (semantics_of (own_of k)) (first_is ks)
     by_own None more = more
     by_own (Some r) more = refl
 
-pub in_list : (d : Documents) (id bytes : List ℕ) (p : List PathStep) (a : Option Own) (e : Element) (lead : Option Reference) → bytes ≡ id → stands_in_list a ≡ true
-    → lead ≡ option_and_then (λ s. reads.first_semantic_id (children_at s p)) (map.get d.submodels bytes) → IfSome (map.get d.submodels id) (IsLead p a e lead)
-in_list d id bytes p a e lead same list is =
-    by_submodel (map.get d.submodels id) (is ∙ ap (λ (i : List ℕ). option_and_then (λ s. reads.first_semantic_id (children_at s p)) (map.get d.submodels i)) same)
-  where
-    by_submodel : (found : Option Submodel) → lead ≡ option_and_then (λ s. reads.first_semantic_id (children_at s p)) found → IfSome found (IsLead p a e lead)
-    by_submodel None is = tt
-    by_submodel (Some s) is = inl (list, is ∙ first_is (children_at s p))
+pub in_list : (s : Submodel) (p : List PathStep) (a : Option Own) (e : Element) (lead : Option Reference) → stands_in_list a ≡ true
+    → lead ≡ reads.first_semantic_id (children_at s p) → IsLead p a e lead s
+in_list s p a e lead list is = inl (list, is ∙ first_is (children_at s p))
 
 -- ---- the faults of a last child
 
@@ -108,12 +89,12 @@ none_as_child s p x e lead law parent new unnamed lead_is faultless =
 
 -- the role of a new child
 role_is : (s : Submodel) (p : List PathStep) (a : Option Own) (e : Element) → IsAbove p a s → role_at s p e ≡ role_below a e
-role_is s [] a e above = ap (λ o. role_below o e) above.own
+role_is s [] a e above = ap (λ (a : Option Own). role_below a e) above.own
 role_is s (t ∷ q) a e above = by_found (element_at s (t ∷ q)) above.there above.own
   where
     by_found : (found : Option Element) → is_some found ≡ true → option_map own_of found ≡ a → role_under_found found e ≡ role_below a e
-    by_found None is own = absurd (cc)
-    by_found (Some o) is own = ap (λ o. role_below o e) own
+    by_found None there own = absurd (cc)
+    by_found (Some o) there own = ap (λ (a : Option Own). role_below a e) own
 
 within : (n k m : ℕ) → n ≡ k + m → k + m ≤ 65536 → nat_lt 65536 n ≡ false
 within n k m is few = grind (arith, nat_tests)
@@ -149,69 +130,29 @@ new_there : (s : Submodel) (p : List PathStep) (e : Element) (r : Role) → role
     → is_named_among (id_short_of e) (children_at s p) ≡ false
 new_there s p e r role none = no_conflict _ _ (is_container s p) _ (takes_children s p e r role) none
 
--- no cause in what is there, in a submodel
-pub clear_in : (d : Documents) (id : List ℕ) (p : Path) (e : Element) → first_of (causes d (InsertElement id p e)) ≡ None → (s : Submodel)
-    → map.get d.submodels (encode_utf8_all id) ≡ Some s → first_of (insert_causes p.steps e s) ≡ None
-clear_in d id p e none s is =
-    sym (ap (λ (o : Option Submodel). first_of (unless (is_some o) (NotFound absent.Submodel) ∷ option_map_or (insert_causes p.steps e) o [])) is) ∙ none
+pub is_insertable : (s : Submodel) (p : List PathStep) (x : Parent) (e child : Element) (r : Role) (lead : Option Reference)
+    → InsertedStandsAlone → EditsKeepValid → EditsCount → IsValid (submodel s) → first_of (insert_causes p e s) ≡ None
+    → is_whole_element (at_level (length p + 1)) e ≡ true → role_below (own_of_parent x) e ≡ Some r → child ≡ with_role e r → IsParent p x s
+    → (stands_in_list (own_of_parent x) ≡ true → id_short_of e ≡ None) → element_count s + length (kinds e) ≤ 65536 → IsLead p (own_of_parent x) e lead s
+    → IsFaultless x lead child → IsAccepted (insert_causes p e) (λ s. inserted s p e) s
+is_insertable s p x e child r lead law keep count valid none whole role same parent unnamed few lead_is faultless =
+    let role_at_is : role_at s p e ≡ Some r = role_is s p (own_of_parent x) e parent.above ∙ role in
+    let name = named_as e child r same in
+    let faultless_there =
+    none_as_child s p x child lead law parent (ap (λ n. is_named_among n (children_at s p)) name ∙ new_there s p e r role_at_is none)
+    (λ list. name ∙ unnamed list) (lead_as s p (own_of_parent x) e child r lead same lead_is) faultless in record {
+      no_cause = none;
+      valid = keep.inserted s p e r valid role_at_is whole (ap (faults_as_child s p (children_at s p)) (sym same) ∙ faultless_there);
+      few = within _ _ _ (count.inserted s p e r role_at_is) few;
+    }
 
-pub is_insertable : (d : Documents) (id : List ℕ) (p : Path) (x : Parent) (e child : Element) (r : Role) (lead : Option Reference)
-    → InsertedStandsAlone → EditsKeepValid → EditsCount → AreValid d → first_of (causes d (InsertElement id p e)) ≡ None
-    → is_whole_element (at_level (length p.steps + 1)) e ≡ true → Some r ≡ role_below (own_of_parent x) e → child ≡ with_role e r
-    → Holds d (encode_utf8_all id) (IsParent p.steps x) → (stands_in_list (own_of_parent x) ≡ true → id_short_of e ≡ None)
-    → IfSome (map.get d.submodels (encode_utf8_all id)) (λ s. element_count s + length (kinds e) ≤ 65536)
-    → IfSome (map.get d.submodels (encode_utf8_all id)) (IsLead p.steps (own_of_parent x) e lead) → IsFaultless x lead child → IsInsertable d id p.steps e
-is_insertable d id p x e child r lead law keep count valid clear whole role same parent unnamed few lead_is faultless =
-    by_submodel (map.get d.submodels (encode_utf8_all id)) refl parent few lead_is
-  where
-    by_submodel : (found : Option Submodel) → map.get d.submodels (encode_utf8_all id) ≡ found
-        → MatchOption found ⊥ (IsParent p.steps x) → IfSome found (λ s. element_count s + length (kinds e) ≤ 65536)
-        → IfSome found (IsLead p.steps (own_of_parent x) e lead) → MatchOption found ⊥ (IsAccepted (insert_causes p.steps e) (λ s. inserted s p.steps e))
-    by_submodel None is parent few lead_is = absurd parent
-    by_submodel (Some s) is parent few lead_is =
-        let role_at_is : role_at s p.steps e ≡ Some r = role_is s p.steps (own_of_parent x) e parent.above ∙ sym role in
-        let none = clear_in d id p e clear s is in
-        let name = named_as e child r same in
-        let faultless_there =
-        none_as_child s p.steps x child lead law parent
-        (ap (λ n. is_named_among n (children_at s p.steps)) name ∙ new_there s p.steps e r role_at_is none)
-        (λ list. name ∙ unnamed list) (lead_as s p.steps (own_of_parent x) e child r lead same lead_is) faultless in record {
-          no_cause = none;
-          valid = keep.inserted s p.steps e r (valid.submodels (encode_utf8_all id) s is).valid role_at_is whole
-              (ap (faults_as_child s p.steps (children_at s p.steps)) (sym same) ∙ faultless_there);
-          few = within _ _ _ (count.inserted s p.steps e r role_at_is) few;
-        }
+-- ---- what is accepted can be stored
 
--- ---- in the store
+taken : (x y : Cause) (b : Bool) → first_of (x ∷ y ∷ unless b NotAContainer ∷ []) ≡ None → b ≡ true
+taken (Some r) y b is = absurd (cc)
+taken None (Some r) b is = absurd (cc)
+taken None None true is = refl
+taken None None false is = absurd (cc)
 
-module _ (d : Documents) (id : List ℕ) (p : Path) (e : Element) where
-  edits : Edits (InsertElement id p e) id (insert_causes p.steps e) (λ s. inserted s p.steps e) d
-  edits = record { causes_are = refl; made = λ new is. is; left_are = refl }
-
-  taken : (x y : Cause) (b : Bool) → first_of (x ∷ y ∷ unless b NotAContainer ∷ []) ≡ None → b ≡ true
-  taken (Some r) y b is = absurd (cc)
-  taken None (Some r) b is = absurd (cc)
-  taken None None true is = refl
-  taken None None false is = absurd (cc)
-
-  pub takes : (bytes : List ℕ) → bytes ≡ encode_utf8_all id → IsInsertable d id p.steps e → Holds d bytes (λ s. IsSome (role_at s p.steps e))
-  takes bytes same accepted =
-      holds_at d (encode_utf8_all id) bytes (λ s. IsSome (role_at s p.steps e)) same
-      (holds_then d (encode_utf8_all id) (IsAccepted (insert_causes p.steps e) (λ s. inserted s p.steps e)) (λ s. IsSome (role_at s p.steps e))
-      (λ s is one. taken _ _ _ one.no_cause) accepted)
-
-  pub can_store : (bytes : List ℕ) → ValidIsStorable → bytes ≡ encode_utf8_all id → IsInsertable d id p.steps e
-      → Holds d bytes (λ s. IsStorable (inserted s p.steps e))
-  can_store bytes law same insertable =
-      holds_at d (encode_utf8_all id) bytes (λ s. IsStorable (inserted s p.steps e)) same
-      (accepted.storable d (InsertElement id p e) id (insert_causes p.steps e) (λ s. inserted s p.steps e) edits law insertable)
-
-  pub no_room : IsInsertable d id p.steps e → IsDecision false d (InsertElement id p e) d (decision.Refused StorageFull)
-  no_room insertable = accepted.no_room d (InsertElement id p e) id (insert_causes p.steps e) (λ s. inserted s p.steps e) edits insertable
-
-  pub made : (new : Documents) (bytes : List ℕ) → AreValid d → IsInsertable d id p.steps e → bytes ≡ encode_utf8_all id
-      → new ≡ with_changed d bytes (λ s. inserted s p.steps e) → IsDecision true d (InsertElement id p e) new decision.Made
-  made new bytes valid insertable same is =
-      accepted.made d (InsertElement id p e) id (insert_causes p.steps e) (λ s. inserted s p.steps e) edits new valid
-      (λ s. (insert_keeps_attributes s p.steps e).head) insertable
-      (is ∙ ap (λ (b : List ℕ). with_changed d b (λ s. inserted s p.steps e)) same)
+pub takes : (s : Submodel) (p : List PathStep) (e : Element) → first_of (insert_causes p e s) ≡ None → IsSome (role_at s p e)
+takes s p e none = taken _ _ _ none

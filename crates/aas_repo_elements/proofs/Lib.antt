@@ -1,5 +1,5 @@
-mod Caused
 mod Deleted
 mod Inserted
 mod Placed
 mod Replaced
+mod Stored

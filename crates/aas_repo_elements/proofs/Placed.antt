@@ -1,7 +1,6 @@
 -- What an element comes in under, and what its check there tells.
 use Rattle.std.proofs.Common.{◌≡◌, ℕ, List, [], ◌∷◌, ◌++◌, map as each, flat_map, Option, Some, None, refl, sym, ap, ap₂, ◌∙◌}
-use Rattle.std.specs.Prelude.{◌≢◌, Bool, false, IfSome, MatchOption, is_some, option_map}
-use Rattle.std.specs.FinMap as map
+use Rattle.std.specs.Prelude.{◌≢◌, Bool, false, MatchOption, is_some, option_map}
 use Rattle.std.specs.Option.{option_copied}
 use Rattle.aas_value_patch.proofs.Faultless.{no_first}
 use denote.Ref.{Bor}
@@ -23,10 +22,8 @@ use Rattle.aas_reference.specs.Rules.{first}
 use Rattle.aas_rows.specs.Rows.{Line, line_at}
 use Rattle.aas_rows.specs.Views.{line_of}
 use Rattle.aas_rows.specs.declared.view.RowView.{RowView}
-use Rattle.aas_store.specs.Documents.{Documents, without_children}
-use Rattle.aas_store.specs.Edited.{Holds}
+use Rattle.aas_store.specs.Documents.{without_children}
 use Rattle.aas_store.specs.Reads.{IsRowOf}
-use Rattle.aas_repo_documents.proofs.Accepted.{holds_at}
 use Rattle.aas_repo_elements.specs.Placing.{IsAbove, IsFaultless, IsParent, own_of_parent}
 use Rattle.aas_repo_elements.specs.declared.placing.Parent.{Parent}
 
@@ -42,7 +39,7 @@ own_in : Line → Own
 own_in l = record { common = l.common; payload = l.payload; role = l.role }
 
 -- the row of what a path leads to, and a copy of it
-above_by_row : (s : Submodel) (p : List PathStep) (row : RowView) (e : Element) → p ≢ [] → MatchOption (element_at s p) ⊥ (λ o. IsRowOf o row)
+pub above_by_row : (s : Submodel) (p : List PathStep) (row : RowView) (e : Element) → p ≢ [] → MatchOption (element_at s p) ⊥ (λ o. IsRowOf o row)
     → line_at row.level e ≡ line_of row → IsAbove p (Some (own_of e)) s
 unfolding own_in
 above_by_row s [] row e some at line = absurd (some refl)
@@ -55,37 +52,13 @@ above_by_row s (t ∷ p) row e some at line = by_found (element_at s (t ∷ p)) 
       own = ap (option_map own_of) is ∙ ap (λ (l : Line). Some (own_in l)) (sym at ∙ sym line);
     }
 
-pub element_above : (d : Documents) (id bytes : List ℕ) (p : List PathStep) (row : RowView) (e : Element) → bytes ≡ id → p ≢ []
-    → Holds d bytes (λ s. MatchOption (element_at s p) ⊥ (λ o. IsRowOf o row)) → line_at row.level e ≡ line_of row
-    → IfSome (map.get d.submodels id) (IsAbove p (Some (own_of e)))
-element_above d id bytes p row e same some holds line =
-    by_submodel (map.get d.submodels id) (holds_at d bytes id (λ s. MatchOption (element_at s p) ⊥ (λ o. IsRowOf o row)) (sym same) holds)
-  where
-    by_submodel : (found : Option Submodel) → MatchOption found ⊥ (λ s. MatchOption (element_at s p) ⊥ (λ o. IsRowOf o row))
-        → IfSome found (IsAbove p (Some (own_of e)))
-    by_submodel None holds = tt
-    by_submodel (Some s) holds = above_by_row s p row e some holds line
+pub submodel_above : (s : Submodel) (p : List PathStep) → p ≡ [] → IsAbove p None s
+submodel_above s [] none = record { there = refl; own = refl }
+submodel_above s (t ∷ p) none = absurd (cc)
 
-pub submodel_above : (d : Documents) (id : List ℕ) (p : List PathStep) → p ≡ [] → IfSome (map.get d.submodels id) (IsAbove p None)
-submodel_above d id [] none = by_submodel (map.get d.submodels id)
-  where
-    by_submodel : (found : Option Submodel) → IfSome found (IsAbove [] None)
-    by_submodel None = tt
-    by_submodel (Some s) = record { there = refl; own = refl }
-submodel_above d id (t ∷ p) none = absurd (cc)
-
-pub is_parent : (d : Documents) (id bytes : List ℕ) (p : List PathStep) (x : Parent) (head : Submodel) → bytes ≡ id
-    → option_map without_children (Some head) ≡ option_map without_children (map.get d.submodels bytes) → x.in_template ≡ is_template head.kind
-    → IfSome (map.get d.submodels id) (IsAbove p (own_of_parent x)) → Holds d id (IsParent p x)
-is_parent d id bytes p x head same head_is template above =
-    by_submodel (map.get d.submodels id) (head_is ∙ ap (λ (i : List ℕ). option_map without_children (map.get d.submodels i)) same) above
-  where
-    by_submodel : (found : Option Submodel) → option_map without_children (Some head) ≡ option_map without_children found
-        → IfSome found (IsAbove p (own_of_parent x)) → MatchOption found ⊥ (IsParent p x)
-    by_submodel None is above = absurd (cc)
-    by_submodel (Some s) is above =
-        let same_head : without_children head ≡ without_children s = cc in
-        record { above = above; template = template ∙ ap (λ (x : Submodel). is_template x.kind) same_head }
+pub is_parent : (s : Submodel) (p : List PathStep) (x : Parent) (head : Submodel) → without_children head ≡ without_children s
+    → x.in_template ≡ is_template head.kind → IsAbove p (own_of_parent x) s → IsParent p x s
+is_parent s p x head same template above = record { above = above; template = template ∙ ap (λ (x : Submodel). is_template x.kind) same }
 
 -- ---- the faults below it
 

@@ -1,31 +1,25 @@
 -- What is asked of a submodel before an element is inserted, or put in the place of another, at once. This profile's own rule.
-use Rattle.std.specs.Prelude.{◌≡◌, ◌⊎◌, ℕ, true, false, List, [], ◌∷◌, flat_map, map, MatchOption, Option, Some, None, option_and_then, option_map}
-use Rattle.std.specs.Str.{encode_utf8_all}
+use Rattle.std.specs.Prelude.{◌≡◌, ◌≢◌, ◌⊎◌, true, false, List, [], flat_map, map, MatchOption, Option, Some, None, option_and_then, option_map}
+use Rattle.aas_command.specs.declared.refusal.Refusal.{Refusal}
+use Rattle.aas_command.specs.declared.refusal.Refusal.TheVariants.{NoMemory, StorageFault}
 use Rattle.aas_constraint_rules.specs.Faults.{faults_at, is_template}
 use Rattle.aas_constraint_rules.specs.Rules.{first_some, is_repeat, name_of, semantics_of}
 use Rattle.aas_constraint_rules.specs.Sites.{Own, own_of, sites, stands_in_list, tree_of}
 use Rattle.aas_model.specs.declared.documents.Submodel.{Submodel}
-use Rattle.aas_model.specs.declared.element.Element.{Element, out-Element}
+use Rattle.aas_model.specs.declared.element.Element.{Element}
 use Rattle.aas_model.specs.declared.element.Role.{Role}
 use Rattle.aas_model.specs.declared.element.Role.TheVariants.{Member}
 use Rattle.aas_model.specs.declared.path.PathStep.{PathStep}
 use Rattle.aas_model.specs.declared.reference.Reference.{Reference}
 use Rattle.aas_path_trees.specs.Children.{role_of}
-use Rattle.aas_path_trees.specs.Edits.{fits_role, if_fits, inserted, replaced, role_within}
+use Rattle.aas_path_trees.specs.Edits.{fits_role, if_fits, role_within}
 use Rattle.aas_path_trees.specs.ElementAt.{element_at, children_at}
-use Rattle.aas_step.specs.Causes.{insert_causes, leads, replace_causes}
-use Rattle.aas_store.specs.Documents.{Documents}
-use Rattle.aas_store.specs.Edited.{Holds}
-use Rattle.aas_repo_documents.specs.Accepted.{IsAccepted}
+use Rattle.aas_step.specs.Causes.{Cause, first_of, leads}
 use Rattle.aas_repo_elements.specs.declared.placing.Parent.{Parent}
 
--- nothing but want of room refuses e as a new child of what a path leads to in the submodel of an identifier
-abbrev pub IsInsertable : Documents → List ℕ → List PathStep → Element → Type 0
-IsInsertable d id p e = Holds d (encode_utf8_all id) (IsAccepted (insert_causes p e) (λ s. inserted s p e))
-
--- nothing but want of room refuses e in the place of the element to which a path leads
-abbrev pub IsReplaceable : Documents → List ℕ → List PathStep → Element → Type 0
-IsReplaceable d id p e = Holds d (encode_utf8_all id) (IsAccepted (replace_causes p e) (λ s. replaced s p e))
+-- the first of the causes, or want of memory
+abbrev pub IsFirst : List Cause → Refusal → Type 0
+IsFirst causes refusal = refusal ≢ NoMemory → (refusal ≢ StorageFault) × (first_of causes ≡ Some refusal)
 
 -- ---- the parent
 
@@ -50,20 +44,14 @@ IsFaultless x lead e = (b : List Own) → is_repeat b (name_of (own_of e)) ≡ f
 
 -- ---- insertion
 
+-- the role of a new child of a, if a takes children
+abbrev pub role_of_children : Option Own → Option Role
+role_of_children None = Some Member
+role_of_children (Some o) = role_within o.payload
+
 -- the role that e has as a new child of a, if a takes it
 abbrev pub role_below : Option Own → Element → Option Role
-role_below None e = Some Member
-role_below (Some o) e = option_and_then (if_fits e) (role_within o.payload)
-
--- the role of a new child of what a path leads to, if that takes children; the empty path leads to the submodel
-abbrev pub role_of_children : Submodel → List PathStep → Option Role
-role_of_children s [] = Some Member
-role_of_children s (t ∷ p) = option_and_then (λ o. role_within (out-Element o).payload) (element_at s (t ∷ p))
-
--- a path leads to what gives its children the role r, or to what takes none
-pub record IsTaking (p : List PathStep) (r : Option Role) (s : Submodel) : Type 0 where
-  pub there : leads s p ≡ true
-  pub role : role_of_children s p ≡ r
+role_below a e = option_and_then (if_fits e) (role_of_children a)
 
 -- the first semanticId among the children of a list; or none, where that doesn't matter
 abbrev pub IsLead : List PathStep → Option Own → Element → Option Reference → Submodel → Type 0

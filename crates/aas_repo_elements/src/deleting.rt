@@ -8,12 +8,12 @@ ghost use Rattle.aas_step.specs.Valid.{AreValid};
 ghost use Rattle.aas_store.specs.Edited.{Holds};
 ghost use Rattle.aas_repo_documents.specs.Decisions.{IsDecision, decision_of};
 
-use aas_command::{Absent, Refusal};
+use aas_command::Refusal;
 use aas_edit_faults::{edits_count, edits_keep_valid};
 use aas_model::{NoMemory, Path, Text};
 use aas_repo_documents::{Decision, decision_of};
-use aas_step::not_found;
-use aas_store::{Lack, Store};
+use aas_step::refusal_of;
+use aas_store::Store;
 use std::alloc::Global;
 
 /// Takes the element at the path out of the submodel of an identifier, or refuses the command.
@@ -37,18 +37,13 @@ pub fn delete_element<S: Store>(
 
 /// That the path leads to an element, or why the command is refused.
 fn find<S: Store>(alloc: Global, store: &S, id: &Text, path: &Path) -> Result<(), Refusal>
-    requires valid { AreValid (S.documents store.now) }
-    requires steps { path.now.steps ≢ [] }
+    requires { path.now.steps ≢ [] }
     ensures found { OnOk result (Holds (S.documents store.now) (encode_utf8_all id.now) (λ s. IsSome (element_at s path.now.steps))) }
     ensures lost { IfErr result (λ refusal. (room : Bool) → IsDecision room (S.documents store.now) (DeleteElement id.now path.now) (S.documents store.now) (decision_of refusal)) }
 {
-    match store.row_at(id.as_str(), path) {
+    match store.find_row(id.as_str(), path) {
         Ok(_) => Ok(()),
-        Err(Lack::NoSubmodel) => Err(Refusal::NotFound {
-            what: Absent::Submodel,
-        }),
-        Err(Lack::NoElement(missing)) => Err(not_found(alloc, path, missing)),
-        Err(Lack::NoMemory) => Err(Refusal::NoMemory),
+        Err(lack) => Err(refusal_of(alloc, path, lack)),
     }
 }
 

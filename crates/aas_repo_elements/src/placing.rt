@@ -1,22 +1,17 @@
 // Where an element comes in, by an insertion or a replacement: what is above it there, and what refuses it.
-ghost use Rattle.std.specs.Prelude.{◌≡◌, ◌+◌, ◌≤◌, true, length, take, IfOk, IfSome};
-ghost use Rattle.std.specs.FinMap as map;
+ghost use Rattle.std.specs.Prelude.{◌≡◌, ◌∷◌, ◌+◌, ◌≤◌, List, true, length, IfErr, IfOk};
 ghost use Rattle.std.specs.Option.{option_copied};
-ghost use Rattle.std.specs.Str.{encode_utf8_all};
-ghost use Rattle.aas_command.specs.declared.refusal.Absent.TheVariants as absent;
-ghost use Rattle.aas_command.specs.declared.refusal.Refusal.TheVariants.{NotFound};
 ghost use Rattle.aas_path_trees.specs.Children.{with_role};
 ghost use Rattle.aas_path_trees.specs.Patched.{kinds, element_count};
-ghost use Rattle.aas_step.specs.Valid.{AreValid};
-ghost use Rattle.aas_store.specs.Edited.{Holds};
-ghost use Rattle.aas_repo_elements.specs.Placing.{IsFaultless, IsParent};
+ghost use Rattle.aas_step.specs.Causes.{Cause, is_lost};
+ghost use Rattle.aas_repo_elements.specs.Placing.{IsFaultless, IsFirst, IsParent};
 
 use aas_command::Refusal;
 use aas_constraints::{check_child, is_template};
-use aas_model::{Duplicate, Element, Missing, NoMemory, Path, Reference, Role, Text};
+use aas_model::{Duplicate, Element, NoMemory, Path, Reference, Role};
 use aas_repo_documents::has_more_below;
 use aas_step::not_found;
-use aas_store::Store;
+use aas_store::Table;
 use std::alloc::Global;
 
 /// What an element comes in under, as far as a check of the element asks.
@@ -28,46 +23,27 @@ pub(crate) struct Parent {
     pub(crate) in_template: bool,
 }
 
-/// What the path leads to in the submodel of an identifier, if it leads to anything; the empty path leads to the submodel.
-pub(crate) fn parent_at<S: Store>(
-    alloc: Global,
-    store: &S,
-    id: &Text,
-    path: &Path,
-) -> Result<Option<Parent>, NoMemory>
-    requires { AreValid (S.documents store.now) }
-    ensures { IfOk result (λ parent. IfSome parent (λ x.
-        Holds (S.documents store.now) (encode_utf8_all id.now) (IsParent path.now.steps x))) }
+/// What the path leads to, or that it leads nowhere; the empty path leads to the submodel.
+pub(crate) fn parent_at<T: Table>(alloc: Global, table: &T, path: &Path) -> Result<Parent, Refusal>
+    ensures found { IfOk result (λ parent. IsParent path.now.steps parent (T.kept table.now)) }
+    ensures lost { IfErr result (λ refusal. (more : List Cause) → IsFirst (is_lost (T.kept table.now) path.now.steps ∷ more) refusal) }
 {
-    let Some(head) = store.submodel_head(id.as_str()) else {
-        return Ok(None);
-    };
-    let in_template = is_template(head.kind);
+    let in_template = is_template(table.head().kind);
     if path.steps.is_empty() {
-        return Ok(Some(Parent {
+        return Ok(Parent {
             element: None,
             in_template,
-        }));
+        });
     }
-    match store.row_at(id.as_str(), path) {
-        Ok(row) => {
+    match table.find_row(path) {
+        Ok((_, row)) => {
             let element = row.copy(alloc)?;
-            Ok(Some(Parent {
+            Ok(Parent {
                 element: Some(element),
                 in_template,
-            }))
+            })
         }
-        Err(_) => Ok(None),
-    }
-}
-
-/// The refusal of a command on what the path would lead to, where it leads to no element.
-pub(crate) fn lost(alloc: Global, path: &Path, missing: Missing) -> Result<Refusal, NoMemory>
-    ensures { IfOk result (λ refusal. refusal ≡ NotFound (absent.Element (record { steps = take missing.steps path.now.steps }))) }
-{
-    match not_found(alloc, path, missing) {
-        Refusal::NoMemory => Err(NoMemory),
-        refusal => Ok(refusal),
+        Err(missing) => Err(not_found(alloc, path, missing)),
     }
 }
 
@@ -106,14 +82,10 @@ pub(crate) fn is_faultless_in_role(
 }
 
 /// Whether the submodel has at most `limit` elements together with the element and all below it.
-pub(crate) fn has_space<S: Store>(store: &S, id: &Text, element: &Element, limit: u32) -> bool
-    requires { AreValid (S.documents store.now) }
-    ensures { result ≡ true → IfSome (map.get (S.documents store.now).submodels (encode_utf8_all id.now))
-        (λ s. element_count s + length (kinds element.now) ≤ limit) }
+pub(crate) fn has_space<T: Table>(table: &T, element: &Element, limit: u32) -> bool
+    ensures { result ≡ true → element_count (T.kept table.now) + length (kinds element.now) ≤ limit }
 {
-    let Some(count) = store.element_count(id.as_str()) else {
-        return false;
-    };
+    let count = table.element_count();
     if count > u64::from(limit) {
         return false;
     }

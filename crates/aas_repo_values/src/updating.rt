@@ -166,8 +166,7 @@ fn stored_row<'s, S: Store>(
     id: &Text,
     path: &Path,
 ) -> Result<(u64, RowView<'s>), Refusal>
-    requires valid { AreValid (S.documents store.now) }
-    requires steps { path.now.steps ≢ [] }
+    requires { path.now.steps ≢ [] }
     ensures ranked { IfOk result (λ found. Holds (S.documents store.now) (encode_utf8_all id.now) (λ s. rank_at s path.now.steps ≡ Some found.0)) }
     ensures found { IfOk result (λ found. Holds (S.documents store.now) (encode_utf8_all id.now)
         (λ s. MatchOption (element_at s path.now.steps) ⊥ (λ e. IsRowOf e found.1))) }

@@ -6,9 +6,9 @@ use Rattle.aas_repo_documents.proofs.Reached.{has_steps}
 use Rattle.aas_repo_documents.specs.Decisions.{IsDecision}
 use Rattle.aas_repo_documents.specs.declared.decision.Decision.{Decision}
 
-pub find-requires-clause-steps : goal.find-requires-clause-steps
+pub find-requires : goal.find-requires
 unfolding IsWellFormed
-find-requires-clause-steps g c = has_steps c.args.path.steps c.requires.well_formed
+find-requires g c = has_steps c.args.path.steps c.requires.well_formed
 
 pub returns : goal.returns
 returns g c =

@@ -1,22 +1,26 @@
 use Rattle.std.proofs.Common.{sym, ◌∙◌, true≢false}
-use Rattle.std.specs.Str.{encode_utf8_all}
-use Rattle.aas_repo_documents.proofs.Accepted.{few_elements}
-use Rattle.aas_repo_elements.proofs.Placed.{element_above, is_parent, submodel_above}
+use Rattle.aas_repo_documents.proofs.Accepted.{some_steps}
+use Rattle.aas_repo_documents.proofs.Reached.{is_missing_at}
+use Rattle.aas_repo_elements.proofs.Placed.{above_by_row, is_parent, submodel_above}
 use Rattle.aas_repo_elements.proofs.placing.parent_at.Goals as goal
 
-pub row_at-requires : goal.row_at-requires
-row_at-requires g c = few_elements (g.S.Store.documents c.args.store.now) _ c.requires
+pub returns-then-is_empty-clause-found : goal.returns-then-is_empty-clause-found
+returns-then-is_empty-clause-found g c =
+    let s = g.T.Table.kept c.args.table.now in
+    let p = c.args.path.now.steps in
+    is_parent s p _ c.head.result.now c.head.ensures c.is_template-in_template.ensures (submodel_above s p (c.is_empty.ensures.0 c.if-is_empty.true))
 
-pub returns-then-is_empty : goal.returns-then-is_empty
-returns-then-is_empty g c =
-    let d = g.S.Store.documents c.args.store.now in
-    is_parent d (encode_utf8_all c.args.id.now) c.as_str.result.now c.args.path.now.steps _ c.in-Some.head.now c.as_str.ensures.bytes c.in-Some.ensures
-    c.is_template-in_template.ensures (submodel_above d (encode_utf8_all c.args.id.now) c.args.path.now.steps (c.is_empty.ensures.0 c.if-is_empty.true))
+pub returns-in_ok-element-in-Ok-clause-found : goal.returns-in_ok-element-in-Ok-clause-found
+returns-in_ok-element-in-Ok-clause-found g c =
+    let s = g.T.Table.kept c.args.table.now in
+    let p = c.args.path.now.steps in
+    is_parent s p _ c.head.result.now c.head.ensures c.is_template-in_template.ensures
+    (above_by_row s p c.in-Ok.row c.in_ok-element-in-Ok.element (λ none. true≢false (sym (c.is_empty.ensures.1 none) ∙ c.if-is_empty.false))
+    c.in-Ok.ensures.found c.in_ok-element-in-Ok.ensures.line)
 
-pub returns-in_ok-element-in-Ok : goal.returns-in_ok-element-in-Ok
-returns-in_ok-element-in-Ok g c =
-    let d = g.S.Store.documents c.args.store.now in
-    let id = encode_utf8_all c.args.id.now in
-    is_parent d id c.as_str.result.now c.args.path.now.steps _ c.in-Some.head.now c.as_str.ensures.bytes c.in-Some.ensures c.is_template-in_template.ensures
-    (element_above d id c.as_str-2.result.now c.args.path.now.steps c.in-Ok.row c.in_ok-element-in-Ok.element c.as_str-2.ensures.bytes
-    (λ none. true≢false (sym (c.is_empty.ensures.1 none) ∙ c.if-is_empty.false)) c.in-Ok.ensures.found c.in_ok-element-in-Ok.ensures.line)
+pub returns-in-Err-clause-lost : goal.returns-in-Err-clause-lost
+returns-in-Err-clause-lost g c = λ more other.
+    let p = c.args.path.now.steps in
+    is_missing_at (g.T.Table.kept c.args.table.now) p c.in-Err.missing.steps _ more
+    (some_steps p (λ none. true≢false (sym (c.is_empty.ensures.1 none) ∙ c.if-is_empty.false)))
+    c.in-Err.ensures.found.0 c.in-Err.ensures.found.1 c.not_found.ensures other

@@ -1,18 +1,9 @@
-use Rattle.std.proofs.Common.{sym, ◌∙◌, subst}
+use Rattle.std.proofs.Common.{subst}
 use Rattle.aas_command.specs.declared.command.Command.TheVariants.{ReplaceElement}
-use Rattle.aas_command.specs.Commands.{IsWellFormed}
-use Rattle.aas_repo_elements.proofs.Caused.{replacement_refused}
-use Rattle.aas_repo_documents.proofs.Reached.{has_steps}
-use Rattle.aas_repo_elements.proofs.replacing.replace_element.Goals as goal
 use Rattle.aas_repo_documents.specs.Decisions.{IsDecision}
-use Rattle.aas_repo_documents.specs.declared.decision.Decision.TheVariants as decision
+use Rattle.aas_repo_elements.proofs.replacing.replace_element.Goals as goal
 
-pub cause_in_place-requires-clause-steps : goal.cause_in_place-requires-clause-steps
-unfolding IsWellFormed
-cause_in_place-requires-clause-steps g c = has_steps c.args.path.steps c.requires.well_formed.0
-
-pub returns-in-Ok-Some : goal.returns-in-Ok-Some
-returns-in-Ok-Some g c =
-    let d = g.S.Store.documents c.args.store.now in
-    subst (λ e. IsDecision c.args.has_room d (ReplaceElement c.args.id c.args.path e) d (decision.Refused c.in-Ok-Some.refusal)) c.into_inner-element.ensures
-    (replacement_refused d c.args.id c.args.path c.into_inner-element.result c.args.has_room c.in-Ok-Some.refusal (sym c.in-Ok-Some.field-0-is ∙ c.in-Ok-Some.ensures))
+pub returns : goal.returns
+returns g c =
+    subst (λ e. IsDecision c.args.has_room (g.S.Store.documents c.args.store.now) (ReplaceElement c.args.id c.args.path e)
+    (g.S.Store.documents c.make_edit.new.store) c.make_edit.result) c.into_inner-element.ensures c.make_edit.ensures

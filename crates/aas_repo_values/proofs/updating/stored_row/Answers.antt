@@ -4,12 +4,8 @@ use Rattle.aas_path_trees.specs.ElementAt.{element_at}
 use Rattle.aas_store.specs.Edited.{Holds}
 use Rattle.aas_store.specs.Reads.{IsRowOf}
 use Rattle.aas_store.specs.Spots.{rank_at}
-use Rattle.aas_repo_documents.proofs.Accepted.{few_elements}
 use Rattle.aas_repo_values.proofs.Updated.{lack_refuses}
 use Rattle.aas_repo_values.proofs.updating.stored_row.Goals as goal
-
-pub find_row-requires : goal.find_row-requires
-find_row-requires g c = few_elements (g.S.Store.documents c.args.store.now) c.as_str.result.now c.requires.valid
 
 pub returns-in-Ok-clause-ranked : goal.returns-in-Ok-clause-ranked
 returns-in-Ok-clause-ranked g c =
@@ -25,5 +21,5 @@ returns-in-Ok-clause-found g c =
 pub returns-in-Err-clause-lost : goal.returns-in-Err-clause-lost
 returns-in-Err-clause-lost g c = λ other v.
     lack_refuses (g.S.Store.documents c.args.store.now) c.args.id.now c.as_str.result.now c.args.path.now v c.in-Err.lack c.refusal_of.result
-    c.as_str.ensures.bytes c.requires.steps
+    c.as_str.ensures.bytes c.requires
     (λ is. c.in-Err.ensures.no_submodel.0 (ap Err is)) (λ m is. (c.in-Err.ensures.no_element m).0 (ap Err is)) c.refusal_of.ensures other

@@ -4,7 +4,7 @@ use Rattle.aas_json_mapping.specs.Whole.{is_whole_submodel}
 use Rattle.aas_json_table.specs.TooDeep.{limits}
 use Rattle.aas_repo_documents.proofs.Edited.{replacement_keeps_whole}
 use Rattle.aas_repo_documents.proofs.Reached.{is_missing_at, replaces, some_steps}
-use Rattle.aas_repo_elements.proofs.editing.ReplacementEdit.make.Goals as goal
+use Rattle.aas_repo_elements.proofs.replacing.ReplacementEdit.make.Goals as goal
 
 pub replace-requires : goal.replace-requires
 unfolding IsWellFormed

@@ -4,7 +4,7 @@ use Rattle.aas_edit_laws.proofs.Edits.{insert_keeps_whole}
 use Rattle.aas_json_mapping.specs.Whole.{is_whole_submodel}
 use Rattle.aas_json_table.specs.TooDeep.{limits}
 use Rattle.aas_repo_documents.proofs.Reached.{inserts, is_missing_at}
-use Rattle.aas_repo_elements.proofs.editing.InsertionEdit.make.Goals as goal
+use Rattle.aas_repo_elements.proofs.inserting.InsertionEdit.make.Goals as goal
 
 pub returns-in-Ok-clause-ok : goal.returns-in-Ok-clause-ok
 returns-in-Ok-clause-ok c = (
