@@ -5,6 +5,7 @@ use Rattle.std.proofs.lemmas.Bool.{cases_lt}
 use Rattle.aas_journal.specs.Bank.{IsBankImage}
 use Rattle.aas_journal.specs.Checkpoint.{checkpointed}
 use Rattle.aas_journal.specs.Laws.{HaveOneList}
+use Rattle.aas_outside.specs.Faults.{Rose}
 use Rattle.aas_outside.specs.Moments.{Passes}
 use Rattle.aas_outside_disk.specs.Files.{Files}
 use Rattle.aas_repo_replay.specs.Laws.{OneReplay}
@@ -78,8 +79,10 @@ module _ {V J : Type 0} (items : V → List ℕ) (view : J → DiskState) (start
     abbrev Answered : Type 0
     Answered = (answer : Answer) × IsCheckpointAnswer d start last answer × Says (λ said. said ≡ answer) status console_old console_new
 
-    is_checkpointed : ((payloads : List (List ℕ)) → kept payloads → Answered) → IsCheckpointed status console_old console_new start last
-    is_checkpointed answered = record {
+    is_checkpointed : (status ≡ 10 → ⊥) → (status ≡ 3 → Rose console_old.faults console_new.faults)
+        → (status ≡ 4 → Rose mid.faults last.faults) → ((payloads : List (List ℕ)) → kept payloads → Answered)
+        → IsCheckpointed status console_old console_new start last
+    is_checkpointed ended console_failed failed answered = record {
       has_begun = has_begun start opened is_opened;
       says = λ r opens.
           let held = here one_list one_replay start opened is_opened r opens in
@@ -91,20 +94,27 @@ module _ {V J : Type 0} (items : V → List ℕ) (view : J → DiskState) (start
           subst (λ (x : Repository Documents). StaysOpen x.documents start last)
           (same one_list one_replay start opened is_opened r opens) (stays_open held.0 held.1.1 held.2);
       unread = unread;
+      ended = ended;
+      causes = record { console = console_failed; disk = λ four. omega (arith, later, failed four) };
     }
 
     pub checkpoints : (made : Result V Unmade) → ComesTo made → (made ≡ Err unmade.NoMemory → new ≡ old)
         → Says (IsSaid items made) status console_old console_new
-        → (made ≡ Err unmade.NoMemory → (status ≡ 10) × (console_new ≡ console_old)) → Checkpoints status console_old console_new start last
-    checkpoints (Ok line) outcome forgone says silent = inr (inr (is_checkpointed (λ payloads keeps.
+        → (made ≡ Err unmade.NoMemory → (status ≡ 10) × (console_new ≡ console_old))
+        → (status ≡ 10 → made ≡ Err unmade.NoMemory) → (status ≡ 4 → Rose mid.faults last.faults)
+        → Checkpoints status console_old console_new start last
+    checkpoints (Ok line) outcome forgone says silent unsaid failed = inr (inr (is_checkpointed
+        (λ ten. let no = unsaid ten in cc) says.fault failed (λ payloads keeps.
         let both = outcome payloads keeps in (
           done (size_line (checkpoint_size d)),
           inl (refl, one_record both.1),
           says_weaker _ _ status console_old console_new (λ answer is. is ∙ ap done both.0) says,
         ))))
-    checkpoints (Err unmade.Full) outcome forgone says silent = inr (inr (is_checkpointed (λ payloads keeps.
+    checkpoints (Err unmade.Full) outcome forgone says silent unsaid failed = inr (inr (is_checkpointed
+        (λ ten. let no = unsaid ten in cc) says.fault failed (λ payloads keeps.
         let both = outcome payloads keeps in (journal_full, inr (inl (refl, both.0, unwritten both.1)), says))))
-    checkpoints (Err unmade.Failed) outcome forgone says silent = inr (inr (is_checkpointed (λ payloads keeps.
+    checkpoints (Err unmade.Failed) outcome forgone says silent unsaid failed = inr (inr (is_checkpointed
+        (λ ten. let no = unsaid ten in cc) says.fault failed (λ payloads keeps.
         (disk_failed, inr (inr (refl, omega (arith, later, outcome payloads keeps))), says))))
-    checkpoints (Err unmade.NoMemory) outcome forgone says silent =
+    checkpoints (Err unmade.NoMemory) outcome forgone says silent unsaid failed =
         let none = silent refl in inr (inl (record { status_is = none.0; silent = none.1; unwritten = unwritten (forgone refl) }))

@@ -3,7 +3,6 @@ mod ConformAnswers
 mod DemoTaken
 mod Early
 mod Exported
-mod Few
 mod Given
 mod Held
 mod OneWay

@@ -1,5 +1,5 @@
 -- What importing into the repository that was opened on a disk comes to.
-use Rattle.std.proofs.Common.{◌≡◌, ◌⊎◌, ◌≤◌, ℕ, List, [], ◌∷◌, ◌++◌, Option, Some, Result, Ok, Err, refl, subst, ◌∙◌, inl, inr, arith}
+use Rattle.std.proofs.Common.{◌≡◌, ◌≢◌, ◌⊎◌, ◌≤◌, ℕ, List, [], ◌∷◌, ◌++◌, Option, Some, Result, Ok, Err, refl, subst, ◌∙◌, inl, inr, arith}
 use Rattle.std.specs.Prelude.{IfSome, length}
 use Rattle.std.proofs.lemmas.Option.{IfSome_then}
 use Rattle.aas_command.specs.Commands.{IsWellFormed, payload_of}
@@ -14,7 +14,6 @@ use Rattle.aas_journal.specs.Kept.{has_room_behind}
 use Rattle.aas_journal.specs.Laws.{HaveOneList}
 use Rattle.aas_json_spelling.specs.Reading.{reading}
 use Rattle.aas_model.specs.declared.documents.Environment.{Environment}
-use Rattle.aas_outside.specs.Faults.{Rose}
 use Rattle.aas_outside.specs.Moments.{Passes}
 use Rattle.aas_outside_disk.specs.Disk.{AddsNone, Meanwhile}
 use Rattle.aas_outside_disk.specs.Files.{Files}
@@ -26,11 +25,10 @@ use Rattle.aas_rule.specs.State.{State, Holds, IsSettledState, repository_of}
 use Rattle.aas_step.specs.Step.{Steps, accepted}
 use Rattle.aas_store.specs.Documents.{Documents}
 use Rattle.aas_server.specs.Answer.{Answer, GivesAnswer, GivesFrontOf, Says, done}
-use Rattle.aas_server.specs.Ends.{ConsoleState, DiskState, IsUnwritten}
-use Rattle.aas_server.specs.Importing.{ImportsDemo, ImportsInput, IsFaultAnswer, IsPutIn, IsTooLong, PutsIn, counts_text, demo_input, demo_text, import_limit}
+use Rattle.aas_server.specs.Ends.{ConsoleState, DiskState, IsCaused, IsUnwritten}
+use Rattle.aas_server.specs.Importing.{ImportsDemo, ImportsInput, IsFaultAnswer, IsPutIn, IsRefusal, IsTooLong, PutsIn, counts_text, demo_input, demo_text, import_limit}
 use Rattle.aas_server.specs.OnDisk.{StandsFor, state_on}
 use Rattle.aas_server.specs.Opening.{OpensAs}
-use Rattle.aas_server.specs.Unsaid.{MayBeUnsaid}
 use Rattle.aas_server.proofs.Held.{IsOpened, has_begun, here, same}
 use Rattle.aas_server.proofs.Replayed.{AreRead, IsBehind, Replay, none_more}
 use Rattle.aas_server.proofs.Since.{faulted_since, held_since}
@@ -44,17 +42,17 @@ spelled_well e bytes is = spelled_whole (reading bytes) e is
 
 -- ---- what came of it and what is said
 
--- where nothing may be said everything is as before
-unsaid_holds : {I : Type 0} (room : Room) (stands : I → List (List ℕ) → Type 0) (r : Repository Documents) (bytes : List ℕ) (from : ℕ)
-    (now : State Documents I) (f : ImportFault) → Imports room stands r bytes from now (Err f) → MayBeUnsaid f
+-- but for a fault of the keeper everything is as before
+refused_holds : {I : Type 0} (room : Room) (stands : I → List (List ℕ) → Type 0) (r : Repository Documents) (bytes : List ℕ) (from : ℕ)
+    (now : State Documents I) (f : ImportFault) → Imports room stands r bytes from now (Err f) → f ≢ fault.Storage
     → Holds stands r.records [] r from now
-unsaid_holds room stands r bytes from now (fault.Read f) is unsaid = is.2
-unsaid_holds room stands r bytes from now (fault.Twice p) is unsaid = is.1
-unsaid_holds room stands r bytes from now (fault.Rule p f) is unsaid = is.1
-unsaid_holds room stands r bytes from now (fault.TooMany p) is unsaid = is.1
-unsaid_holds room stands r bytes from now fault.Full is unsaid = is.1
-unsaid_holds room stands r bytes from now fault.Storage is unsaid = absurd unsaid
-unsaid_holds room stands r bytes from now fault.NoMemory is unsaid = is
+refused_holds room stands r bytes from now (fault.Read f) is other = is.2
+refused_holds room stands r bytes from now (fault.Twice p) is other = is.1
+refused_holds room stands r bytes from now (fault.Rule p f) is other = is.1
+refused_holds room stands r bytes from now (fault.TooMany p) is other = is.1
+refused_holds room stands r bytes from now fault.Full is other = is.1
+refused_holds room stands r bytes from now fault.Storage is other = absurd (other refl)
+refused_holds room stands r bytes from now fault.NoMemory is other = is
 
 module _ {I : Type 0} (text : Counts → List ℕ) (stands : I → List (List ℕ) → Type 0) (r : Repository Documents) (input : List ℕ)
     (from : ℕ) (now : State Documents I) (status : ℕ) (old new : ConsoleState) where
@@ -71,13 +69,14 @@ module _ {I : Type 0} (text : Counts → List ℕ) (stands : I → List (List �
   }
 
   pub put_not : (f : ImportFault) (bytes : List ℕ) → bytes ≡ input → Came bytes (Err f)
-      → Says (IsFaultAnswer f) status old new → (status ≡ 10 → MayBeUnsaid f) → IsPutIn text stands r input from now status old new
+      → Says (IsFaultAnswer f) status old new → (status ≡ 10 → f ≢ fault.Storage)
+      → IsPutIn text stands r input from now status old new
   put_not f bytes same is says unsaid =
       let came : Came input (Err f) = subst (λ (b : List ℕ). Came b (Err f)) same is in record {
         outcome = Err f;
         imports = came;
         says = says;
-        silent = λ ten. unsaid_holds has_room_behind stands r input from now f came (unsaid ten);
+        silent = λ ten. refused_holds has_room_behind stands r input from now f came (unsaid ten);
       }
 
 -- what was read to its end, of an input that is told
@@ -200,29 +199,33 @@ module _ (one_list : HaveOneList) (one_replay : OneReplay) (accepted_replay : Ac
       → (Says (IsTooLong old.left) status old new × unchanged) ⊎ (IfSome old.left (λ input. length input ≤ import_limit)
       × ((input : List ℕ) (records : List (List ℕ)) → old.left ≡ Some input → IsSettledState IsBankImage opened records
       → IsPut counts_text input status old new (repository_of opened records)))
-      → (unchanged → IsUnwritten start last) → (status ≡ 4 → Rose start.faults last.faults) → ImportsInput status old new start last
-  input_imported unchanged status old new (inl not_taken) unwritten disk_fault = inr (inl (record {
+      → (IsRefusal status → unchanged) → (unchanged → IsUnwritten start last) → IsCaused status old new start last
+      → ImportsInput status old new start last
+  input_imported unchanged status old new (inl not_taken) refused unwritten causes = inr (inl (record {
     has_begun = has_begun start opened is_opened;
     says = not_taken.0;
     unwritten = unwritten not_taken.1;
   }))
-  input_imported unchanged status old new (inr taken) unwritten disk_fault = inr (inr (record {
+  input_imported unchanged status old new (inr taken) refused unwritten causes = inr (inr (record {
     has_begun = has_begun start opened is_opened;
     within = taken.0;
     put_in = λ input r left opens. puts_in counts_text input status old new (λ records settled. taken.1 input records left settled) r opens;
-    disk_fault = disk_fault;
+    refused = λ is. unwritten (refused is);
+    causes = causes;
   }))
 
   pub demo_imported : (unchanged : Type 0) (count status : ℕ) (old new : ConsoleState)
       → ((status ≡ 10) × (new ≡ old) × unchanged) ⊎ ((records : List (List ℕ)) → IsSettledState IsBankImage opened records
       → IsPut (λ counts. demo_text count) (demo_input count) status old new (repository_of opened records))
-      → (unchanged → IsUnwritten start last) → new.left ≡ old.left → (status ≡ 4 → Rose start.faults last.faults)
+      → (IsRefusal status → unchanged) → (unchanged → IsUnwritten start last) → new.left ≡ old.left
+      → IsCaused status old new start last
       → ImportsDemo count status old new start last
-  demo_imported unchanged count status old new (inl (ten, silent, same)) unwritten unread disk_fault =
+  demo_imported unchanged count status old new (inl (ten, silent, same)) refused unwritten unread causes =
       inr (inl (record { status_is = ten; silent = silent; unwritten = unwritten same }))
-  demo_imported unchanged count status old new (inr put) unwritten unread disk_fault = inr (inr (record {
+  demo_imported unchanged count status old new (inr put) refused unwritten unread causes = inr (inr (record {
     has_begun = has_begun start opened is_opened;
     put_in = λ r opens. puts_in (λ counts. demo_text count) (demo_input count) status old new put r opens;
     unread = unread;
-    disk_fault = disk_fault;
+    refused = λ is. unwritten (refused is);
+    causes = causes;
   }))

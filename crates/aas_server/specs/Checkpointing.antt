@@ -1,5 +1,5 @@
 -- What `checkpoint` does: one record, the import of all documents, is put in the place of those in the journal. This profile's own rule.
-use Rattle.std.specs.Prelude.{◌≡◌, ◌⊎◌, ℕ, ◌+◌, ◌<◌, ◌≤◌, List, [], ◌∷◌, ◌++◌, codes, decimal, length, Some, IfSome}
+use Rattle.std.specs.Prelude.{◌≡◌, ◌≢◌, ◌⊎◌, ℕ, ◌+◌, ◌<◌, ◌≤◌, List, [], ◌∷◌, ◌++◌, codes, decimal, length, Some, IfSome}
 use Rattle.aas_command.specs.Commands.{payload_of}
 use Rattle.aas_command.specs.declared.command.Command.TheVariants.{Import}
 use Rattle.aas_environment.specs.Environments.{environment_of}
@@ -12,7 +12,7 @@ use Rattle.aas_rule.specs.Rule.{Repository}
 use Rattle.aas_store.specs.Documents.{Documents}
 use Rattle.aas_server.specs.Answer.{Answer, Says, disk_failed, done, journal_full, line}
 use Rattle.aas_server.specs.Early.{EndsEarly}
-use Rattle.aas_server.specs.Ends.{ConsoleState, DiskState, IsUnwritten, MayLeave}
+use Rattle.aas_server.specs.Ends.{ConsoleState, DiskState, IsCaused, IsUnwritten, MayLeave}
 use Rattle.aas_server.specs.Opening.{HasBegun, OpensAnyway, OpensAs, OpensTo}
 
 -- that of the import of all documents
@@ -43,13 +43,16 @@ OpensMeanwhile d from new = (t : ℕ) → from ≤ t → t ≤ new.moment → (i
 abbrev pub StaysOpen : Documents → DiskState → DiskState → Type 0
 StaysOpen d old new = OpensAnyway old d → OpensMeanwhile d old.moment new
 
--- The documents are those from before, in one record.
+-- The documents are those from before, in one record. Memory is asked for before the disk is written, so no want of it is
+-- told here.
 pub record IsCheckpointed (status : ℕ) (old new : ConsoleState) (disk_old disk_new : DiskState) : Type 0 where
   pub has_begun : HasBegun disk_old
   pub says : (r : Repository Documents) → OpensAs disk_old r → (answer : Answer) × IsCheckpointAnswer r.documents disk_old disk_new answer
       × Says (λ said. said ≡ answer) status old new
   pub stays : (r : Repository Documents) → OpensAs disk_old r → StaysOpen r.documents disk_old disk_new
   pub unread : new.left ≡ old.left
+  pub ended : status ≢ 10
+  pub causes : IsCaused status old new disk_old disk_new
 
 -- there was no memory for it
 pub record IsForgone (status : ℕ) (old new : ConsoleState) (disk_old disk_new : DiskState) : Type 0 where

@@ -1,5 +1,6 @@
 -- The ends of a run, as its contract sees them.
 use Rattle.std.specs.Prelude.{◌≡◌, ℕ, List, Option}
+use Rattle.aas_outside.specs.Faults.{Rose}
 use Rattle.aas_outside.specs.Moments.{Passes}
 use Rattle.aas_outside.specs.Surroundings.{Connections, Surroundings}
 use Rattle.aas_outside_disk.specs.Disk.{AddsNone, Meanwhile}
@@ -57,3 +58,8 @@ pub record IsUnwritten (old new : DiskState) : Type 0 where
   pub seen : new.seen ≡ old.seen
   pub images : Meanwhile old.moment new.moment old.left_at new.left_at AddsNone
   pub past : Passes old.moment old.left_at new.moment new.left_at
+
+-- Status 3 comes only where a call of the console failed, status 4 only where one of the disk did.
+pub record IsCaused (status : ℕ) (old new : ConsoleState) (disk_old disk_new : DiskState) : Type 0 where
+  pub console : status ≡ 3 → Rose old.faults new.faults
+  pub disk : status ≡ 4 → Rose disk_old.faults disk_new.faults

@@ -11,7 +11,6 @@ use Rattle.aas_environment.specs.declared.import_fault.ImportFault.TheVariants a
 use Rattle.aas_journal.specs.Kept.{has_room_behind}
 use Rattle.aas_json_mapping.specs.Trees.{environments}
 use Rattle.aas_json_spelling.specs.Spells.{canonical_text}
-use Rattle.aas_outside.specs.Faults.{Rose}
 use Rattle.aas_repo.specs.declared.repo.Counts.{Counts}
 use Rattle.aas_rule.specs.Rule.{Repository}
 use Rattle.aas_rule.specs.State.{Holds, State}
@@ -19,7 +18,7 @@ use Rattle.aas_store.specs.Documents.{Documents}
 use Rattle.aas_server.specs.Answer.{Answer, Says, disk_failed, done, journal_full, line, refused}
 use Rattle.aas_server.specs.Checkpointing.{IsForgone}
 use Rattle.aas_server.specs.Early.{EndsEarly}
-use Rattle.aas_server.specs.Ends.{ConsoleState, DiskState, IsUnwritten}
+use Rattle.aas_server.specs.Ends.{ConsoleState, DiskState, IsCaused, IsUnwritten}
 use Rattle.aas_server.specs.OnDisk.{StandsFor, state_on}
 use Rattle.aas_server.specs.Opening.{HasBegun, OpensAs}
 
@@ -89,13 +88,18 @@ pub record IsNotTaken (status : ℕ) (old new : ConsoleState) (disk_old disk_new
   pub says : Says (IsTooLong old.left) status old new
   pub unwritten : IsUnwritten disk_old disk_new
 
--- all that the console had was imported
+-- the statuses of what is refused: for a document, for want of room, or for want of memory
+abbrev pub IsRefusal : ℕ → Type 0
+IsRefusal status = (status ≡ 7) ⊎ (status ≡ 9) ⊎ (status ≡ 10)
+
+-- All that the console had was imported, or refused: then the disk only was read.
 pub record IsInputImported (status : ℕ) (old new : ConsoleState) (disk_old disk_new : DiskState) : Type 0 where
   pub has_begun : HasBegun disk_old
   pub within : IfSome old.left (λ input. length input ≤ import_limit)
   pub put_in : (input : List ℕ) (r : Repository Documents) → old.left ≡ Some input → OpensAs disk_old r
       → PutsIn counts_text input r status old new disk_old disk_new
-  pub disk_fault : status ≡ 4 → Rose disk_old.faults disk_new.faults
+  pub refused : IsRefusal status → IsUnwritten disk_old disk_new
+  pub causes : IsCaused status old new disk_old disk_new
 
 -- no repository was begun, or the input wasn't taken, or it was imported
 abbrev pub ImportsInput : ℕ → ConsoleState → ConsoleState → DiskState → DiskState → Type 0
@@ -104,13 +108,14 @@ ImportsInput status old new disk_old disk_new =
     ⊎ IsNotTaken status old new disk_old disk_new
     ⊎ IsInputImported status old new disk_old disk_new
 
--- The environment of so many properties was imported. The console wasn't read.
+-- The environment of so many properties was imported, or refused: then the disk only was read. The console wasn't read.
 pub record IsDemoImported (count status : ℕ) (old new : ConsoleState) (disk_old disk_new : DiskState) : Type 0 where
   pub has_begun : HasBegun disk_old
   pub put_in : (r : Repository Documents) → OpensAs disk_old r
       → PutsIn (λ counts. demo_text count) (demo_input count) r status old new disk_old disk_new
   pub unread : new.left ≡ old.left
-  pub disk_fault : status ≡ 4 → Rose disk_old.faults disk_new.faults
+  pub refused : IsRefusal status → IsUnwritten disk_old disk_new
+  pub causes : IsCaused status old new disk_old disk_new
 
 -- no repository was begun, or there was no memory, or the environment was imported
 abbrev pub ImportsDemo : ℕ → ℕ → ConsoleState → ConsoleState → DiskState → DiskState → Type 0

@@ -18,5 +18,4 @@ pub mod Serve
 pub mod Status
 pub mod Stop
 pub mod Telling
-pub mod Unsaid
 pub mod ValueAnswer

@@ -4,7 +4,7 @@ use Rattle.aas_rule.specs.Rule.{Repository}
 use Rattle.aas_store.specs.Documents.{Documents}
 use Rattle.aas_server.specs.Answer.{Answer, Says}
 use Rattle.aas_server.specs.Early.{EndsEarly}
-use Rattle.aas_server.specs.Ends.{ConsoleState, DiskState, IsUnwritten}
+use Rattle.aas_server.specs.Ends.{ConsoleState, DiskState, IsCaused, IsUnwritten}
 use Rattle.aas_server.specs.Opening.{HasBegun, OpensAs}
 
 -- An answer about the documents was given. The console wasn't read, and the disk only was.
@@ -13,6 +13,7 @@ pub record IsTold (IsAnswer : Documents → Answer → Type 0) (status : ℕ) (o
   pub says : (r : Repository Documents) → OpensAs disk_old r → Says (IsAnswer r.documents) status old new
   pub unread : new.left ≡ old.left
   pub silent : status ≡ 10 → new ≡ old
+  pub causes : IsCaused status old new disk_old disk_new
   pub unwritten : IsUnwritten disk_old disk_new
 
 -- no repository was begun, or an answer was given

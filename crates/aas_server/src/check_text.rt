@@ -1,6 +1,5 @@
 // The text of the command `check`.
 ghost use Rattle.std.specs.Prelude.{◌≡◌, ◌++◌, OnOk, IfOk};
-ghost use Rattle.aas_resolve.specs.Resolved.{HaveFewElements};
 ghost use Rattle.aas_server.specs.CheckText.{check_text, dangling_line, dangling_text, total_line};
 
 use aas_model::NoMemory;
@@ -13,7 +12,6 @@ use std::alloc::Global;
 
 /// A line for each reference of the documents that leads nowhere, and how many there are.
 pub(crate) fn check_text<S: Store>(alloc: Global, store: &S) -> Result<Vec<u8>, NoMemory>
-    requires { HaveFewElements (S.documents store.now) }
     ensures { IfOk result (λ text. text.items ≡ check_text (S.documents store.now)) }
 {
     dangling_text(alloc, dangling(alloc, store)?.as_slice())

@@ -2,6 +2,7 @@
 ghost use Rattle.std.specs.Prelude.{◌≡◌, ◌+◌, ◌<◌, ◌≤◌, ◌^◌, ℕ, List, Contains, Err, IfOk, MatchResult};
 ghost use Rattle.aas_journal.specs.Bank.{IsBankImage};
 ghost use Rattle.aas_journal.specs.Shown.{disk_of as disk_in};
+ghost use Rattle.aas_outside.specs.Faults.{Rose};
 ghost use Rattle.aas_outside.specs.Moments.{IsSettled, Passes};
 ghost use Rattle.aas_repo_replay.specs.Replay.{Replays};
 ghost use Rattle.aas_step.specs.Valid.{AreValid};
@@ -150,6 +151,8 @@ fn make<D: Disk>(
         OpensMeanwhile d (⟦<Journal<D> as Keeper>⟧.moment journal.old)
         (disk_of D.seen D.moment D.left_at D.faults (disk_in journal.new)) }
     ensures forgone { result ≡ Err Unmade.NoMemory → journal.new ≡ journal.old }
+    ensures failed { result ≡ Err Unmade.Failed →
+        Rose (D.faults (disk_in journal.old)) (D.faults (disk_in journal.new)) }
     ensures later { D.faults (disk_in journal.old) ≤ D.faults (disk_in journal.new) }
     ensures past { Passes (D.moment (disk_in journal.old)) (D.left_at (disk_in journal.old))
         (D.moment (disk_in journal.new)) (D.left_at (disk_in journal.new)) }
@@ -166,6 +169,8 @@ fn say<C: Link>(console: &mut C, made: Result<Vec<u8>, Unmade>) -> Status
         (console_of C.left C.sent C.faults console.old) (console_of C.left C.sent C.faults console.new) }
     ensures unread { C.left console.new ≡ C.left console.old }
     ensures silent { made ≡ Err Unmade.NoMemory → (exit_code result ≡ 10) × (console.new ≡ console.old) }
+    ensures forgone { exit_code result ≡ 10 → made ≡ Err Unmade.NoMemory }
+    ensures failed { exit_code result ≡ 4 → made ≡ Err Unmade.Failed }
     ensures statuses { Contains (statuses_of (Some CommandLine.Checkpoint)) (exit_code result) }
 {
     match made {
@@ -180,6 +185,8 @@ fn say_unmade<C: Link>(console: &mut C, unmade: Unmade) -> Status
         (console_of C.left C.sent C.faults console.old) (console_of C.left C.sent C.faults console.new) }
     ensures unread { C.left console.new ≡ C.left console.old }
     ensures silent { unmade ≡ Unmade.NoMemory → (exit_code result ≡ 10) × (console.new ≡ console.old) }
+    ensures forgone { exit_code result ≡ 10 → unmade ≡ Unmade.NoMemory }
+    ensures failed { exit_code result ≡ 4 → unmade ≡ Unmade.Failed }
     ensures statuses { Contains (statuses_of (Some CommandLine.Checkpoint)) (exit_code result) }
 {
     match unmade {

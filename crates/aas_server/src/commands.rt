@@ -22,6 +22,7 @@ use crate::stop::Stop;
 use crate::telling::{DanglingReferences, Export, tell};
 use crate::value::answer_value;
 use aas_command::Refusal;
+use aas_discovery::IndexedStore;
 use aas_journal::{InitFault, init_journal};
 use aas_model::{Many, Text};
 use aas_outside::{Link, Wire};
@@ -61,7 +62,8 @@ pub fn run<C: Link, W: Wire, D: Disk>(
     run_over(alloc, SheetStore::new(alloc), words, console, wire, disk)
 }
 
-/// The same over a store of any kind, which has no documents before; `run` is over tables.
+/// The same over a store of any kind, which has no documents before; `run` is over tables. Where it is served an index stands
+/// beside it.
 pub fn run_over<S: Store + Drop, C: Link, W: Wire, D: Disk>(
     alloc: Global,
     store: S,
@@ -89,7 +91,10 @@ pub fn run_over<S: Store + Drop, C: Link, W: Wire, D: Disk>(
             status: init(console, &mut disk).exit_code(),
             disk,
         },
-        Some(CommandLine::Pipe) => pipe(alloc, store, console, disk),
+        Some(CommandLine::Pipe) => {
+            let store = IndexedStore::new(alloc, store);
+            pipe(alloc, store, console, disk)
+        }
         Some(CommandLine::Check) => tell(alloc, &DanglingReferences, store, console, disk),
         Some(CommandLine::Export) => tell(alloc, &Export, store, console, disk),
         Some(CommandLine::Conform { template, instance }) => {
@@ -100,6 +105,7 @@ pub fn run_over<S: Store + Drop, C: Link, W: Wire, D: Disk>(
         Some(CommandLine::Demo { count }) => demo(alloc, store, console, count, disk),
         Some(CommandLine::Checkpoint) => checkpoint(alloc, store, console, disk),
         Some(CommandLine::Serve { count }) => {
+            let store = IndexedStore::new(alloc, store);
             serve(alloc, store, address(words), console, wire, count, disk)
         }
         None => Ran {

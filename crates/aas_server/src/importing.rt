@@ -1,5 +1,5 @@
 // The commands that put the documents of one environment into those on a disk.
-ghost use Rattle.std.specs.Prelude.{◌≡◌, ◌⊎◌, ◌<◌, ◌≤◌, ◌^◌, ℕ, List, false, Contains, IfOk, IfSome, OnOk, Some, length};
+ghost use Rattle.std.specs.Prelude.{◌≡◌, ◌≢◌, ◌⊎◌, ◌<◌, ◌≤◌, ◌^◌, ℕ, List, false, Contains, IfOk, IfSome, OnOk, Some, length};
 ghost use Rattle.aas_demo.specs.Demo.{environment_of};
 ghost use Rattle.aas_environment.specs.Imports.{Spell};
 ghost use Rattle.aas_environment.specs.declared.import_fault.ImportFault.TheVariants.{Storage};
@@ -12,9 +12,8 @@ ghost use Rattle.aas_rule.specs.State.{IsSettledState, repository_of};
 ghost use Rattle.aas_server.specs.Answer.{Says};
 ghost use Rattle.aas_server.specs.CommandLine.{IsCount, most_properties, statuses_of};
 ghost use Rattle.aas_server.specs.Ends.{console_of, disk_of};
-ghost use Rattle.aas_server.specs.Importing.{ImportsDemo, ImportsInput, IsFaultAnswer, IsPutIn, IsTooLong, counts_text, demo_input, demo_text, import_limit, refused_at};
+ghost use Rattle.aas_server.specs.Importing.{ImportsDemo, ImportsInput, IsFaultAnswer, IsPutIn, IsRefusal, IsTooLong, counts_text, demo_input, demo_text, import_limit, refused_at};
 ghost use Rattle.aas_server.specs.Status.{exit_code};
-ghost use Rattle.aas_server.specs.Unsaid.{MayBeUnsaid};
 ghost use Rattle.aas_store.specs.Documents.{empty};
 
 use crate::command_line::CommandLine;
@@ -136,6 +135,8 @@ fn import_input<S: Store, C: Link, D: Disk>(
         ⟦<Journal<D> as Keeper>⟧.moment ⟦<Journal<D> as Keeper>⟧.left_at repo.new) (exit_code result)
         (console_of C.left C.sent C.faults console.old) (console_of C.left C.sent C.faults console.new))) }
     ensures statuses { Contains (statuses_of (Some CommandLine.Import)) (exit_code result) }
+    ensures refused { IsRefusal (exit_code result) → repo.new ≡ repo.old }
+    ensures console_fault { exit_code result ≡ 3 → Rose (C.faults console.old) (C.faults console.new) }
     ensures disk_fault { exit_code result ≡ 4 → Rose (D.faults (disk_in repo.old.keeper)) (D.faults (disk_in repo.new.keeper)) }
     ensures past { Passes (D.moment (disk_in repo.old.keeper)) (D.left_at (disk_in repo.old.keeper))
         (D.moment (disk_in repo.new.keeper)) (D.left_at (disk_in repo.new.keeper)) }
@@ -181,6 +182,8 @@ fn import_demo<S: Store, C: Link, D: Disk>(
         (console_of C.left C.sent C.faults console.old) (console_of C.left C.sent C.faults console.new)) }
     ensures unread { C.left console.new ≡ C.left console.old }
     ensures statuses { Contains (statuses_of (Some (CommandLine.Demo count))) (exit_code result) }
+    ensures refused { IsRefusal (exit_code result) → repo.new ≡ repo.old }
+    ensures console_fault { exit_code result ≡ 3 → Rose (C.faults console.old) (C.faults console.new) }
     ensures disk_fault { exit_code result ≡ 4 → Rose (D.faults (disk_in repo.old.keeper)) (D.faults (disk_in repo.new.keeper)) }
     ensures past { Passes (D.moment (disk_in repo.old.keeper)) (D.left_at (disk_in repo.old.keeper))
         (D.moment (disk_in repo.new.keeper)) (D.left_at (disk_in repo.new.keeper)) }
@@ -249,7 +252,7 @@ fn say_fault<C: Link>(alloc: Global, console: &mut C, fault: ImportFault) -> Sta
     ensures says { Says (IsFaultAnswer fault) (exit_code result)
         (console_of C.left C.sent C.faults console.old) (console_of C.left C.sent C.faults console.new) }
     ensures unread { C.left console.new ≡ C.left console.old }
-    ensures silent { exit_code result ≡ 10 → MayBeUnsaid fault }
+    ensures refused { IsRefusal (exit_code result) → fault ≢ Storage }
     ensures storage { exit_code result ≡ 4 → fault ≡ Storage }
     ensures statuses { Contains (statuses_of (Some CommandLine.Import)) (exit_code result) }
 {

@@ -25,14 +25,16 @@
 //!   wire or the disk fails.
 //! - Where the disk didn't fail, the files that reads give at the end open as the documents that the run left.
 //! - The records behind any visits that were served, and any turns of the next one, replay to the documents then.
-//! - What was done where the console, the wire, a connection or the disk failed, and that the disk's count rose
-//!   where status 4 says so.
+//! - What was done where the console, the wire, a connection or the disk failed. Whatever the ends tell, a call of
+//!   the console or the wire failed where status 3 says so, and one of the disk where status 4 does.
 //! - On `check` and `export` the console gets exactly the lines of the references that lead nowhere, or the
 //!   canonical text of all documents, and the files are only read.
 //! - An export of 2^64 bytes or more has a status and a line of its own, and nothing of it is given.
 //! - `checkpoint` puts one record, the import of all documents, in the place of those in the journal: whatever a
 //!   stop at any moment of it leaves opens as the same documents, where all that one at its start may have left
-//!   does, and at status 0 it is the image of that record alone.
+//!   does, and at status 0 it is the image of that record alone. For want of memory it writes nothing.
+//! - `import` and `demo` put in the documents of one environment as one command. What they refuse, for a document, for
+//!   want of room or of memory, leaves the files as they were.
 //! - When each status comes.
 //! - All this over any store that has no documents before, as over that of tables.
 #![tactic(auto)]

@@ -15,16 +15,16 @@ use crate::commands::Ran;
 use crate::console::{end_damaged, end_with};
 use crate::server::Server;
 use crate::status::Status;
+use aas_discovery::Lookup;
 use aas_journal::{NotOpened, OpenFault, have_one_list};
 use aas_outside::{Failed, Link, Wire};
 use aas_outside_disk::Disk;
 use aas_repo_replay::{accepted_commands_replay, payloads_replay_to_one_state};
 use aas_session::{serve as serve_visits, serve_connection};
-use aas_store::Store;
 use std::alloc::Global;
 
 /// Serves the console as one connection, from the repository on the disk.
-pub fn pipe<S: Store + Drop, C: Link, D: Disk>(
+pub fn pipe<S: Lookup + Drop, C: Link, D: Disk>(
     alloc: Global,
     store: S,
     console: &mut C,
@@ -57,7 +57,7 @@ pub fn pipe<S: Store + Drop, C: Link, D: Disk>(
 }
 
 /// Serves the visits to so many clients of the wire, from the repository on the disk.
-pub fn serve<S: Store + Drop, C: Link, W: Wire, D: Disk>(
+pub fn serve<S: Lookup + Drop, C: Link, W: Wire, D: Disk>(
     alloc: Global,
     store: S,
     address: &str,

@@ -1,5 +1,5 @@
 // The commands that tell something of the documents on a disk.
-ghost use Rattle.std.specs.Prelude.{◌≡◌, ◌≤◌, List, ℕ, [], ◌∷◌, Contains};
+ghost use Rattle.std.specs.Prelude.{◌≡◌, ◌≢◌, ◌≤◌, List, ℕ, [], ◌∷◌, Contains};
 ghost use Rattle.aas_outside.specs.Moments.{Passes};
 ghost use Rattle.aas_store.specs.Documents.{Documents, empty};
 ghost use Rattle.aas_environment.specs.Environments.{export_text};
@@ -45,7 +45,8 @@ pub(crate) trait Report {
         ensures unread { C.left console.new ≡ C.left console.old }
         ensures silent { exit_code result ≡ 10 →
             console_of C.left C.sent C.faults console.new ≡ console_of C.left C.sent C.faults console.old }
-        ensures statuses { Contains (statuses_with others) (exit_code result) };
+        ensures statuses { Contains (statuses_with others) (exit_code result) }
+        ensures no_disk_fault { exit_code result ≢ 4 };
 }
 
 /// The references that lead nowhere.

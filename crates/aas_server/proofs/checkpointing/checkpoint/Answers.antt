@@ -32,7 +32,9 @@ returns-in-Ok-clause-does g c =
     (λ payloads keeps. c.make-made.ensures.made d payloads prepared keeps)
     c.make-made.ensures.forgone
     c.say.ensures.says
-    (λ is. let none = c.say.ensures.silent is in (none.0, ap (console_of C.left C.sent C.faults) none.1))))
+    (λ is. let none = c.say.ensures.silent is in (none.0, ap (console_of C.left C.sent C.faults) none.1))
+    c.say.ensures.forgone
+    (λ four. c.make-made.ensures.failed (c.say.ensures.failed four))))
 
 pub returns-in-Err-clause-does : goal.returns-in-Err-clause-does
 returns-in-Err-clause-does g c =

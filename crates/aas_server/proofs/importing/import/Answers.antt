@@ -29,11 +29,14 @@ returns-in-Ok-clause-does g c =
     c.in-Ok.ensures.begun c.in-Ok.ensures.reads.past c.in-Ok.ensures.reads.images c.import_input-status.ensures.past
     (after ≡ opened) (exit_code c.import_input-status.result)
     (console_of C.left C.sent C.faults c.args.console.now) (console_of C.left C.sent C.faults c.import_input-status.new.console)
-    c.import_input-status.ensures.does
+    c.import_input-status.ensures.does c.import_input-status.ensures.refused
     (λ unchanged. subst (λ repo. IsUnwritten (disk_of D.seen D.moment D.left_at D.faults c.args.disk)
     (disk_of D.seen D.moment D.left_at D.faults (disk_in repo.keeper))) (sym unchanged)
     (record { seen = c.in-Ok.ensures.reads.same; images = c.in-Ok.ensures.reads.images; past = c.in-Ok.ensures.reads.past }))
-    (λ four. omega (arith, c.in-Ok.ensures.later, c.import_input-status.ensures.disk_fault four)))))
+    (record {
+      console = c.import_input-status.ensures.console_fault;
+      disk = λ four. omega (arith, c.in-Ok.ensures.later, c.import_input-status.ensures.disk_fault four);
+    }))))
 
 pub returns-in-Ok-clause-past : goal.returns-in-Ok-clause-past
 returns-in-Ok-clause-past g c = rw c.into_disk.ensures

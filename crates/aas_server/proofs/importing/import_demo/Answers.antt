@@ -28,7 +28,7 @@ pub returns-in-Ok-clause-does : goal.returns-in-Ok-clause-does
 returns-in-Ok-clause-does g c =
     inr (λ records settled. put_not _ _ _ _ _ _ _ _ _ c.in-Err-import_bytes.fault
     c.deref.result.now (c.deref.ensures.value ∙ c.in-Ok.ensures.text) (c.in-Err-import_bytes.ensures.imports records settled)
-    c.say_fault.ensures.says c.say_fault.ensures.silent)
+    c.say_fault.ensures.says (λ ten. c.say_fault.ensures.refused (inr (inr ten))))
 
 pub returns-in-Ok-import_bytes-clause-statuses : goal.returns-in-Ok-import_bytes-clause-statuses
 returns-in-Ok-import_bytes-clause-statuses g c = done_demo_status (exit_code c.end_with.result) c.end_with.ensures.statuses

@@ -40,7 +40,7 @@ returns-in-Ok-clause-does g c =
           c.deref.result.now (c.deref.ensures.value ∙ all_read old.left c.in-Ok.input.items input c.in-Ok.ensures.whole left)
           (c.in-Err.ensures.imports records settled)
           (says_moved _ (exit_code c.say_fault.result) old mid new c.in-Ok.ensures.sent c.in-Ok.ensures.later c.say_fault.ensures.says)
-          c.say_fault.ensures.silent,
+          (λ ten. c.say_fault.ensures.refused (inr (inr ten))),
     )
 
 pub returns-in-Ok-import_bytes-clause-statuses : goal.returns-in-Ok-import_bytes-clause-statuses

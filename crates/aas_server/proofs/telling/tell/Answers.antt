@@ -26,6 +26,7 @@ returns-in-Ok-clause-does g c =
     })
     c.in-Ok.ensures.begun
     c.give-status.ensures.says c.give-status.ensures.unread c.give-status.ensures.silent
+    c.give-status.ensures.no_disk_fault
     (record { seen = c.in-Ok.ensures.reads.same; images = c.in-Ok.ensures.reads.images; past = c.in-Ok.ensures.reads.past })))))
 
 pub returns-in-Err-clause-does : goal.returns-in-Err-clause-does

@@ -3,12 +3,8 @@ use Rattle.aas_server.specs.Answer.{Says, done}
 use Rattle.aas_server.specs.CheckText.{check_text}
 use Rattle.aas_server.specs.Ends.{console_of}
 use Rattle.aas_server.specs.Status.{exit_code}
-use Rattle.aas_server.proofs.Few.{few_elements}
 use Rattle.aas_server.proofs.Given.{says_line, says_nothing}
 use Rattle.aas_server.proofs.telling.DanglingReferencesReport.give.Goals as goal
-
-pub check_text-requires : goal.check_text-requires
-check_text-requires g c = few_elements (g.S.Store.documents c.store.result.now) c.store.ensures.valid
 
 pub returns-in-Ok-clause-says : goal.returns-in-Ok-clause-says
 returns-in-Ok-clause-says g c =
