@@ -7,7 +7,6 @@ use crate::not_run::NotRun;
 use aas_json_write::environment_text;
 use aas_model::{Environment, Many, Text};
 use aas_serialization::{GatherFault, gather};
-use aas_step::{no_documents_are_valid, valid_submodels_are_storable};
 use aas_store::TreeStore;
 use std::alloc::Global;
 
@@ -56,8 +55,6 @@ fn answer(
     submodels: &Many<Text>,
     concepts: bool,
 ) -> Result<String, NotRun> {
-    no_documents_are_valid();
-    valid_submodels_are_storable();
     let mut console = console(alloc, requests)?;
     let service = served(alloc, TreeStore::new(alloc), ROOM, &mut console)?;
     match gather(service.repo.store(), shells, submodels, concepts) {

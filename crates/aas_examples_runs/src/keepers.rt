@@ -1,12 +1,14 @@
 // Requests that are served without a disk, by a repository behind its interface, whose keeper is in memory. The words of an
 // example of this are `keeper` and how many bytes of frames it takes.
-ghost use Rattle.aas_step.specs.Valid.{AreValid};
+ghost use Rattle.std.specs.Prelude.{◌≡◌};
+ghost use Rattle.aas_store.specs.Documents.{empty};
 
 use crate::columns::number_of;
 use crate::example::Example;
 use crate::not_run::NotRun;
 use crate::runs::Kind;
 use aas_api_service::Service;
+use aas_discovery::IndexedStore;
 use aas_model::Text;
 use aas_outside::{MemKeeper, MemLink};
 use aas_repo::Repo;
@@ -29,7 +31,7 @@ pub(crate) fn failure(
     room: &Text,
 ) -> Result<Option<String>, NotRun> {
     let room = number_of(room.as_str())? as usize;
-    for kind in [Kind::Tables, Kind::Trees] {
+    for kind in [Kind::Tables, Kind::Trees, Kind::Indexed] {
         let given = difference(alloc, example, kind, room)?;
         if given.is_some() {
             return Ok(given);
@@ -59,10 +61,13 @@ pub(crate) fn console(alloc: Global, requests: &[u8]) -> Result<MemLink, NotRun>
 }
 
 fn serve(alloc: Global, kind: Kind, room: usize, console: &mut MemLink) -> Result<(), NotRun> {
-    no_documents_are_valid();
     match kind {
         Kind::Tables => serve_from(alloc, SheetStore::new(alloc), room, console),
         Kind::Trees => serve_from(alloc, TreeStore::new(alloc), room, console),
+        Kind::Indexed => {
+            let store = IndexedStore::new(alloc, SheetStore::new(alloc));
+            serve_from(alloc, store, room, console)
+        }
     }
 }
 
@@ -72,23 +77,25 @@ fn serve_from<S: Store + Drop>(
     room: usize,
     console: &mut MemLink,
 ) -> Result<(), NotRun>
-    requires { AreValid (S.documents store) }
+    requires { S.documents store ≡ empty }
 {
     let _served = served(alloc, store, room, console)?;
     Ok(())
 }
 
-/// The repository behind its interface, over the store, after it has served the console.
+/// The repository behind its interface, over the store with an index beside it, after it has served the console.
 pub(crate) fn served<S: Store + Drop>(
     alloc: Global,
     store: S,
     room: usize,
     console: &mut MemLink,
-) -> Result<Service<S, MemKeeper>, NotRun>
-    requires { AreValid (S.documents store) }
+) -> Result<Service<IndexedStore<S>, MemKeeper>, NotRun>
+    requires { S.documents store ≡ empty }
 {
+    no_documents_are_valid();
     let mut intake = Intake::new(alloc)?;
     let keeper = MemKeeper::new(alloc, room, &[])?;
+    let store = IndexedStore::new(alloc, store);
     let mut service = Service::new(alloc, Repo::new(alloc, store, keeper));
     serve_connection(&mut service, console, &mut intake);
     Ok(service)

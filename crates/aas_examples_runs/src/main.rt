@@ -2,10 +2,10 @@
 //! what the console gets and what it is given, with tabs between them; the last two are JSON strings. Further columns
 //! say what its disk begins with, which of its calls fail and what the run leaves (`disk.rt`), which calls of the
 //! console fail (`runs.rt`), what visits its wire makes (`wire.rt`), and that each front of the input is run too
-//! (`fronts.rt`). Each is run with its bytes in pieces of three sizes, and over both stores. Lines that begin with
-//! `row_mut` are of rows that a store lends (`rows.rt`), those with `keeper` of a keeper in memory (`keepers.rt`), those with
-//! `gather` of environments in memory (`gathering.rt`). Printed are the examples that give something else, and how many
-//! there are in all.
+//! (`fronts.rt`). Each is run with its bytes in pieces of three sizes, over both stores and over an indexed one. Lines
+//! that begin with `row_mut` are of rows that a store lends (`rows.rt`), those with `keeper` of a keeper in memory
+//! (`keepers.rt`), those with `gather` of environments in memory (`gathering.rt`). Printed are the examples that give
+//! something else, and how many there are in all.
 //!
 //! No definition and no rule stands here.
 
@@ -56,13 +56,15 @@ fn main(rt: HostRuntime) -> io::Result<()> {
 /// The largest of the pieces.
 const LARGEST: u64 = 4096;
 
-/// Runs over tables in pieces of three sizes, and over trees in the largest.
+/// Runs over tables in pieces of three sizes, and over trees and indexed tables in the largest.
 fn all_runs(alloc: Global) -> Result<Vec<Runs>, NotRun> {
     let mut runs = Vec::new(alloc);
     for piece in [1, 7, LARGEST] {
         runs.push(Runs::new(alloc, Kind::Tables, piece)?)?;
     }
-    runs.push(Runs::new(alloc, Kind::Trees, LARGEST)?)?;
+    for kind in [Kind::Trees, Kind::Indexed] {
+        runs.push(Runs::new(alloc, kind, LARGEST)?)?;
+    }
     Ok(runs)
 }
 

@@ -8,9 +8,9 @@ use crate::keepers::{console, served};
 use crate::not_run::NotRun;
 use aas_model::{NoMemory, Path, Payload, Submodel, Text, ValueType};
 use aas_path::parse_path;
-use aas_sheet::SheetStore;
+use aas_sheet::{SheetStore, row_mut};
 use aas_sheet_rows::Row;
-use aas_step::{no_documents_are_valid, valid_submodels_are_storable};
+use aas_step::valid_submodels_are_storable;
 use aas_store::{Lack, Store};
 use std::alloc::Global;
 
@@ -43,7 +43,7 @@ fn keep(alloc: Global, store: &mut SheetStore, requests: &[u8]) -> Result<(), No
 }
 
 fn lend(alloc: Global, store: &mut SheetStore, rank: u64) -> Result<(), NotRun> {
-    match store.row_mut(ID, rank) {
+    match row_mut(store, ID, rank) {
         Some(row) => Ok(write(alloc, row)?),
         None => Err(NotRun::Unreadable),
     }
@@ -53,7 +53,6 @@ fn lend(alloc: Global, store: &mut SheetStore, rank: u64) -> Result<(), NotRun> 
 fn stored(alloc: Global, requests: &[u8]) -> Result<Submodel, NotRun>
     ensures { IfOk result (λ submodel. IsStorable submodel) }
 {
-    no_documents_are_valid();
     valid_submodels_are_storable();
     let mut console = console(alloc, requests)?;
     let service = served(alloc, SheetStore::new(alloc), ROOM, &mut console)?;

@@ -12,10 +12,12 @@ use crate::example::Example;
 use crate::fronts::{Front, fronts};
 use crate::not_run::NotRun;
 use crate::{disk, wire};
+use aas_discovery::IndexedStore;
 use aas_model::{Many, NoMemory, Text};
 use aas_outside::{Link, MemLink, MemWire, Wire};
 use aas_outside_disk::{Disk, MemDisk};
 use aas_server::{Ran, run, run_over};
+use aas_sheet::SheetStore;
 use aas_store::TreeStore;
 use std::alloc::Global;
 
@@ -25,6 +27,8 @@ pub(crate) enum Kind {
     /// That of tables, which the program has.
     Tables,
     Trees,
+    /// That of tables, with an index beside it.
+    Indexed,
 }
 
 impl Kind {
@@ -32,6 +36,7 @@ impl Kind {
         match self {
             Kind::Tables => "tables",
             Kind::Trees => "trees",
+            Kind::Indexed => "indexed tables",
         }
     }
 }
@@ -190,6 +195,7 @@ fn run_on(
     let ran = match kind {
         Kind::Tables => over_tables(alloc, words, &mut console, &mut wire, disk),
         Kind::Trees => over_trees(alloc, words, &mut console, &mut wire, disk),
+        Kind::Indexed => over_indexed(alloc, words, &mut console, &mut wire, disk),
     };
     Ended {
         status: ran.status,
@@ -199,7 +205,7 @@ fn run_on(
     }
 }
 
-// These two are generic and promise nothing, so that no proof looks into what a run promises.
+// These are generic and promise nothing, so that no proof looks into what a run promises.
 fn over_tables<C: Link, W: Wire, D: Disk>(
     alloc: Global,
     words: &Many<Text>,
@@ -218,6 +224,17 @@ fn over_trees<C: Link, W: Wire, D: Disk>(
     disk: D,
 ) -> Ran<D> {
     run_over(alloc, TreeStore::new(alloc), words, console, wire, disk)
+}
+
+fn over_indexed<C: Link, W: Wire, D: Disk>(
+    alloc: Global,
+    words: &Many<Text>,
+    console: &mut C,
+    wire: &mut W,
+    disk: D,
+) -> Ran<D> {
+    let store = IndexedStore::new(alloc, SheetStore::new(alloc));
+    run_over(alloc, store, words, console, wire, disk)
 }
 
 /// Whether the console gets what the line says, or so much of it.
