@@ -9,12 +9,14 @@ All these submodels are also listed, in pages of 100, each of which begins behin
 
 Then so many elements are put into one submodel, right below it or in the innermost of ten collections, and the last of them is read and updated through
 its value form, gets other metadata, and another one is added behind it and deleted again. Those right below it are listed, too. Environments of ten of so many
-submodels are asked for, with the concept descriptions that these take along, beside as many others. At last it is printed how much memory long replies take beside
-the documents, and a property that is stored.
+submodels are asked for, with the concept descriptions that these take along, beside as many others. Shells are looked up by asset ids: each has a global
+one and a specific one of its own, and one that all share; shells are created among them and deleted again. At last it is printed how much memory long replies
+take beside the documents, and a property that is stored.
 
 Printed are the microseconds for a request with 10, 100, 1,000 and 10,000 submodels, and with 10, 1,000 and 65,536 elements, those that passed and those
 that the program itself ran, each the median over all batches of some runs, and how much the latter grew from the first to the last; of pages those for
-each entry. The script ends with status 1 where that is past 2.5 times with submodels. With elements it is printed alone. It wants an idle machine.
+each entry. The script ends with status 1 where that is past 2.5 times with submodels. With elements and with 1,000, 10,000 and 100,000 shells it is printed
+alone, and of these what an asset id's place in the index takes, and how long the program opens their journal. It wants an idle machine.
 """
 import argparse
 import base64
@@ -55,6 +57,9 @@ CHOSEN = 10
 MOST_CHOSEN = 200
 # How many concept descriptions the latter takes along, named by elements or by one another.
 TAKEN_ALONG = 10_000
+# The shells among which some are looked up.
+SHELLS = (1_000, 10_000, 100_000)
+SHARED = {'name': 'line', 'value': 'A'}
 # How many submodels with a thousand properties are there before memory is measured; four times as many come then.
 OWNERS = 20
 # A batch and its replies fit a pipe of this size, so that neither side waits for the other.
@@ -227,11 +232,54 @@ class Chosen:
         return request(f'GET /serialization?{named}'), reply('200 OK', f'{{{text}}}')
 
 
-class Pipe:
-    """A run of the program with one connection on its console, in a folder of its own."""
+class Shells:
+    """Requests on so many shells with three asset ids each, one of which they share. With `plain` the texts of the two specific ones stand in extensions, by
+    which no shell is looked up."""
 
-    def __init__(self, program, folder):
-        subprocess.run([program, 'init'], cwd=folder, stdin=subprocess.DEVNULL, stdout=subprocess.DEVNULL, check=True)
+    def __init__(self, count, plain=False):
+        self.count, self.plain = count, plain
+
+    @staticmethod
+    def identity(number):
+        return f'https://example.com/shells/{number:07}'
+
+    @staticmethod
+    def own(number):
+        return {'name': 'serial', 'value': f'{number:07}'}
+
+    @staticmethod
+    def whole(number):
+        return {'name': 'globalAssetId', 'value': f'https://example.com/assets/{number:07}'}
+
+    def text(self, number):
+        """The canonical text of a shell."""
+        asset = {'assetKind': 'Instance', 'globalAssetId': self.whole(number)['value']}
+        document = {'assetInformation': asset, 'id': self.identity(number), 'modelType': 'AssetAdministrationShell'}
+        (document if self.plain else asset)['extensions' if self.plain else 'specificAssetIds'] = [self.own(number), SHARED]
+        return json.dumps(document, separators=(',', ':'), sort_keys=True)
+
+    def post(self, number):
+        return request('POST /shells', self.text(number)), reply('201 Created', self.text(number))
+
+    def delete(self, number):
+        return request('DELETE /shells/' + segment(self.identity(number))), reply('204 No Content')
+
+    def look_up(self, wanted, found, after=''):
+        """The page of the shells that have the wanted asset ids, which are these; where it is full, further ones follow."""
+        asked = '&'.join('assetIds=' + segment(json.dumps(it)) for it in wanted)
+        behind = f'{{"cursor":"{segment(self.identity(found[-1]))}"}}' if len(found) == PAGE else '{}'
+        cursor = f'&cursor={segment(self.identity(after))}' if after != '' else ''
+        text = ','.join(f'"{self.identity(number)}"' for number in found)
+        return (request(f'GET /lookup/shells?{asked}&limit={PAGE}{cursor}'),
+                reply('200 OK', f'{{"paging_metadata":{behind},"result":[{text}]}}'))
+
+
+class Pipe:
+    """A run of the program with one connection on its console, in a folder of its own; it begins there, or goes on with what another run kept."""
+
+    def __init__(self, program, folder, begins=True):
+        if begins:
+            subprocess.run([program, 'init'], cwd=folder, stdin=subprocess.DEVNULL, stdout=subprocess.DEVNULL, check=True)
         self.process = subprocess.Popen([program, 'pipe'], cwd=folder, stdin=subprocess.PIPE, stdout=subprocess.PIPE)
         self.given, self.taken = self.process.stdin.fileno(), self.process.stdout.fileno()
         for end in (self.given, self.taken):
@@ -355,6 +403,45 @@ def chosen_run(program, count):
     return took
 
 
+def shells_run(program, count):
+    """What requests on shells took, with so many of even numbers, and how long the program opened their journal."""
+    shells = Shells(count)
+    apart = [2 * ((n * 7919) % (count - 2 * PAGE)) for n in range(BATCH)]
+    times = {name: [] for name in ('look-up by an id of one shell', 'look-up by the shared id, a page', 'look-up by both',
+                                   'POST of a shell', 'DELETE of a shell')}
+    with tempfile.TemporaryDirectory(dir=FOLDER) as folder:
+        pipe = Pipe(program, folder)
+        for numbers in batches(list(range(0, 2 * count, 2))):
+            pipe.exchange([shells.post(number) for number in numbers])
+        pipe.end()
+        begun = time.perf_counter()
+        Pipe(program, folder, begins=False).end()
+        times['opening'] = [(time.perf_counter() - begun,) * 2]
+        pipe = Pipe(program, folder, begins=False)
+        for _ in range(BATCHES):
+            times['look-up by an id of one shell'].append(pipe.exchange([shells.look_up([shells.whole(n)], [n]) for n in apart]))
+            pages_of = [shells.look_up([SHARED], list(range(n + 2, n + 2 + 2 * PAGE, 2)), after=n) for n in apart[:10]]
+            times['look-up by the shared id, a page'].append(tuple(10 * time for time in pipe.exchange(pages_of)))
+            times['look-up by both'].append(pipe.exchange([shells.look_up([SHARED, shells.own(n)], [n]) for n in apart]))
+            times['POST of a shell'].append(pipe.exchange([shells.post(n + 1) for n in apart]))
+            times['DELETE of a shell'].append(pipe.exchange([shells.delete(n + 1) for n in apart]))
+        pipe.end()
+    return times
+
+
+def memory_of_shells(program, count, plain):
+    """The bytes of memory for each shell that is stored."""
+    shells = Shells(count, plain)
+    with tempfile.TemporaryDirectory(dir=FOLDER) as folder:
+        pipe = Pipe(program, folder)
+        before = pipe.resident()
+        for numbers in batches(list(range(count))):
+            pipe.exchange([shells.post(number) for number in numbers])
+        grown = pipe.resident() - before
+        pipe.end()
+    return grown / count
+
+
 def memory_of_chosen(program, chosen):
     """The most memory that the environment takes beside the documents."""
     with tempfile.TemporaryDirectory(dir=FOLDER) as folder:
@@ -433,6 +520,24 @@ def print_chosen(program, runs):
     print(f'  grew {own[-1] / own[0]:.2f} times')
 
 
+def print_shells(program):
+    took = {count: shells_run(program, count) for count in SHELLS}
+    for name in (it for it in took[SHELLS[0]] if it != 'opening'):
+        print(name)
+        own = []
+        for count, times in took.items():
+            passed, ran = (statistics.median(of) / BATCH * 1e6 for of in zip(*times[name]))
+            own.append(ran)
+            print(f'  {count:6} shells {passed:10.1f} us each, {ran:10.1f} of them run')
+        print(f'  grew {own[-1] / own[0]:.2f} times')
+    print('opening a journal')
+    for count, times in took.items():
+        print(f'  {count:6} shells {times["opening"][0][0]:10.3f} s')
+    indexed, plain = (memory_of_shells(program, SHELLS[1], it) for it in (False, True))
+    print('shell with three asset ids that is stored')
+    print(f'  {indexed:6.0f} bytes of memory, of them {(indexed - plain) / 2:.0f} for an asset id\'s place in the index')
+
+
 def main():
     parser = argparse.ArgumentParser(description=__doc__, formatter_class=argparse.RawDescriptionHelpFormatter)
     take_launcher(parser)
@@ -457,6 +562,7 @@ def main():
     for depth in DEPTHS:
         print_elements(program, options.runs, depth)
     print_chosen(program, options.runs)
+    print_shells(program)
     print('memory beside the documents, at most')
     for text, taken in memory_of_texts(program).items():
         print(f'  {taken / 1_000:8.0f} kB for {text}')
