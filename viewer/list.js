@@ -85,7 +85,7 @@ function makeEntry(collection, identifiable) {
 async function showFound(room, text, signal) {
   const hint = make('p', { class: 'hint', role: 'status' }, 'Searching …');
   room.append(hint);
-  const parts = (await questionsOf(text, signal)).map(question => ({ question, entries: make('ul') }));
+  const parts = questionsOf(text).map(question => ({ question, entries: make('ul') }));
   const counts = await Promise.all(parts.map(({ question, entries }) => showAnswer(entries, question, signal)));
   const found = parts.filter((_, n) => counts[n]);
   room.append(...found.flatMap(({ question, entries }) => [make('h2', {}, question.title), entries]));

@@ -10,16 +10,15 @@ const toConcept = value => coded({ type: 'ModelReference', keys: [{ type: 'Conce
  * Each question has a title and a collection, and either `path` and `words` of a list that the server shows in pages,
  * or the path of `one` document.
  */
-export async function questionsOf(text, signal) {
+export function questionsOf(text) {
   const shells = { collection: 'shells', path: '/shells' };
   const submodels = { collection: 'submodels', path: '/submodels/$metadata' };
   const concepts = { collection: 'concept-descriptions', path: '/concept-descriptions' };
-  const assets = await lookUpAnswers(signal) ? '/lookup/shells' : '/shells';
   return [
     { collection: 'shells', title: 'Shell', one: `/shells/${segment(text)}` },
     { collection: 'submodels', title: 'Submodel', one: `/submodels/${segment(text)}/$metadata` },
     { collection: 'concept-descriptions', title: 'Concept description', one: `/concept-descriptions/${segment(text)}` },
-    { ...shells, title: 'Shells of this asset', path: assets, words: { assetIds: coded(assetId(text)) } },
+    { ...shells, title: 'Shells of this asset', path: '/lookup/shells', words: { assetIds: coded(assetId(text)) } },
     { ...shells, title: 'Shells with this idShort', words: { idShort: text } },
     { ...submodels, title: 'Submodels with this idShort', words: { idShort: text } },
     { ...concepts, title: 'Concept descriptions with this idShort', words: { idShort: text } },
@@ -33,18 +32,6 @@ export async function questionsOf(text, signal) {
 function assetId(text) {
   const [, name, value] = text.match(/^(\w[\w.-]*)=(.+)$/) ?? [];
   return name ? { name, value } : { name: 'globalAssetId', value: text };
-}
-
-let answers;
-
-/** Whether the server has the look-up of shells by asset ids. */
-function lookUpAnswers(signal) {
-  answers ??= read('/lookup/shells?limit=1', signal).then(() => true, error => {
-    if (error instanceof Refusal) return false;
-    answers = undefined;
-    throw error;
-  });
-  return answers;
 }
 
 /** The documents of a list's page, which may name shells by their identifiers alone. */
