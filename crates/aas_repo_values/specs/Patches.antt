@@ -5,7 +5,8 @@ use Rattle.std.specs.Str.{encode_utf8_all}
 use Rattle.serde_json.specs.Data.{Data}
 use Rattle.aas_command.specs.declared.command.Command.{Command}
 use Rattle.aas_command.specs.declared.refusal.Refusal.{Refusal}
-use Rattle.aas_command.specs.declared.refusal.Refusal.TheVariants.{Constraint, Lexical, NoMemory, NoValueForm, Shape, StorageFault}
+use Rattle.aas_command.specs.declared.refusal.Refusal.TheVariants.{Constraint, Lexical, NoMemory, NoValueForm}
+use Rattle.aas_command.specs.declared.refusal.Refusal.TheVariants.{Shape, StorageFault}
 use Rattle.aas_constraint_laws.specs.Law.{behind}
 use Rattle.aas_constraint_laws.specs.Valid.{IsValid}
 use Rattle.aas_constraint_rules.specs.Faults.{submodel}
@@ -32,7 +33,8 @@ refusal_behind p fault.NoMemory = NoMemory
 abbrev pub IsRefused : Documents → Command → Refusal → Type 0
 IsRefused d c refusal = (refusal ≢ StorageFault) × ((has_room : Bool) → ComesTo has_room d c (refused refusal))
 
--- no cause refuses the update by v at p in the submodel of an identifier, but that there is no room to keep it; and these rows make it
+-- no cause refuses the update by v at p in the submodel of an identifier,
+-- but that there is no room to keep it; and these rows make it
 pub record IsPatchFor (d : Documents) (id : List ℕ) (p : List PathStep) (v : Data) (rows : List PatchRow) : Type 0 where
   pub old : Submodel
   pub there : map.get d.submodels (encode_utf8_all id) ≡ Some old

@@ -61,8 +61,10 @@ fn put_patch<S: Store>(
     has_room: bool,
 ) -> Decision
     requires valid { AreValid (S.documents store.old) }
-    requires ranked { IfSome update.rank (λ r. Holds (S.documents store.old) (encode_utf8_all id.now) (λ s. rank_at s path.now.steps ≡ Some r)) }
-    requires fits { Holds (S.documents store.old) (encode_utf8_all id.now) (λ s. FitsAt s path.now.steps update.patch.rows) }
+    requires ranked { IfSome update.rank (λ r.
+        Holds (S.documents store.old) (encode_utf8_all id.now) (λ s. rank_at s path.now.steps ≡ Some r)) }
+    requires fits { Holds (S.documents store.old) (encode_utf8_all id.now) (λ s.
+        FitsAt s path.now.steps update.patch.rows) }
     ensures { (v : Data) → IsPatchFor (S.documents store.old) id.now path.now.steps v update.patch.rows →
         IsDecision has_room (S.documents store.old) (UpdateValue id.now path.now v) (S.documents store.new) result }
 {
@@ -83,8 +85,10 @@ fn update_for<S: Store>(
 ) -> Result<RankedPatch, Refusal>
     requires valid { AreValid (S.documents store.now) }
     requires ordered { IsOrdered value.now }
-    ensures ranked { IfOk result (λ update. IfSome update.rank (λ r. Holds (S.documents store.now) (encode_utf8_all id.now) (λ s. rank_at s path.now.steps ≡ Some r))) }
-    ensures patch { IfOk result (λ update. IsPatchFor (S.documents store.now) id.now path.now.steps value.now update.patch.rows) }
+    ensures ranked { IfOk result (λ update. IfSome update.rank (λ r.
+        Holds (S.documents store.now) (encode_utf8_all id.now) (λ s. rank_at s path.now.steps ≡ Some r))) }
+    ensures patch { IfOk result (λ update.
+        IsPatchFor (S.documents store.now) id.now path.now.steps value.now update.patch.rows) }
     ensures refusal { IfErr result (λ refusal. refusal ≢ NoMemoryLeft →
         IsRefused (S.documents store.now) (UpdateValue id.now path.now value.now) refusal) }
 {
@@ -107,8 +111,9 @@ fn update_for<S: Store>(
     }
 }
 
-/// The patch by which the element of the row, to which the path leads, takes the value, or the first of the causes that refuse
-/// the command. Of an element whose value form shows no children, nothing but the attributes of its kind is looked at.
+/// The patch by which the element of the row, to which the path leads, takes the value, or the first of the causes that
+/// refuse the command. Of an element whose value form shows no children, nothing but the attributes of its kind is
+/// looked at.
 fn patch_for_element<S: Store>(
     alloc: Global,
     store: &S,
@@ -122,7 +127,8 @@ fn patch_for_element<S: Store>(
     requires steps { path.now.steps ≢ [] }
     requires found { Holds (S.documents store.now) (encode_utf8_all id.now)
         (λ s. MatchOption (element_at s path.now.steps) ⊥ (λ e. IsRowOf e row)) }
-    ensures patch { IfOk result (λ patch. IsPatchFor (S.documents store.now) id.now path.now.steps value.now patch.rows) }
+    ensures patch { IfOk result (λ patch.
+        IsPatchFor (S.documents store.now) id.now path.now.steps value.now patch.rows) }
     ensures refusal { IfErr result (λ refusal. refusal ≢ NoMemoryLeft →
         IsRefused (S.documents store.now) (UpdateValue id.now path.now value.now) refusal) }
 {
@@ -146,7 +152,8 @@ fn patch_for_parent<S: Store>(
     requires valid { AreValid (S.documents store.now) }
     requires ordered { IsOrdered value.now }
     requires steps { path.now.steps ≢ [] }
-    ensures patch { IfOk result (λ patch. IsPatchFor (S.documents store.now) id.now path.now.steps value.now patch.rows) }
+    ensures patch { IfOk result (λ patch.
+        IsPatchFor (S.documents store.now) id.now path.now.steps value.now patch.rows) }
     ensures refusal { IfErr result (λ refusal. refusal ≢ NoMemoryLeft →
         IsRefused (S.documents store.now) (UpdateValue id.now path.now value.now) refusal) }
 {
@@ -167,7 +174,8 @@ fn stored_row<'s, S: Store>(
     path: &Path,
 ) -> Result<(u64, RowView<'s>), Refusal>
     requires { path.now.steps ≢ [] }
-    ensures ranked { IfOk result (λ found. Holds (S.documents store.now) (encode_utf8_all id.now) (λ s. rank_at s path.now.steps ≡ Some found.0)) }
+    ensures ranked { IfOk result (λ found.
+        Holds (S.documents store.now) (encode_utf8_all id.now) (λ s. rank_at s path.now.steps ≡ Some found.0)) }
     ensures found { IfOk result (λ found. Holds (S.documents store.now) (encode_utf8_all id.now)
         (λ s. MatchOption (element_at s path.now.steps) ⊥ (λ e. IsRowOf e found.1))) }
     ensures lost { IfErr result (λ refusal. refusal ≢ NoMemoryLeft → (v : Data) →
@@ -182,7 +190,8 @@ fn stored_row<'s, S: Store>(
 /// A copy of the element to which the path leads.
 fn stored<S: Store>(alloc: Global, store: &S, id: &Text, path: &Path) -> Result<Element, Refusal>
     requires { path.now.steps ≢ [] }
-    ensures found { IfOk result (λ e. Holds (S.documents store.now) (encode_utf8_all id.now) (λ s. element_at s path.now.steps ≡ Some e)) }
+    ensures found { IfOk result (λ e.
+        Holds (S.documents store.now) (encode_utf8_all id.now) (λ s. element_at s path.now.steps ≡ Some e)) }
     ensures lost { IfErr result (λ refusal. refusal ≢ NoMemoryLeft → (v : Data) →
         IsRefused (S.documents store.now) (UpdateValue id.now path.now v) refusal) }
 {
@@ -203,7 +212,8 @@ fn patch_for_submodel<S: Store>(
     requires valid { AreValid (S.documents store.now) }
     requires ordered { IsOrdered value.now }
     requires no_steps { path.now.steps ≡ [] }
-    ensures patch { IfOk result (λ patch. IsPatchFor (S.documents store.now) id.now path.now.steps value.now patch.rows) }
+    ensures patch { IfOk result (λ patch.
+        IsPatchFor (S.documents store.now) id.now path.now.steps value.now patch.rows) }
     ensures refusal { IfErr result (λ refusal. refusal ≢ NoMemoryLeft →
         IsRefused (S.documents store.now) (UpdateValue id.now path.now value.now) refusal) }
 {

@@ -23,7 +23,7 @@ use Rattle.aas_value_update.specs.Laws.{NamesDiffer}
 use Rattle.aas_value_update.specs.Parts.{Part, object_of, list_of, entries_of, is_called, name_is, by_name, children}
 use Rattle.aas_value_update.specs.Parts.{value, later, over, laid, laid_items, entry, put_entry, laid_entries, lay_form}
 use Rattle.aas_value_update.specs.Parts.{items_fit, entries_fit, fits_form}
-use Rattle.aas_value_update.specs.Shape.{first_misshapen, under_name, by_names, next_item, in_turn, by_entries}
+use Rattle.aas_value_update.specs.Shape.{HasShape, under_name, by_names, next_item, in_turn, by_entries}
 use Rattle.aas_value_update.specs.Shape.{items_in, if_sent, sent}
 use Rattle.aas_value_update.specs.Took.{AreNamed, NamedIn}
 use Rattle.aas_value_update.proofs.Alone.{kids_made}
@@ -291,7 +291,7 @@ has_all_is e v =
 
 StaysAll : Element → Type 0
 StaysAll e =
-    (v : Data) → NamesDiffer e → IsOrdered v → first_misshapen e v ≡ None → HasAllMembers e v
+    (v : Data) → NamesDiffer e → IsOrdered v → HasShape e v → HasAllMembers e v
     → Stays (part_of e) (Some v)
 
 unsent_stays : (f : Data → Data → Data) (o : Option Data) → is_none o ≡ true → over f o None ≡ None
@@ -317,10 +317,10 @@ kids_stay (k ∷ ks) (s ∷ ss) each names order shaped has =
 
 level_stays : (e : Element) → Each StaysAll (kids_of e) → StaysAll e
 unfolding StaysAll element_in
-level_stays e each v names order none has =
+level_stays e each v names order fits has =
     let x = (out-Element e).payload in
     let xs = map part_of (kids_of e) in
-    let shape = shape_out e v none in
+    let shape = shape_out e v fits in
     let both = sym (has_all_is e v) ∙ has in
     let kids = kids_stay (kids_of e) (sent x (children xs) v) each (names_below e names) (sent_ordered x xs v order)
     shape.kids (and_right _ _ both) in

@@ -135,10 +135,10 @@ put_together e v kids own =
 
 level_takes : (e : Element) → Each Takes (kids_of e) → Takes e
 unfolding Takes element_in
-level_takes e each v names good none =
+level_takes e each v names good fits =
     let x = (out-Element e).payload in
     let xs = map part_of (kids_of e) in
-    let shape = shape_out e v none in
+    let shape = shape_out e v fits in
     let all = kids_take (kids_of e) (sent x (children xs) v) each (names_below e names) (are_sent x xs v good)
     shape.kids in
     let kids = below x (kids_of e) v all in

@@ -1,6 +1,6 @@
 -- What the update of a kind's own members makes of its value form.
-use Rattle.std.proofs.Common.{◌≡◌, ℕ, ◌+◌, ◌==◌, ◌&&◌, Bool, true, false, List, [], ◌∷◌, map, codes, Option, Some, None, unwrap_or, refl, sym, ap}
-use Rattle.std.proofs.Common.{ap₂, ◌∙◌, subst, true≢false, Result, Ok, Err}
+use Rattle.std.proofs.Common.{◌≡◌, ℕ, ◌+◌, ◌==◌, ◌&&◌, Bool, true, false, List, [], ◌∷◌, map, codes, Option, Some, None}
+use Rattle.std.proofs.Common.{unwrap_or, refl, sym, ap, ap₂, ◌∙◌, subst, true≢false, Result, Ok, Err}
 use Rattle.std.specs.Result.{IsErr, IsErrAnd}
 use denote.Ref.{Bor}
 use Rattle.std.specs.Prelude.{bytes_eq}
@@ -24,10 +24,13 @@ use Rattle.aas_model_names.specs.declared.entity_type.EntityType.{EntityType}
 use Rattle.aas_model_names.specs.declared.state_of_event.StateOfEvent.{StateOfEvent}
 use Rattle.aas_model_names.specs.declared.value_type.ValueType.{ValueType}
 use Rattle.aas_value.specs.Single.{single}
-use Rattle.aas_value.specs.ValueForm.{Child, named, in_order, annotation_value, array_of, text_or_null, reference_or_null, entity_type_or_null}
-use Rattle.aas_value_update.specs.Json.{is_single, is_string, is_string_or_null, is_reference, is_entity_type, is_array_of, is_specific_asset_id}
+use Rattle.aas_value.specs.ValueForm.{Child, named, in_order, annotation_value, array_of, text_or_null}
+use Rattle.aas_value.specs.ValueForm.{reference_or_null, entity_type_or_null}
+use Rattle.aas_value_update.specs.Json.{is_single, is_string, is_string_or_null, is_reference, is_entity_type}
+use Rattle.aas_value_update.specs.Json.{is_array_of, is_specific_asset_id}
 use Rattle.aas_value_update.specs.Kinds.{own, part, form_of}
-use Rattle.aas_value_update.specs.Parts.{Part, object_of, entries_of, value, children, by_name, over, lay_form, members_fit, items_fit, fits_form, fits_if}
+use Rattle.aas_value_update.specs.Parts.{Part, object_of, entries_of, value, children, by_name, over, lay_form}
+use Rattle.aas_value_update.specs.Parts.{members_fit, items_fit, fits_form, fits_if}
 use Rattle.aas_value_update.specs.Shape.{under_name, by_names, by_entries, items_in, nothing_sent, if_sent}
 use Rattle.aas_value_update.specs.Took.{TookOne, Took, AreNamed}
 use Rattle.aas_value_update.proofs.Canonical.{order_rises}
@@ -46,11 +49,13 @@ use Rattle.aas_value_patch.proofs.Counted.{counted}
 
 -- ---- parts
 
-pub own_took : (n : List ℕ) (w u : Data) (t : Data → Bool) (s : Option Data) → u ≡ unwrap_or s w → TookOne (own n w t) s (own n u t)
+pub own_took : (n : List ℕ) (w u : Data) (t : Data → Bool) (s : Option Data)
+    → u ≡ unwrap_or s w → TookOne (own n w t) s (own n u t)
 own_took n w u t None e = ap (λ (d : Data). record { name = Some n; form = Some d }) e
 own_took n w u t (Some v) e = ap (λ (d : Data). record { name = Some n; form = Some d }) e
 
-pub object_took : (xs ys : List Part) (ms : Members) → members_fit xs ms ≡ true → Took xs (map (under_name (object ms)) (children xs)) ys
+pub object_took : (xs ys : List Part) (ms : Members)
+    → members_fit xs ms ≡ true → Took xs (map (under_name (object ms)) (children xs)) ys
     → value (object_of ys) ≡ over (lay_form (object_of xs)) (value (object_of xs)) (Some (object ms))
 object_took xs ys ms fits took = ap (λ (d : Data). Some d) (named_laid xs ys ms fits took)
 
@@ -67,8 +72,10 @@ one_fits n d t ms order = counted (own n d t ∷ []) ms ((n, refl, tt), tt) (ord
 pub two_fit : (n m : List ℕ) (d e : Data) (t u : Data → Bool) (ms : Members) → bytes_eq n m ≡ false → HasOrder ms
     → members_fit (own n d t ∷ own m e u ∷ []) ms
     ≡ (fits_if t (get_member (encode_utf8_all n) ms) && (fits_if u (get_member (encode_utf8_all m) ms) && true))
-    && (one_if_some (get_member (encode_utf8_all n) ms) + (one_if_some (get_member (encode_utf8_all m) ms) + 0) == members_len ms)
-two_fit n m d e t u ms nm order = counted (own n d t ∷ own m e u ∷ []) ms ((n, refl, (differ n m nm, tt)), ((m, refl, tt), tt)) (order_rises ms order)
+    && (one_if_some (get_member (encode_utf8_all n) ms) + (one_if_some (get_member (encode_utf8_all m) ms) + 0)
+    == members_len ms)
+two_fit n m d e t u ms nm order =
+    counted (own n d t ∷ own m e u ∷ []) ms ((n, refl, (differ n m nm, tt)), ((m, refl, tt), tt)) (order_rises ms order)
 
 -- ---- when all of them fit
 
@@ -98,10 +105,12 @@ two f g h w e = record {
   all = λ a b c. e ∙ ap₂ (λ x y. (x && (y && true)) && h) a b ∙ c;
 }
 
-pub refused : (r : Result Step Misfit) (m : Misfit) (x : Payload) (xs : List Part) (v : Data) (f : Bool) → IsErr r → IsErrAnd r (λ e. e ≡ m) → Refuses m f
+pub refused : (r : Result Step Misfit) (m : Misfit) (x : Payload) (xs : List Part) (v : Data) (f : Bool)
+    → IsErr r → IsErrAnd r (λ e. e ≡ m) → Refuses m f
     → (f ≡ false → fits_form (form_of x xs) v ≡ false) → Stepped r x xs v
 refused (Ok s) m x xs v f err and h more = absurd (cc)
-refused (Err e) m x xs v f err and h more = subst (λ e. Refuses e (fits_form (form_of x xs) v)) (sym and) (by_misfit m h)
+refused (Err e) m x xs v f err and h more =
+    subst (λ e. Refuses e (fits_form (form_of x xs) v)) (sym and) (by_misfit m h)
   where
     by_misfit : (m : Misfit) → Refuses m f → Refuses m (fits_form (form_of x xs) v)
     by_misfit misfit.Shape h = more h
@@ -118,7 +127,9 @@ three : (f g h o w : Bool) → w ≡ (f && (g && (h && true))) && o → ThreeFit
 three f g h o w e = record {
   first = λ a. e ∙ ap (λ b. (b && (g && (h && true))) && o) a;
   second = λ a. e ∙ ap (λ b. (f && (b && (h && true))) && o) a ∙ ap (λ b. b && o) (and-false f);
-  third = λ a. e ∙ ap (λ b. (f && (g && (b && true))) && o) a ∙ ap (λ b. (f && b) && o) (and-false g) ∙ ap (λ b. b && o) (and-false f);
+  third = λ a.
+      e ∙ ap (λ b. (f && (g && (b && true))) && o) a
+      ∙ ap (λ b. (f && b) && o) (and-false g) ∙ ap (λ b. b && o) (and-false f);
   only_these = λ a. e ∙ ap (λ b. (f && (g && (h && true))) && b) a ∙ and-false (f && (g && (h && true)));
   all = λ a b c d. e ∙ ap₂ (λ x y. (x && (y && (h && true))) && o) a b ∙ ap₂ (λ x y. (x && true) && y) c d;
 }
@@ -135,18 +146,23 @@ four : (f g h i o w : Bool) → w ≡ (f && (g && (h && (i && true)))) && o → 
 four f g h i o w e = record {
   first = λ a. e ∙ ap (λ b. (b && (g && (h && (i && true)))) && o) a;
   second = λ a. e ∙ ap (λ b. (f && (b && (h && (i && true)))) && o) a ∙ ap (λ b. b && o) (and-false f);
-  third = λ a. e ∙ ap (λ b. (f && (g && (b && (i && true)))) && o) a ∙ ap (λ b. (f && b) && o) (and-false g) ∙ ap (λ b. b && o) (and-false f);
+  third = λ a.
+      e ∙ ap (λ b. (f && (g && (b && (i && true)))) && o) a
+      ∙ ap (λ b. (f && b) && o) (and-false g) ∙ ap (λ b. b && o) (and-false f);
   fourth = λ a.
-      e ∙ ap (λ b. (f && (g && (h && (b && true)))) && o) a ∙ ap (λ b. (f && (g && b)) && o) (and-false h) ∙ ap (λ b. (f && b) && o) (and-false g)
+      e ∙ ap (λ b. (f && (g && (h && (b && true)))) && o) a
+      ∙ ap (λ b. (f && (g && b)) && o) (and-false h) ∙ ap (λ b. (f && b) && o) (and-false g)
       ∙ ap (λ b. b && o) (and-false f);
   only_these = λ a. e ∙ ap (λ b. (f && (g && (h && (i && true)))) && b) a ∙ and-false (f && (g && (h && (i && true))));
-  all = λ a b c d x. e ∙ ap₂ (λ x y. (x && (y && (h && (i && true)))) && o) a b ∙ ap₂ (λ x y. (x && (y && true)) && o) c d ∙ x;
+  all = λ a b c d x.
+      e ∙ ap₂ (λ x y. (x && (y && (h && (i && true)))) && o) a b ∙ ap₂ (λ x y. (x && (y && true)) && o) c d ∙ x;
 }
 
 -- ---- kinds
 
 pub range_takes : (t : ValueType) (min max min' max' : Option (List ℕ)) (ms : Members)
-    → single t max' ≡ unwrap_or (get_member (codes "max") ms) (single t max) → single t min' ≡ unwrap_or (get_member (codes "min") ms) (single t min)
+    → single t max' ≡ unwrap_or (get_member (codes "max") ms) (single t max)
+    → single t min' ≡ unwrap_or (get_member (codes "min") ms) (single t min)
     → Takes (p.Range t min max) (object ms) (p.Range t min' max')
 unfolding encode
 range_takes t min max min' max' ms a b = record {
@@ -171,57 +187,86 @@ range_fits t min max xs ms order =
     (two_fit (codes "max") (codes "min") (single t max) (single t min) (is_single t) (is_single t) ms refl order)
 
 pub file_fits : (t v : Option (List ℕ)) (xs : List Part) (ms : Members) → HasOrder ms
-    → TwoFit (fits_if is_string (get_member (codes "contentType") ms)) (fits_if is_string_or_null (get_member (codes "value") ms))
-    (one_if_some (get_member (codes "contentType") ms) + (one_if_some (get_member (codes "value") ms) + 0) == members_len ms)
+    → TwoFit (fits_if is_string (get_member (codes "contentType") ms))
+    (fits_if is_string_or_null (get_member (codes "value") ms))
+    (one_if_some (get_member (codes "contentType") ms) + (one_if_some (get_member (codes "value") ms) + 0)
+    == members_len ms)
     (fits_form (form_of (p.File t v) xs) (object ms))
 unfolding encode
 file_fits t v xs ms order =
-    two (fits_if is_string (get_member (codes "contentType") ms)) (fits_if is_string_or_null (get_member (codes "value") ms))
-    (one_if_some (get_member (codes "contentType") ms) + (one_if_some (get_member (codes "value") ms) + 0) == members_len ms)
+    two (fits_if is_string (get_member (codes "contentType") ms))
+    (fits_if is_string_or_null (get_member (codes "value") ms))
+    (one_if_some (get_member (codes "contentType") ms) + (one_if_some (get_member (codes "value") ms) + 0)
+    == members_len ms)
     (fits_form (form_of (p.File t v) xs) (object ms))
-    (two_fit (codes "contentType") (codes "value") (text_or_null t) (text_or_null v) is_string is_string_or_null ms refl order)
+    (two_fit (codes "contentType") (codes "value") (text_or_null t)
+    (text_or_null v) is_string is_string_or_null ms refl order)
 
-pub file_takes : (t v t' v' : Option (List ℕ)) (ms : Members) → text_or_null t' ≡ unwrap_or (get_member (codes "contentType") ms) (text_or_null t)
+pub file_takes : (t v t' v' : Option (List ℕ)) (ms : Members)
+    → text_or_null t' ≡ unwrap_or (get_member (codes "contentType") ms) (text_or_null t)
     → text_or_null v' ≡ unwrap_or (get_member (codes "value") ms) (text_or_null v)
     → Takes (p.File t v) (object ms) (p.File t' v')
 unfolding encode
 file_takes t v t' v' ms a b = record {
   rest = refl;
   form = λ xs ys fits named took.
-      object_took (own (codes "contentType") (text_or_null t) is_string ∷ own (codes "value") (text_or_null v) is_string_or_null ∷ [])
-      (own (codes "contentType") (text_or_null t') is_string ∷ own (codes "value") (text_or_null v') is_string_or_null ∷ []) ms fits (
-        own_took (codes "contentType") (text_or_null t) (text_or_null t') is_string (get_member (codes "contentType") ms) a,
-        (own_took (codes "value") (text_or_null v) (text_or_null v') is_string_or_null (get_member (codes "value") ms) b, tt),
+      object_took (own (codes "contentType") (text_or_null t) is_string
+      ∷ own (codes "value") (text_or_null v) is_string_or_null ∷ [])
+      (own (codes "contentType") (text_or_null t') is_string
+      ∷ own (codes "value") (text_or_null v') is_string_or_null ∷ [])
+      ms fits (
+        own_took (codes "contentType") (text_or_null t)
+            (text_or_null t') is_string (get_member (codes "contentType") ms) a,
+        (
+          own_took (codes "value") (text_or_null v)
+              (text_or_null v') is_string_or_null (get_member (codes "value") ms) b,
+          tt,
+        ),
       );
 }
 
 pub blob_fits : (t v : Option (List ℕ)) (xs : List Part) (ms : Members) → HasOrder ms
-    → TwoFit (fits_if is_string (get_member (codes "contentType") ms)) (fits_if is_string_or_null (get_member (codes "value") ms))
-    (one_if_some (get_member (codes "contentType") ms) + (one_if_some (get_member (codes "value") ms) + 0) == members_len ms)
+    → TwoFit (fits_if is_string (get_member (codes "contentType") ms))
+    (fits_if is_string_or_null (get_member (codes "value") ms))
+    (one_if_some (get_member (codes "contentType") ms) + (one_if_some (get_member (codes "value") ms) + 0)
+    == members_len ms)
     (fits_form (form_of (p.Blob t v) xs) (object ms))
 unfolding encode
 blob_fits t v xs ms order =
-    two (fits_if is_string (get_member (codes "contentType") ms)) (fits_if is_string_or_null (get_member (codes "value") ms))
-    (one_if_some (get_member (codes "contentType") ms) + (one_if_some (get_member (codes "value") ms) + 0) == members_len ms)
+    two (fits_if is_string (get_member (codes "contentType") ms))
+    (fits_if is_string_or_null (get_member (codes "value") ms))
+    (one_if_some (get_member (codes "contentType") ms) + (one_if_some (get_member (codes "value") ms) + 0)
+    == members_len ms)
     (fits_form (form_of (p.Blob t v) xs) (object ms))
-    (two_fit (codes "contentType") (codes "value") (text_or_null t) (text_or_null v) is_string is_string_or_null ms refl order)
+    (two_fit (codes "contentType") (codes "value") (text_or_null t)
+    (text_or_null v) is_string is_string_or_null ms refl order)
 
-pub blob_takes : (t v t' v' : Option (List ℕ)) (ms : Members) → text_or_null t' ≡ unwrap_or (get_member (codes "contentType") ms) (text_or_null t)
+pub blob_takes : (t v t' v' : Option (List ℕ)) (ms : Members)
+    → text_or_null t' ≡ unwrap_or (get_member (codes "contentType") ms) (text_or_null t)
     → text_or_null v' ≡ unwrap_or (get_member (codes "value") ms) (text_or_null v)
     → Takes (p.Blob t v) (object ms) (p.Blob t' v')
 unfolding encode
 blob_takes t v t' v' ms a b = record {
   rest = refl;
   form = λ xs ys fits named took.
-      object_took (own (codes "contentType") (text_or_null t) is_string ∷ own (codes "value") (text_or_null v) is_string_or_null ∷ [])
-      (own (codes "contentType") (text_or_null t') is_string ∷ own (codes "value") (text_or_null v') is_string_or_null ∷ []) ms fits (
-        own_took (codes "contentType") (text_or_null t) (text_or_null t') is_string (get_member (codes "contentType") ms) a,
-        (own_took (codes "value") (text_or_null v) (text_or_null v') is_string_or_null (get_member (codes "value") ms) b, tt),
+      object_took (own (codes "contentType") (text_or_null t) is_string
+      ∷ own (codes "value") (text_or_null v) is_string_or_null ∷ [])
+      (own (codes "contentType") (text_or_null t') is_string
+      ∷ own (codes "value") (text_or_null v') is_string_or_null ∷ [])
+      ms fits (
+        own_took (codes "contentType") (text_or_null t)
+            (text_or_null t') is_string (get_member (codes "contentType") ms) a,
+        (
+          own_took (codes "value") (text_or_null v)
+              (text_or_null v') is_string_or_null (get_member (codes "value") ms) b,
+          tt,
+        ),
       );
 }
 
 pub relationship_fits : (a b : Option Reference) (xs : List Part) (ms : Members) → HasOrder ms
-    → TwoFit (fits_if is_reference (get_member (codes "first") ms)) (fits_if is_reference (get_member (codes "second") ms))
+    → TwoFit (fits_if is_reference (get_member (codes "first") ms))
+    (fits_if is_reference (get_member (codes "second") ms))
     (one_if_some (get_member (codes "first") ms) + (one_if_some (get_member (codes "second") ms) + 0) == members_len ms)
     (fits_form (form_of (p.RelationshipElement a b) xs) (object ms))
 unfolding encode
@@ -229,7 +274,8 @@ relationship_fits a b xs ms order =
     two (fits_if is_reference (get_member (codes "first") ms)) (fits_if is_reference (get_member (codes "second") ms))
     (one_if_some (get_member (codes "first") ms) + (one_if_some (get_member (codes "second") ms) + 0) == members_len ms)
     (fits_form (form_of (p.RelationshipElement a b) xs) (object ms))
-    (two_fit (codes "first") (codes "second") (reference_or_null a) (reference_or_null b) is_reference is_reference ms refl order)
+    (two_fit (codes "first") (codes "second") (reference_or_null a)
+    (reference_or_null b) is_reference is_reference ms refl order)
 
 pub relationship_takes : (f s f' s' : Option Reference) (ms : Members)
     → reference_or_null f' ≡ unwrap_or (get_member (codes "first") ms) (reference_or_null f)
@@ -239,10 +285,18 @@ unfolding encode
 relationship_takes f s f' s' ms a b = record {
   rest = refl;
   form = λ xs ys fits named took.
-      object_took (own (codes "first") (reference_or_null f) is_reference ∷ own (codes "second") (reference_or_null s) is_reference ∷ [])
-      (own (codes "first") (reference_or_null f') is_reference ∷ own (codes "second") (reference_or_null s') is_reference ∷ []) ms fits (
-        own_took (codes "first") (reference_or_null f) (reference_or_null f') is_reference (get_member (codes "first") ms) a,
-        (own_took (codes "second") (reference_or_null s) (reference_or_null s') is_reference (get_member (codes "second") ms) b, tt),
+      object_took (own (codes "first") (reference_or_null f) is_reference
+      ∷ own (codes "second") (reference_or_null s) is_reference ∷ [])
+      (own (codes "first") (reference_or_null f') is_reference
+      ∷ own (codes "second") (reference_or_null s') is_reference ∷ [])
+      ms fits (
+        own_took (codes "first") (reference_or_null f)
+            (reference_or_null f') is_reference (get_member (codes "first") ms) a,
+        (
+          own_took (codes "second") (reference_or_null s)
+              (reference_or_null s') is_reference (get_member (codes "second") ms) b,
+          tt,
+        ),
       );
 }
 
@@ -253,12 +307,15 @@ unsent_same [] [] t = refl
 unsent_same [] (y ∷ ys) t = absurd t
 unsent_same (x ∷ xs) [] t = absurd t
 unsent_same (x ∷ xs) (y ∷ ys) t =
-    ap₂ (λ c cs. c ∷ cs) (t.0 ∙ ap (λ (f : Option Data). record x.child { form = f }) (sym (over_none x.lay x.child.form))) (unsent_same xs ys t.1)
+    ap₂ (λ c cs. c ∷ cs)
+    (t.0 ∙ ap (λ (f : Option Data). record x.child { form = f }) (sym (over_none x.lay x.child.form)))
+    (unsent_same xs ys t.1)
 
 pub collection_takes : (ms : Members) → Takes p.SubmodelElementCollection (object ms) p.SubmodelElementCollection
 collection_takes ms = record { rest = refl; form = λ xs ys fits named took. object_took xs ys ms fits took }
 
-pub body_takes : (v : Data) (xs : List Part) → fits_form (object_of xs) v ≡ true → Takes p.SubmodelElementCollection v p.SubmodelElementCollection
+pub body_takes : (v : Data) (xs : List Part)
+    → fits_form (object_of xs) v ≡ true → Takes p.SubmodelElementCollection v p.SubmodelElementCollection
 body_takes (object ms) xs fits = collection_takes ms
 body_takes null xs fits = absurd (true≢false (sym fits))
 body_takes (boolean b) xs fits = absurd (true≢false (sym fits))
@@ -273,11 +330,14 @@ list_takes o s t v ds = record {
   form = λ xs ys fits named took. ap (λ (es : Items). Some (array es)) (items_laid xs ys ds fits took);
 }
 
-pub list_is : (x y : Payload) (xs : List Part) (vs : Bor (List Value)) → is_list_payload x ≡ true → y ≡ x → items_fit xs (items_view vs.now) ≡ true
+pub list_is : (x y : Payload) (xs : List Part) (vs : Bor (List Value))
+    → is_list_payload x ≡ true → y ≡ x → items_fit xs (items_view vs.now) ≡ true
     → IsStep x xs (array (items_view vs.now)) (record { payload = y; kids = to.InTurn vs })
 list_is (p.SubmodelElementList o s t v) y xs vs list same fits = record {
   fits = fits;
-  takes = subst (Takes (p.SubmodelElementList o s t v) (array (items_view vs.now))) (sym same) (list_takes o s t v (items_view vs.now));
+  takes =
+      subst (Takes (p.SubmodelElementList o s t v) (array (items_view vs.now)))
+      (sym same) (list_takes o s t v (items_view vs.now));
   kids = refl;
 }
 list_is x y xs vs list same fits = absurd (cc)
@@ -285,19 +345,23 @@ list_is x y xs vs list same fits = absurd (cc)
 statements_took : (n : List ℕ) (xs ys : List Part) (s : Option Data) → fits_if (fits_form (object_of xs)) s ≡ true
     → Took xs (if_sent (by_names (children xs)) (children xs) s) ys
     → TookOne (part (Some n) (object_of xs)) s (part (Some n) (object_of ys))
-statements_took n xs ys None fits took = ap (λ (cs : List Child). record { name = Some n; form = Some (named cs) }) (unsent_same xs ys took)
-statements_took n xs ys (Some (object ms)) fits took = ap (λ (f : Option Data). record { name = Some n; form = f }) (object_took xs ys ms fits took)
+statements_took n xs ys None fits took =
+    ap (λ (cs : List Child). record { name = Some n; form = Some (named cs) }) (unsent_same xs ys took)
+statements_took n xs ys (Some (object ms)) fits took =
+    ap (λ (f : Option Data). record { name = Some n; form = f }) (object_took xs ys ms fits took)
 statements_took n xs ys (Some null) fits took = absurd (true≢false (sym fits))
 statements_took n xs ys (Some (boolean b)) fits took = absurd (true≢false (sym fits))
 statements_took n xs ys (Some (number m)) fits took = absurd (true≢false (sym fits))
 statements_took n xs ys (Some (string t)) fits took = absurd (true≢false (sym fits))
 statements_took n xs ys (Some (array ds)) fits took = absurd (true≢false (sym fits))
 
-annotations_took : (n : List ℕ) (xs ys : List Part) (s : Option Data) → AreNamed xs → fits_if (fits_form (entries_of xs)) s ≡ true
+annotations_took : (n : List ℕ) (xs ys : List Part) (s : Option Data)
+    → AreNamed xs → fits_if (fits_form (entries_of xs)) s ≡ true
     → Took xs (if_sent (λ d. by_entries (children xs) (items_in d)) (children xs) s) ys
     → TookOne (part (Some n) (entries_of xs)) s (part (Some n) (entries_of ys))
 annotations_took n xs ys None names fits took =
-    ap (λ (cs : List Child). record { name = Some n; form = Some (in_order (map annotation_value cs)) }) (unsent_same xs ys took)
+    ap (λ (cs : List Child). record { name = Some n; form = Some (in_order (map annotation_value cs)) })
+    (unsent_same xs ys took)
 annotations_took n xs ys (Some (array ds)) names fits took =
     ap (λ (es : Items). record { name = Some n; form = Some (array es) }) (entries_laid xs ys ds names fits took)
 annotations_took n xs ys (Some (object ms)) names fits took = absurd (true≢false (sym fits))
@@ -307,7 +371,8 @@ annotations_took n xs ys (Some (number m)) names fits took = absurd (true≢fals
 annotations_took n xs ys (Some (string t)) names fits took = absurd (true≢false (sym fits))
 
 -- what is sent for a part fits it
-sent_if : (n : List ℕ) (xs : List Part) (ms : Members) (t : Data → Bool) → members_fit xs ms ≡ true → by_name n (λ x. x.fits) xs (λ e. false) ≡ t
+sent_if : (n : List ℕ) (xs : List Part) (ms : Members) (t : Data → Bool)
+    → members_fit xs ms ≡ true → by_name n (λ x. x.fits) xs (λ e. false) ≡ t
     → fits_if t (get_member n ms) ≡ true
 sent_if n xs ms t fits is = by_sent (get_member n ms) refl
   where
@@ -325,18 +390,22 @@ entity_parts t g ids xs =
 pub entity_takes : (t u : Option EntityType) (g h : Option (List ℕ)) (ids jds : List SpecificAssetId) (ms : Members)
     → entity_type_or_null u ≡ unwrap_or (get_member (codes "entityType") ms) (entity_type_or_null t)
     → text_or_null h ≡ unwrap_or (get_member (codes "globalAssetId") ms) (text_or_null g)
-    → array_of spell_specific_asset_id jds ≡ unwrap_or (get_member (codes "specificAssetIds") ms) (array_of spell_specific_asset_id ids)
+    → array_of spell_specific_asset_id jds
+    ≡ unwrap_or (get_member (codes "specificAssetIds") ms) (array_of spell_specific_asset_id ids)
     → Takes (p.Entity t g ids) (object ms) (p.Entity u h jds)
 unfolding encode entity_parts
 entity_takes t u g h ids jds ms a b c = record {
   rest = refl;
   form = λ xs ys fits named took.
       object_took (entity_parts t g ids xs) (entity_parts u h jds ys) ms fits (
-        own_took (codes "entityType") (entity_type_or_null t) (entity_type_or_null u) is_entity_type (get_member (codes "entityType") ms) a,
+        own_took (codes "entityType") (entity_type_or_null t)
+            (entity_type_or_null u) is_entity_type (get_member (codes "entityType") ms) a,
         (
-          own_took (codes "globalAssetId") (text_or_null g) (text_or_null h) is_string_or_null (get_member (codes "globalAssetId") ms) b,
+          own_took (codes "globalAssetId") (text_or_null g)
+              (text_or_null h) is_string_or_null (get_member (codes "globalAssetId") ms) b,
           (
-            own_took (codes "specificAssetIds") (array_of spell_specific_asset_id ids) (array_of spell_specific_asset_id jds)
+            own_took (codes "specificAssetIds") (array_of spell_specific_asset_id ids)
+                (array_of spell_specific_asset_id jds)
                 (is_array_of is_specific_asset_id) (get_member (codes "specificAssetIds") ms) c,
             (
               statements_took (codes "statements") xs ys (get_member (codes "statements") ms)
@@ -366,18 +435,27 @@ annotated_takes f s f' s' ms a b = record {
         annotations_took (codes "annotations") xs ys (get_member (codes "annotations") ms) named
             (sent_if (codes "annotations") (annotated_parts f s xs) ms (fits_form (entries_of xs)) fits refl) took,
         (
-          own_took (codes "first") (reference_or_null f) (reference_or_null f') is_reference (get_member (codes "first") ms) a,
-          (own_took (codes "second") (reference_or_null s) (reference_or_null s') is_reference (get_member (codes "second") ms) b, tt),
+          own_took (codes "first") (reference_or_null f)
+              (reference_or_null f') is_reference (get_member (codes "first") ms) a,
+          (
+            own_took (codes "second") (reference_or_null s)
+                (reference_or_null s') is_reference (get_member (codes "second") ms) b,
+            tt,
+          ),
         ),
       );
 }
 
-pub entity_fits : (t : Option EntityType) (g : Option (List ℕ)) (ids : List SpecificAssetId) (xs : List Part) (ms : Members) → HasOrder ms
-    → FourFit (fits_if is_entity_type (get_member (codes "entityType") ms)) (fits_if is_string_or_null (get_member (codes "globalAssetId") ms))
+pub entity_fits : (t : Option EntityType) (g : Option (List ℕ))
+    (ids : List SpecificAssetId) (xs : List Part) (ms : Members)
+    → HasOrder ms
+    → FourFit (fits_if is_entity_type (get_member (codes "entityType") ms))
+    (fits_if is_string_or_null (get_member (codes "globalAssetId") ms))
     (fits_if (is_array_of is_specific_asset_id) (get_member (codes "specificAssetIds") ms))
     (fits_if (fits_form (object_of xs)) (get_member (codes "statements") ms))
     (one_if_some (get_member (codes "entityType") ms) + (one_if_some (get_member (codes "globalAssetId") ms)
-    + (one_if_some (get_member (codes "specificAssetIds") ms) + (one_if_some (get_member (codes "statements") ms) + 0))) == members_len ms)
+    + (one_if_some (get_member (codes "specificAssetIds") ms) + (one_if_some (get_member (codes "statements") ms) + 0)))
+    == members_len ms)
     (fits_form (form_of (p.Entity t g ids) xs) (object ms))
 unfolding encode entity_parts
 entity_fits t g ids xs ms order =
@@ -388,7 +466,10 @@ entity_fits t g ids xs ms order =
         refl,
         (
           differ (codes "entityType") (codes "globalAssetId") refl,
-          (differ (codes "entityType") (codes "specificAssetIds") refl, (differ (codes "entityType") (codes "statements") refl, tt)),
+          (
+            differ (codes "entityType") (codes "specificAssetIds") refl,
+            (differ (codes "entityType") (codes "statements") refl, tt),
+          ),
         ),
       ),
       (
@@ -408,7 +489,8 @@ entity_fits t g ids xs ms order =
     ) (order_rises ms order))
 
 pub annotated_fits : (f s : Option Reference) (xs : List Part) (ms : Members) → HasOrder ms
-    → ThreeFit (fits_if (fits_form (entries_of xs)) (get_member (codes "annotations") ms)) (fits_if is_reference (get_member (codes "first") ms))
+    → ThreeFit (fits_if (fits_form (entries_of xs)) (get_member (codes "annotations") ms))
+    (fits_if is_reference (get_member (codes "first") ms))
     (fits_if is_reference (get_member (codes "second") ms))
     (one_if_some (get_member (codes "annotations") ms) + (one_if_some
     (get_member (codes "first") ms) + (one_if_some (get_member (codes "second") ms) + 0)) == members_len ms)
@@ -417,7 +499,11 @@ unfolding encode annotated_parts
 annotated_fits f s xs ms order =
     three _ _ _ _ _
     (counted (annotated_parts f s xs) ms (
-      (codes "annotations", refl, (differ (codes "annotations") (codes "first") refl, (differ (codes "annotations") (codes "second") refl, tt))),
+      (
+        codes "annotations",
+        refl,
+        (differ (codes "annotations") (codes "first") refl, (differ (codes "annotations") (codes "second") refl, tt)),
+      ),
       (
         (codes "first", refl, (differ (codes "first") (codes "second") refl, tt)),
         ((codes "second", refl, tt), tt),
@@ -426,14 +512,18 @@ annotated_fits f s xs ms order =
 
 -- ---- the event
 
-pub event_fits : (o : Option Reference) (d : Direction) (s : StateOfEvent) (t : Option (List ℕ)) (b : Option Reference) (l m n : Option (List ℕ))
+pub event_fits : (o : Option Reference) (d : Direction) (s : StateOfEvent)
+    (t : Option (List ℕ)) (b : Option Reference) (l m n : Option (List ℕ))
     (xs : List Part) (ms : Members) → HasOrder ms
-    → OneFits (fits_if is_reference (get_member (codes "observed") ms)) (one_if_some (get_member (codes "observed") ms) + 0 == members_len ms)
+    → OneFits (fits_if is_reference (get_member (codes "observed") ms))
+    (one_if_some (get_member (codes "observed") ms) + 0 == members_len ms)
     (fits_form (form_of (p.BasicEventElement o d s t b l m n) xs) (object ms))
 unfolding encode
-event_fits o d s t b l m n xs ms order = one _ _ _ (one_fits (codes "observed") (reference_or_null o) is_reference ms order)
+event_fits o d s t b l m n xs ms order =
+    one _ _ _ (one_fits (codes "observed") (reference_or_null o) is_reference ms order)
 
-pub event_takes : (o u : Option Reference) (d : Direction) (s : StateOfEvent) (t : Option (List ℕ)) (b : Option Reference) (l m n : Option (List ℕ))
+pub event_takes : (o u : Option Reference) (d : Direction) (s : StateOfEvent)
+    (t : Option (List ℕ)) (b : Option Reference) (l m n : Option (List ℕ))
     (ms : Members)
     → reference_or_null u ≡ unwrap_or (get_member (codes "observed") ms) (reference_or_null o)
     → Takes (p.BasicEventElement o d s t b l m n) (object ms) (p.BasicEventElement u d s t b l m n)
@@ -441,22 +531,31 @@ unfolding encode
 event_takes o u d s t b l m n ms a = record {
   rest = refl;
   form = λ xs ys fits named took.
-      object_took (own (codes "observed") (reference_or_null o) is_reference ∷ []) (own (codes "observed") (reference_or_null u) is_reference ∷ []) ms fits
-      (own_took (codes "observed") (reference_or_null o) (reference_or_null u) is_reference (get_member (codes "observed") ms) a, tt);
+      object_took (own (codes "observed") (reference_or_null o) is_reference ∷ [])
+      (own (codes "observed") (reference_or_null u) is_reference ∷ []) ms fits (
+        own_took (codes "observed") (reference_or_null o)
+            (reference_or_null u) is_reference (get_member (codes "observed") ms) a,
+        tt,
+      );
 }
 
 -- an event with copies of what an update doesn't take
-pub event_is : (x : Payload) (o u : Option Reference) (d : Direction) (s : StateOfEvent) (t t' : Option (List ℕ)) (b b' : Option Reference)
+pub event_is : (x : Payload) (o u : Option Reference) (d : Direction)
+    (s : StateOfEvent) (t t' : Option (List ℕ)) (b b' : Option Reference)
     (l l' m m' n n' : Option (List ℕ)) (xs : List Part) (ms : Members)
     → x ≡ p.BasicEventElement o d s t b l m n → t' ≡ t → b' ≡ b → l' ≡ l → m' ≡ m → n' ≡ n → HasOrder ms
-    → fits_if is_reference (get_member (codes "observed") ms) ≡ true → (one_if_some (get_member (codes "observed") ms) + 0 == members_len ms) ≡ true
+    → fits_if is_reference (get_member (codes "observed") ms) ≡ true
+    → (one_if_some (get_member (codes "observed") ms) + 0 == members_len ms) ≡ true
     → reference_or_null u ≡ unwrap_or (get_member (codes "observed") ms) (reference_or_null o)
     → IsStep x xs (object ms) (record { payload = p.BasicEventElement u d s t' b' l' m' n'; kids = to.Nothing })
 event_is x o u d s t t' b b' l l' m m' n n' xs ms is t1 b1 l1 m1 n1 order fit only taken =
     let old = p.BasicEventElement o d s t b l m n in
-    let new : p.BasicEventElement u d s t b l m n ≡ p.BasicEventElement u d s t' b' l' m' n' = λ i. p.BasicEventElement u d s (sym t1 i) (sym b1 i)
+    let new : p.BasicEventElement u d s t b l m n ≡ p.BasicEventElement u d s t' b' l' m' n' = λ i.
+    p.BasicEventElement u d s (sym t1 i) (sym b1 i)
     (sym l1 i) (sym m1 i) (sym n1 i) in
-    subst (λ (z : Payload). IsStep z xs (object ms) (record { payload = p.BasicEventElement u d s t' b' l' m' n'; kids = to.Nothing })) (sym is)
+    subst (λ (z : Payload).
+    IsStep z xs (object ms) (record { payload = p.BasicEventElement u d s t' b' l' m' n'; kids = to.Nothing }))
+    (sym is)
     (record {
       fits = (event_fits o d s t b l m n xs ms order).all fit only;
       takes = subst (Takes old (object ms)) new (event_takes o u d s t b l m n ms taken);

@@ -13,4 +13,5 @@ with_payload e x = roll-Element (record (out-Element e) { payload = x })
 pub leaf_patched : (e : Element) (x : Payload) → kids_of e ≡ [] → (patched (row_of x) e 0).0 ≡ with_payload e x
 leaf_patched e x leaf =
     ap (λ (p : Element × ℕ). p.0) (patched_out (row_of x) e 0)
-    ∙ ap (λ ks. roll-Element (record (out-Element e) { payload = x; kids = ks })) (ap (λ l. (patched_all (row_of x) l 1).0) leaf ∙ sym leaf)
+    ∙ ap (λ ks. roll-Element (record (out-Element e) { payload = x; kids = ks }))
+    (ap (λ l. (patched_all (row_of x) l 1).0) leaf ∙ sym leaf)

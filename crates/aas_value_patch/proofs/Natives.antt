@@ -1,5 +1,6 @@
 -- Numbers of JSON as texts that are written natively.
-use Rattle.std.proofs.Common.{◌≡◌, ℕ, ℤ, pos, negsuc, ◌<◌, ◌^◌, true, List, Option, Some, None, refl, sym, ap, ◌∙◌, arith}
+use Rattle.std.proofs.Common.{◌≡◌, ℕ, ℤ, pos, negsuc, ◌<◌, ◌^◌, true, List, Option, Some, None, refl, sym, ap}
+use Rattle.std.proofs.Common.{◌∙◌, arith}
 use Rattle.std.proofs.lemmas.Int.{ints}
 use Rattle.std.specs.Prelude.{int_lt}
 use Rattle.std.specs.Fmt.{signed_decimal, decimal}
@@ -16,27 +17,32 @@ use Rattle.aas_lexical.proofs.NativesExact.{native_full}
 use Rattle.aas_model_names.specs.declared.value_type.ValueType.{ValueType}
 use Rattle.aas_value.specs.Single.{single, native_or_text}
 
-written_number : (t : ValueType) (z : ℤ) (text : List ℕ) → is_numeric t ≡ true → IsWritten z → encode_utf8_all text ≡ signed_decimal z
+written_number : (t : ValueType) (z : ℤ) (text : List ℕ)
+    → is_numeric t ≡ true → IsWritten z → encode_utf8_all text ≡ signed_decimal z
     → single t (Some text) ≡ number (of_integer z)
 written_number t z text numeric written is =
-    ap (λ (o : Option Native). native_or_text o text) (ap (native_of t) is ∙ native_full t (signed_decimal z) (native.Whole z) (numeric, refl, written))
+    ap (λ (o : Option Native). native_or_text o text)
+    (ap (native_of t) is ∙ native_full t (signed_decimal z) (native.Whole z) (numeric, refl, written))
 
 unsigned_is : (n : ℕ) (x : N) → Some n ≡ as_u64 (num_of x) → num_of x ≡ unsigned n
 unsigned_is n (PosInt m) e = let same : n ≡ m = cc in ap unsigned (sym same)
 unsigned_is n (NegInt z) e = cc
 unsigned_is n (Float f) e = cc
 
-pub unsigned_written : (t : ValueType) (n : ℕ) (x : N) (text : List ℕ) → is_numeric t ≡ true → n < 2 ^ 64 → Some n ≡ as_u64 (num_of x)
+pub unsigned_written : (t : ValueType) (n : ℕ) (x : N) (text : List ℕ)
+    → is_numeric t ≡ true → n < 2 ^ 64 → Some n ≡ as_u64 (num_of x)
     → encode_utf8_all text ≡ decimal n
     → single t (Some text) ≡ number (num_of x)
 unsigned_written t n x text numeric small is same =
-    written_number t (pos n) text numeric (omega (arith, ints), omega (arith, ints)) same ∙ ap number (sym (unsigned_is n x is))
+    written_number t (pos n) text numeric (omega (arith, ints), omega (arith, ints)) same
+    ∙ ap number (sym (unsigned_is n x is))
 
 below_zero : (z : ℤ) → int_lt z (pos 0) ≡ true → number (of_integer z) ≡ number (negative z)
 below_zero (pos n) e = absurd (grind (arith, ints))
 below_zero (negsuc n) e = refl
 
-pub negative_written : (t : ValueType) (z : ℤ) (x : N) (text : List ℕ) → is_numeric t ≡ true → IsWritten z → is_valid x ≡ true → None ≡ as_u64 (num_of x)
+pub negative_written : (t : ValueType) (z : ℤ) (x : N) (text : List ℕ)
+    → is_numeric t ≡ true → IsWritten z → is_valid x ≡ true → None ≡ as_u64 (num_of x)
     → Some z ≡ as_i64 (num_of x)
     → encode_utf8_all text ≡ signed_decimal z → single t (Some text) ≡ number (num_of x)
 negative_written t z (PosInt m) text numeric written valid none is same = absurd (no_none m none)

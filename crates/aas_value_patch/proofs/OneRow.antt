@@ -1,6 +1,6 @@
 -- A value laid over an element whose value form shows no children, and what the element breaks then.
-use Rattle.std.proofs.Common.{◌≡◌, ℕ, ◌+◌, Bool, true, false, List, [], ◌∷◌, ◌++◌, map, flat_map, Option, Some, None, IsSome, is_some, option_map}
-use Rattle.std.proofs.Common.{slice_get, refl, sym, ap, ap₂, ◌∙◌, subst}
+use Rattle.std.proofs.Common.{◌≡◌, ℕ, ◌+◌, Bool, true, false, List, [], ◌∷◌, ◌++◌, map, flat_map, Option, Some, None}
+use Rattle.std.proofs.Common.{IsSome, is_some, option_map, slice_get, refl, sym, ap, ap₂, ◌∙◌, subst}
 use Rattle.std.specs.Prelude.{if◌then◌else◌, Result, Ok, Err, IfErr, IsErr, IsErrAnd}
 use Rattle.std.specs.List.{list_all}
 use Rattle.std.proofs.lemmas.List.{append-nil}
@@ -9,7 +9,8 @@ use Rattle.aas_lemmas.proofs.Lists.{no_map}
 use Rattle.aas_lemmas.proofs.Truth.{and_left}
 use Rattle.serde_json.specs.Data.{Data}
 use Rattle.aas_model.specs.Payload.{kind_of}
-use Rattle.aas_model.specs.declared.element.Element.{Element, Element-F, out-Element, out-roll-Element, fold-Element, fold_out-Element}
+use Rattle.aas_model.specs.declared.element.Element.{Element, Element-F, out-Element, out-roll-Element}
+use Rattle.aas_model.specs.declared.element.Element.{fold-Element, fold_out-Element}
 use Rattle.aas_model.specs.declared.patch.PatchRow.{PatchRow}
 use Rattle.aas_model.specs.declared.path.Fault.{Fault}
 use Rattle.aas_model.specs.declared.payload.Payload.{Payload}
@@ -32,9 +33,10 @@ use Rattle.aas_value.specs.ValueForm.{Child, shows_children, value_form}
 use Rattle.aas_value_update.specs.Kinds.{form_of, part_of}
 use Rattle.aas_value_update.specs.LeftAlone.{has_value}
 use Rattle.aas_value_update.specs.Parts.{Part, children, fits_form, value}
-use Rattle.aas_value_update.specs.Shape.{HasShape, Sendable, among, nothing_sent, sendable, sent}
+use Rattle.aas_value_update.specs.Shape.{Sendable, among, first_misshapen, nothing_sent, sendable, sent}
 use Rattle.aas_value_update.specs.Update.{IsElementUpdate}
 use Rattle.aas_value_update.proofs.Elements.{child_is, part_at}
+use Rattle.aas_value_update.proofs.Judged.{misshapen_at}
 use Rattle.aas_value_patch.specs.Childless.{IsLaid, RefusesLaying, row_of}
 use Rattle.aas_value_patch.specs.Gathered.{AreTaken, HasTaken}
 use Rattle.aas_value_patch.specs.Prepared.{Bears, IsPreparedFor, IsValueFault, fault_by, fault_of_patch}
@@ -47,12 +49,13 @@ use Rattle.aas_value_patch.proofs.Leaf.{leaf_patched, with_payload}
 use Rattle.aas_value_patch.proofs.Level.{level_taken}
 use Rattle.aas_value_patch.proofs.Preorder.{same_kind}
 use Rattle.aas_value_patch.proofs.Updated.{updated}
-use Rattle.aas_value_patch.proofs.Walk.{kids_named, misshapen_at, misshapen_here}
+use Rattle.aas_value_patch.proofs.Walk.{kids_named, misshapen_here}
 
 -- ---- its value form
 
 -- whether it has a value form is said by its kind
-pub form_is : (e : Element) (b : Bool) → is_some (value_form extent.WithBlobValue e) ≡ b → is_some (part_of e).child.form ≡ b
+pub form_is : (e : Element) (b : Bool)
+    → is_some (value_form extent.WithBlobValue e) ≡ b → is_some (part_of e).child.form ≡ b
 form_is e b h = ap (λ (c : Child). is_some c.form) (child_is e) ∙ h
 
 has_values : (e : Element) → is_some (part_of e).child.form ≡ true → has_value (out-Element e).payload ≡ true
@@ -96,10 +99,12 @@ module _ (e : Element) (x : Payload) (v : Data) (bears : Bears x e) (hides : sho
   own_hides = ap shows_children bears.payload ∙ hides
 
   fit : HasFit → fits_form (form_of (out-Element e).payload (map part_of (kids_of e))) v ≡ true
-  fit fits = ap (λ (y : Payload). fits_form (form_of y (map part_of (kids_of e))) v) bears.payload ∙ fits (map part_of (kids_of e))
+  fit fits =
+      ap (λ (y : Payload). fits_form (form_of y (map part_of (kids_of e))) v) bears.payload
+      ∙ fits (map part_of (kids_of e))
 
-  has_shape : HasFit → HasShape e v
-  has_shape fits =
+  none_found : HasFit → first_misshapen e v ≡ None
+  none_found fits =
       let cs = children (map part_of (kids_of e)) in
       misshapen_at e v
       ∙ ap₂ (λ b (ss : List (Option Data)). if b then among (own_of e) 0 (map sendable (kids_of e)) ss else Some [])
@@ -116,7 +121,7 @@ module _ (e : Element) (x : Payload) (v : Data) (bears : Bears x e) (hides : sho
       (sym (none_sent o.payload (children (map part_of o.kids)) v own_hides)) (all_stay o.kids)))
 
   laid_update : (y : Payload) → HasFit → Takes x v y → IsElementUpdate e v (with_payload e y)
-  laid_update y fits takes = updated e (with_payload e y) v there (has_shape fits) (taken y fits takes)
+  laid_update y fits takes = updated e (with_payload e y) v there (none_found fits) (taken y fits takes)
 
   -- ---- it stands alone
 
@@ -125,12 +130,14 @@ module _ (e : Element) (x : Payload) (v : Data) (bears : Bears x e) (hides : sho
       let o = out-Element e in
       none_of o.kids
       (none_under o.payload (map (λ k. placed_of k) o.kids) own_hides (has_values e there)
-      (and_left _ _ (and_left _ _ (sym (ap (λ (q : Placed). q.placed) (fold_out-Element Placed placed_over e)) ∙ bears.order.placed))))
+      (and_left _ _ (and_left _ _
+      (sym (ap (λ (q : Placed). q.placed) (fold_out-Element Placed placed_over e)) ∙ bears.order.placed))))
     where
       placed_of : Element → Placed
       placed_of k = fold-Element Placed placed_over k
 
-      none_under : (x : Payload) (cs : List Placed) → shows_children x ≡ false → has_value x ≡ true → list_all (admits x) cs ≡ true → cs ≡ []
+      none_under : (x : Payload) (cs : List Placed)
+          → shows_children x ≡ false → has_value x ≡ true → list_all (admits x) cs ≡ true → cs ≡ []
       none_under x [] hides has all = refl
       none_under (p.AnnotatedRelationshipElement a b) (c ∷ cs) hides has all = absurd (cc)
       none_under (p.Entity t g ids) (c ∷ cs) hides has all = absurd (cc)
@@ -146,7 +153,8 @@ module _ (e : Element) (x : Payload) (v : Data) (bears : Bears x e) (hides : sho
 
 -- ---- what it breaks
 
-leaf_faults : (u : Element) → kids_of u ≡ [] → local_faults u ≡ map (fault []) (failing (λ s. holds_locally s (own_of u)) rules)
+leaf_faults : (u : Element)
+    → kids_of u ≡ [] → local_faults u ≡ map (fault []) (failing (λ s. holds_locally s (own_of u)) rules)
 unfolding sites sites_among
 leaf_faults u none =
     ap (λ t. flat_map local_faults_at (sites true None [] t)) (tree_out u)
@@ -154,7 +162,8 @@ leaf_faults u none =
     ++ flat_map local_faults_at (sites_among true (Some (own_of u)) [] (trees (map tree_of ks)))) none
     ∙ append-nil (map (fault []) (failing (λ s. holds_locally s (own_of u)) rules))
 
-first_leaf_fault : (u : Element) → kids_of u ≡ [] → first (local_faults u) ≡ option_map (fault []) (local_fault (own_of u))
+first_leaf_fault : (u : Element)
+    → kids_of u ≡ [] → first (local_faults u) ≡ option_map (fault []) (local_fault (own_of u))
 first_leaf_fault u none = ap first (leaf_faults u none) ∙ first_map (failing (λ s. holds_locally s (own_of u)) rules)
   where
     first_map : (ns : List ℕ) → first (map (fault []) ns) ≡ option_map (fault []) (first ns)
@@ -167,17 +176,20 @@ pub breaks_then : (e : Element) (y : Payload) → kids_of e ≡ [] → local_fau
 breaks_then e y none faultless =
     let out = out-roll-Element (record (out-Element e) { payload = y }) in
     let own : own_of (with_payload e y) ≡ record (own_of e) { payload = y } =
-    ap (λ (m : Element-F Element). let o : Own = record { common = m.common; payload = m.payload; role = m.role } in o) out in
+    ap (λ (m : Element-F Element). let o : Own = record { common = m.common; payload = m.payload; role = m.role } in o)
+    out in
     first_leaf_fault (with_payload e y) (ap (λ (m : Element-F Element). m.kids) out ∙ none)
     ∙ ap (λ (o : Own). option_map (fault []) (local_fault o)) own
     ∙ ap (option_map (fault [])) (payload_decides (own_of e) y nothing)
   where
     nothing : local_fault (own_of e) ≡ None
-    nothing = ap first (no_map (fault []) (failing (λ s. holds_locally s (own_of e)) rules) (sym (leaf_faults e none) ∙ faultless))
+    nothing = ap first
+        (no_map (fault []) (failing (λ s. holds_locally s (own_of e)) rules) (sym (leaf_faults e none) ∙ faultless))
 
 -- ---- what is prepared
 
-module _ (e : Element) (x : Payload) (v : Data) (rows : List PatchRow) (bears : Bears x e) (hides : shows_children x ≡ false)
+module _ (e : Element) (x : Payload) (v : Data) (rows : List PatchRow)
+    (bears : Bears x e) (hides : shows_children x ≡ false)
     (form : is_some (value_form extent.WithBlobValue e) ≡ true) (is : IsLaid x v rows) where
   there : is_some (part_of e).child.form ≡ true
   there = form_is e true form
@@ -212,22 +224,28 @@ module _ (e : Element) (x : Payload) (v : Data) (rows : List PatchRow) (bears : 
     update = subst (IsElementUpdate e v) (sym patched_is) update;
     faultless =
         ap local_faults patched_is
-        ∙ no_first (local_faults new) (sym (breaks_then e is.payload alone bears.faultless ∙ ap (option_map (fault [])) none));
+        ∙ no_first (local_faults new)
+        (sym (breaks_then e is.payload alone bears.faultless ∙ ap (option_map (fault [])) none));
   }
 
-  pub broken_by : (n : ℕ) (f : Fault) → f ≡ fault [] n → payload_fault is.payload ≡ Some n → IsValueFault e v (fault_by f)
+  pub broken_by : (n : ℕ) (f : Fault)
+      → f ≡ fault [] n → payload_fault is.payload ≡ Some n → IsValueFault e v (fault_by f)
   broken_by n f same some =
-      broken e new v f update (ap Some same ∙ sym (breaks_then e is.payload alone bears.faultless ∙ ap (option_map (fault [])) some))
+      broken e new v f update
+      (ap Some same ∙ sym (breaks_then e is.payload alone bears.faultless ∙ ap (option_map (fault [])) some))
 
 -- ---- what is refused
 
-pub refused : (e : Element) (x : Payload) (v : Data) (f : PatchFault) → Bears x e → is_some (value_form extent.WithBlobValue e) ≡ true
+pub refused : (e : Element) (x : Payload) (v : Data) (f : PatchFault)
+    → Bears x e → is_some (value_form extent.WithBlobValue e) ≡ true
     → RefusesLaying x v f
     → IsValueFault e v (fault_of_patch f)
 refused e x v patch_fault.NoValueForm bears form none = absurd none
 refused e x v (patch_fault.Shape path) bears form refuses = (
   some (value_form extent.WithBlobValue e) form,
-  misshapen_here e v (ap (λ (y : Payload). fits_form (form_of y (map part_of (kids_of e))) v) bears.payload ∙ refuses.1 (map part_of (kids_of e)))
+  misshapen_here e v
+      (ap (λ (y : Payload). fits_form (form_of y (map part_of (kids_of e))) v) bears.payload
+      ∙ refuses.1 (map part_of (kids_of e)))
       ∙ ap Some (sym refuses.0),
 )
   where
@@ -243,12 +261,14 @@ pub handed_on : {A : Type 0} (r : Result A ValueFault) (x : Payload) (v : Data) 
     → ((e : Element) → Bears x e → is_some (value_form extent.WithBlobValue e) ≡ true)
     → IfErr r (λ g. (e : Element) → Bears x e → IsValueFault e v g)
 handed_on (Ok a) x v f given refuses form = tt
-handed_on (Err g) x v f given refuses form = λ e bears. subst (IsValueFault e v) (sym given.1) (refused e x v f bears (form e bears) refuses)
+handed_on (Err g) x v f given refuses form = λ e bears.
+    subst (IsValueFault e v) (sym given.1) (refused e x v f bears (form e bears) refuses)
 
 pub fault_of_row : (rows : List PatchRow) (x y : Payload) (found : Option PatchRow) (row : PatchRow) → rows ≡ row_of x
     → found ≡ slice_get rows 0 → found ≡ Some row
     → row.payload ≡ x
-fault_of_row rows x y found row is at some = ap (λ (o : Option PatchRow). payload_of o) (sym some ∙ at ∙ ap (λ l. slice_get l 0) is)
+fault_of_row rows x y found row is at some =
+    ap (λ (o : Option PatchRow). payload_of o) (sym some ∙ at ∙ ap (λ l. slice_get l 0) is)
   where
     payload_of : Option PatchRow → Payload
     payload_of None = y

@@ -1,6 +1,6 @@
 -- What is sent: values in order have parts in order.
-use Rattle.std.proofs.Common.{◌≡◌, ℕ, Bool, true, false, List, [], ◌∷◌, codes, Option, Some, None, is_some, unwrap_or, Result, Ok, Err, IfOk, refl, sym, ap}
-use Rattle.std.proofs.Common.{◌∙◌}
+use Rattle.std.proofs.Common.{◌≡◌, ℕ, Bool, true, false, List, [], ◌∷◌, codes, Option, Some, None, is_some, unwrap_or}
+use Rattle.std.proofs.Common.{Result, Ok, Err, IfOk, refl, sym, ap, ◌∙◌}
 use Rattle.std.specs.Prelude.{if◌then◌else◌}
 use Rattle.std.specs.Str.{encode_utf8_all}
 use Rattle.serde_json.specs.Data.{Data, null, boolean, number, string, array, object, Items, no_items, item, Members}
@@ -10,7 +10,8 @@ use Rattle.aas_model.specs.declared.payload.Payload.{Payload}
 use Rattle.aas_model.specs.declared.payload.Payload.TheVariants as p
 use Rattle.aas_value.specs.ValueForm.{Child}
 use Rattle.aas_value_update.specs.Parts.{entry}
-use Rattle.aas_value_update.specs.Shape.{under_name, by_names, next_item, in_turn, by_entries, items_in, nothing_sent, if_sent, sent}
+use Rattle.aas_value_update.specs.Shape.{under_name, by_names, next_item, in_turn, by_entries, items_in, nothing_sent}
+use Rattle.aas_value_update.specs.Shape.{if_sent, sent}
 use Rattle.aas_value_update.proofs.WholeOwn.{member_ordered}
 use Rattle.aas_value_update.proofs.Sent.{entry_ordered}
 use Rattle.aas_value_patch.specs.declared.fault.Misfit.{Misfit}
@@ -21,10 +22,12 @@ use Rattle.aas_value_patch.specs.Gathered.{IfOrdered, AllOrdered}
 pub order_under : (n : List ℕ) (ms : Members) (d : Data) → HasOrder ms → Some d ≡ get_member n ms → IsOrdered d
 order_under n ms d h e = member_ordered n ms d h (sym e)
 
-pub taken_under : (n : List ℕ) (ms : Members) (d w u : Data) → Some d ≡ get_member n ms → u ≡ d → u ≡ unwrap_or (get_member n ms) w
+pub taken_under : (n : List ℕ) (ms : Members) (d w u : Data)
+    → Some d ≡ get_member n ms → u ≡ d → u ≡ unwrap_or (get_member n ms) w
 taken_under n ms d w u e same = same ∙ ap (λ o. unwrap_or o w) e
 
-pub under_taken : {A : Type 0} (f : A → Data) (n : List ℕ) (ms : Members) (d w : Data) (r : Result A Misfit) → Some d ≡ get_member n ms
+pub under_taken : {A : Type 0} (f : A → Data) (n : List ℕ) (ms : Members) (d w : Data) (r : Result A Misfit)
+    → Some d ≡ get_member n ms
     → IfOk r (λ new. IsOrdered d → f new ≡ d)
     → IfOk r (λ new. HasOrder ms → f new ≡ unwrap_or (get_member n ms) w)
 under_taken f n ms d w (Ok a) e h = λ order. taken_under n ms d w (f a) e (h (order_under n ms d order e))
@@ -51,7 +54,8 @@ under_ordered v c order = by_child c.name c.form
     by_child None None = tt
     by_child None (Some f) = tt
     by_child (Some n) None = tt
-    by_child (Some n) (Some f) = order_if (get (encode_utf8_all n) v) (λ d e. got_ordered (encode_utf8_all n) v d order e)
+    by_child (Some n) (Some f) =
+        order_if (get (encode_utf8_all n) v) (λ d e. got_ordered (encode_utf8_all n) v d order e)
 
 names_ordered : (cs : List Child) (v : Data) → IsOrdered v → AllOrdered (by_names cs v)
 names_ordered [] v order = tt
@@ -83,14 +87,16 @@ items_ordered (number n) order = tt
 items_ordered (string s) order = tt
 items_ordered (object ms) order = tt
 
-if_ordered : (f : Data → List (Option Data)) (cs : List Child) (o : Option Data) → ((d : Data) → o ≡ Some d → AllOrdered (f d)) → AllOrdered (if_sent f cs o)
+if_ordered : (f : Data → List (Option Data)) (cs : List Child) (o : Option Data)
+    → ((d : Data) → o ≡ Some d → AllOrdered (f d)) → AllOrdered (if_sent f cs o)
 if_ordered f cs None h = none_ordered cs
 if_ordered f cs (Some d) h = h d refl
 
 pub sent_ordered : (x : Payload) (cs : List Child) (v : Data) → IsOrdered v → AllOrdered (sent x cs v)
 sent_ordered p.SubmodelElementCollection cs v order = names_ordered cs v order
 sent_ordered (p.Entity t g ids) cs v order =
-    if_ordered (by_names cs) cs (get (codes "statements") v) (λ d e. names_ordered cs d (got_ordered (codes "statements") v d order e))
+    if_ordered (by_names cs) cs (get (codes "statements") v) (λ d e.
+    names_ordered cs d (got_ordered (codes "statements") v d order e))
 sent_ordered (p.AnnotatedRelationshipElement first second) cs v order =
     if_ordered (λ d. by_entries cs (items_in d)) cs (get (codes "annotations") v)
     (λ d e. entries_ordered cs (items_in d) (items_ordered d (got_ordered (codes "annotations") v d order e)))

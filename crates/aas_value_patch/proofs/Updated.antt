@@ -1,6 +1,6 @@
 -- What a whole walk has made.
-use Rattle.std.proofs.Common.{◌≡◌, ℕ, true, false, List, [], ◌++◌, length, map, Option, Some, None, IsSome, is_some, option_map, Result, Ok, Err, slice_get}
-use Rattle.std.proofs.Common.{refl, sym, ap, ◌∙◌, subst, true≢false}
+use Rattle.std.proofs.Common.{◌≡◌, ℕ, true, false, List, [], ◌++◌, length, map, Option, Some, None, IsSome, is_some}
+use Rattle.std.proofs.Common.{option_map, Result, Ok, Err, slice_get, refl, sym, ap, ◌∙◌, subst, true≢false}
 use Rattle.std.specs.Prelude.{if◌then◌else◌}
 use Rattle.std.specs.Result.{IsErr, IsErrAnd, IfErr}
 use Rattle.aas_lemmas.proofs.Truth.{None-from_is_some}
@@ -17,16 +17,16 @@ use Rattle.aas_model_names.specs.declared.modifiers.Extent.TheVariants as extent
 use Rattle.aas_path_trees.specs.Children.{is_list_payload}
 use Rattle.aas_path_trees.specs.Patched.{Fits, kinds, kinds_of_all, patched, patched_all, patched_submodel}
 use Rattle.aas_path_trees.specs.Places.{Differ}
-use Rattle.aas_value.specs.ValueForm.{Child, value_form}
+use Rattle.aas_value.specs.ValueForm.{Child, value_form, shows_children}
 use Rattle.aas_value_update.specs.Kinds.{part_of, lay}
 use Rattle.aas_value_update.specs.Laws.{IsInOrder}
 use Rattle.aas_value_update.specs.Parts.{Part, children, object_of, over, fits_form}
-use Rattle.aas_value_update.specs.Shape.{HasShape, first_misshapen, sendable, among, by_names}
+use Rattle.aas_value_update.specs.Shape.{first_misshapen, sendable, among, by_names}
 use Rattle.aas_value_update.specs.Update.{IsElementUpdate, body}
 use Rattle.aas_value_update.proofs.Elements.{child_is, part_at}
+use Rattle.aas_value_update.proofs.Judged.{misshapen_made, shape_is_judged}
 use Rattle.aas_value_update.proofs.Order.{order_below, body_kids}
 use Rattle.aas_value_update.proofs.Rest.{differ_in_values, unshown_stays}
-use Rattle.aas_value_update.proofs.Sent.{misshapen_made}
 use Rattle.aas_constraint_rules.specs.Sites.{Own, no_attributes}
 use Rattle.aas_value_patch.specs.Faults.{IsPatchFault, Shapes, fault_of}
 use Rattle.aas_value_patch.specs.declared.fault.PatchFault.{PatchFault}
@@ -40,13 +40,15 @@ use Rattle.aas_value_patch.proofs.Rows.{fits}
 use Rattle.aas_value_patch.proofs.Walk.{kids_differ}
 
 -- what has taken a value that fits is updated by it
-pub updated : (e u : Element) (v : Data) → is_some (part_of e).child.form ≡ true → HasShape e v → HasTaken e v u → IsElementUpdate e v u
-updated e u v there shape taken = record {
+pub updated : (e u : Element) (v : Data)
+    → is_some (part_of e).child.form ≡ true → first_misshapen e v ≡ None → HasTaken e v u → IsElementUpdate e v u
+updated e u v there none taken = record {
   metadata = differ_in_values e u taken.rest;
   operations = unshown_stays e u taken.rest;
-  shape = shape;
+  shape = (shape_is_judged e v).1 none;
   form =
-      sym (ap (λ (c : Child). c.form) (child_is u)) ∙ ap (λ (c : Child). c.form) taken.form ∙ laid (part_of e).child.form there
+      sym (ap (λ (c : Child). c.form) (child_is u))
+      ∙ ap (λ (c : Child). c.form) taken.form ∙ laid (part_of e).child.form there
       ∙ ap (λ (c : Child). option_map (λ w. lay e w v) c.form) (child_is e);
 }
   where
@@ -83,12 +85,14 @@ form_some e there = subst IsSome (ap (λ (c : Child). c.form) (child_is e)) (som
     some None e = absurd (true≢false (sym e))
     some (Some d) e = refl
 
-pub stop_fault : (m : Stop) (e : Element) (v : Data) → is_some (part_of e).child.form ≡ true → Shapes {A = ℕ} (Err m) (first_misshapen e v)
+pub stop_fault : (m : Stop) (e : Element) (v : Data)
+    → is_some (part_of e).child.form ≡ true → Shapes {A = ℕ} (Err m) (first_misshapen e v)
     → IsPatchFault e v (fault_of m)
 stop_fault (stop.Shape path) e v there h = (form_some e there, h)
 stop_fault stop.NoMemory e v there h = tt
 
-pub patch_fault : (r : Result Patch PatchFault) (m : Stop) (e : Element) (v : Data) → is_some (part_of e).child.form ≡ true → IsErr r
+pub patch_fault : (r : Result Patch PatchFault) (m : Stop) (e : Element) (v : Data)
+    → is_some (part_of e).child.form ≡ true → IsErr r
     → IsErrAnd r (λ f. f ≡ fault_of m)
     → Shapes {A = ℕ} (Err m) (first_misshapen e v) → IfErr r (λ f. IsPatchFault e v f)
 patch_fault (Ok s) m e v there err and shown = absurd (cc)
@@ -101,51 +105,71 @@ body_all d order i k there = order_below (body d) order i k (ap (λ l. slice_get
 
 pub body_differ : (d : Submodel) → IsInOrder (body d) → Differ d.kids
 body_differ d order =
-    let out = out-roll-Element (record { common = no_attributes; payload = payload.SubmodelElementCollection; role = role.Member; kids = d.kids }) in
-    subst Differ (body_kids d) (kids_differ (body d) order (ap (λ x. is_list_payload x.payload) out))
+    let out = out-roll-Element (record {
+      common = no_attributes;
+      payload = payload.SubmodelElementCollection;
+      role = role.Member;
+      kids = d.kids;
+    }) in
+    subst Differ (body_kids d)
+    (kids_differ (body d) order (ap (λ x. shows_children x.payload) out) (ap (λ x. is_list_payload x.payload) out))
 
 pub body_form : (d : Submodel) → is_some (part_of (body d)).child.form ≡ true
-body_form d = ap (λ (x : Part). is_some x.child.form) (part_at role.Member no_attributes payload.SubmodelElementCollection d.kids)
+body_form d =
+    ap (λ (x : Part). is_some x.child.form) (part_at role.Member no_attributes payload.SubmodelElementCollection d.kids)
 
 abbrev pub own : Own
 own = record { common = no_attributes; payload = payload.SubmodelElementCollection; role = role.Member }
 
 pub body_shape : (d : Submodel) (v : Data) → first_misshapen (body d) v
-    ≡ (if fits_form (object_of (map part_of d.kids)) v then among own 0 (map sendable d.kids) (by_names (children (map part_of d.kids)) v) else Some [])
+    ≡ (if fits_form (object_of (map part_of d.kids)) v
+    then among own 0 (map sendable d.kids) (by_names (children (map part_of d.kids)) v)
+    else Some [])
 body_shape d v = misshapen_made role.Member no_attributes payload.SubmodelElementCollection d.kids v
 
 pub record WholeBody (d : Submodel) (v : Data) (rows : List PatchRow) : Type 0 where
   pub fit : Fits (kinds_of_all d.kids) rows
   pub taken : HasTaken (body d) v (body (patched_submodel rows d))
 
-pub whole_body : (d : Submodel) (v : Data) (f : List Child → List (Option Data)) (old rows : List PatchRow) (after : ℕ) → old ≡ [] → IsInOrder (body d)
+pub whole_body : (d : Submodel) (v : Data) (f : List Child → List (Option Data)) (old rows : List PatchRow) (after : ℕ)
+    → old ≡ [] → IsInOrder (body d)
     → IsOrdered v
     → fits_form (object_of (map part_of d.kids)) v ≡ true → ((cs : List Child) → f cs ≡ by_names cs v)
-    → (AllInOrder d.kids → AllOrdered (f (children (map part_of d.kids))) → (seen : List Kind) → length seen ≡ 0 → SoFar seen old
-    → (after ≡ length (seen ++ kinds_of_all d.kids)) × GatheredAll d.kids (f (children (map part_of d.kids))) seen old rows)
+    → (AllInOrder d.kids → AllOrdered (f (children (map part_of d.kids))) → (seen : List Kind)
+    → length seen ≡ 0 → SoFar seen old
+    → (after ≡ length (seen ++ kinds_of_all d.kids))
+    × GatheredAll d.kids (f (children (map part_of d.kids))) seen old rows)
     → WholeBody d v rows
 whole_body d v f old rows after empty order ordered fit sent walk =
     let cs = children (map part_of d.kids) in
     let some = subst AllOrdered (sym (sent cs)) (sent_ordered payload.SubmodelElementCollection cs v ordered) in
     let done = (walk (body_all d order) some [] refl (subst (SoFar []) (sym empty) none_seen)).1 in
-    let taken = subst (λ ss. AreTaken d.kids ss (patched_all rows d.kids 0).0) (sent cs) (done.taken rows (λ j own le lt. refl)) in
+    let taken =
+    subst (λ ss. AreTaken d.kids ss (patched_all rows d.kids 0).0) (sent cs) (done.taken rows (λ j own le lt. refl)) in
     record {
       fit = fits (kinds_of_all d.kids) rows done.fit;
-      taken = level_taken role.Member no_attributes payload.SubmodelElementCollection payload.SubmodelElementCollection d.kids (patched_all rows d.kids 0).0
+      taken =
+          level_taken role.Member no_attributes payload.SubmodelElementCollection
+          payload.SubmodelElementCollection d.kids (patched_all rows d.kids 0).0
           v fit tt (body_takes v (map part_of d.kids) fit) taken;
     }
 
-pub body_misshapen : (d : Submodel) (v : Data) → fits_form (object_of (map part_of d.kids)) v ≡ false → first_misshapen (body d) v ≡ Some []
+pub body_misshapen : (d : Submodel) (v : Data)
+    → fits_form (object_of (map part_of d.kids)) v ≡ false → first_misshapen (body d) v ≡ Some []
 body_misshapen d v unfit = body_shape d v
-    ∙ ap (λ b. if b then among own 0 (map sendable d.kids) (by_names (children (map part_of d.kids)) v) else Some []) unfit
+    ∙ ap (λ b. if b then among own 0 (map sendable d.kids) (by_names (children (map part_of d.kids)) v) else Some [])
+    unfit
 
-pub body_walked : (r : Result ℕ Stop) (d : Submodel) (v : Data) (f : List Child → List (Option Data)) → IsInOrder (body d) → IsOrdered v
+pub body_walked : (r : Result ℕ Stop) (d : Submodel) (v : Data) (f : List Child → List (Option Data))
+    → IsInOrder (body d) → IsOrdered v
     → fits_form (object_of (map part_of d.kids)) v ≡ true
     → ((cs : List Child) → f cs ≡ by_names cs v)
-    → (AllInOrder d.kids → AllOrdered (f (children (map part_of d.kids))) → Shapes r (among own 0 (map sendable d.kids) (f (children (map part_of d.kids)))))
+    → (AllInOrder d.kids → AllOrdered (f (children (map part_of d.kids)))
+    → Shapes r (among own 0 (map sendable d.kids) (f (children (map part_of d.kids)))))
     → Shapes r (first_misshapen (body d) v)
 body_walked r d v f order ordered fit sent walk =
     let cs = children (map part_of d.kids) in
     let some = subst AllOrdered (sym (sent cs)) (sent_ordered payload.SubmodelElementCollection cs v ordered) in
-    subst (Shapes r) (sym (body_shape d v ∙ ap (λ b. if b then among own 0 (map sendable d.kids) (by_names cs v) else Some []) fit))
+    subst (Shapes r)
+    (sym (body_shape d v ∙ ap (λ b. if b then among own 0 (map sendable d.kids) (by_names cs v) else Some []) fit))
     (subst (λ ss. Shapes r (among own 0 (map sendable d.kids) ss)) (sent cs) (walk (body_all d order) some))

@@ -33,7 +33,8 @@ misfit_of _ = misfit.Shape
 -- why there is no patch for e and v
 abbrev pub IsPatchFault : Element → Data → PatchFault → Type 0
 IsPatchFault e v fault.NoValueForm = value_form extent.WithBlobValue e ≡ None
-IsPatchFault e v (fault.Shape path) = IsSome (value_form extent.WithBlobValue e) × (first_misshapen e v ≡ Some path.steps)
+IsPatchFault e v (fault.Shape path) =
+    IsSome (value_form extent.WithBlobValue e) × (first_misshapen e v ≡ Some path.steps)
 IsPatchFault e v fault.NoMemory = ⊤
 
 abbrev pub fault_of : Stop → PatchFault

@@ -1,5 +1,6 @@
 -- The rows of a patch that a walk in preorder gathers.
-use Rattle.std.specs.Prelude.{◌≡◌, ℕ, ◌<◌, ◌≤◌, List, [], ◌∷◌, ◌++◌, length, slice_get, Option, Some, None, Result, IfOk}
+use Rattle.std.specs.Prelude.{◌≡◌, ℕ, ◌<◌, ◌≤◌, List, [], ◌∷◌, ◌++◌, length, slice_get, Option, Some, None}
+use Rattle.std.specs.Prelude.{Result, IfOk}
 use Rattle.serde_json.specs.Data.{Data}
 use Rattle.aas_json_spelling.specs.Values.{IsOrdered}
 use Rattle.aas_model.specs.Payload.{kind_of}
@@ -53,13 +54,16 @@ SameFrom n m all rows = (j : ℕ) (own : Payload) → n ≤ j → j < m → payl
 pub record Gathered (e : Element) (sent : Option Data) (seen : List Kind) (old new : List PatchRow) : Type 0 where
   pub fit : SoFar (seen ++ kinds e) new
   pub stays : SameFrom 0 (length seen) new old
-  pub taken : (all : List PatchRow) → SameFrom (length seen) (length (seen ++ kinds e)) all new → IsTaken e sent (patched all e (length seen)).0
+  pub taken : (all : List PatchRow)
+      → SameFrom (length seen) (length (seen ++ kinds e)) all new → IsTaken e sent (patched all e (length seen)).0
 
 -- the same of elements that stand in a row
-pub record GatheredAll (ks : List Element) (sent : List (Option Data)) (seen : List Kind) (old new : List PatchRow) : Type 0 where
+pub record GatheredAll (ks : List Element) (sent : List (Option Data)) (seen : List Kind) (old new : List PatchRow) :
+    Type 0 where
   pub fit : SoFar (seen ++ kinds_of_all ks) new
   pub stays : SameFrom 0 (length seen) new old
-  pub taken : (all : List PatchRow) → SameFrom (length seen) (length (seen ++ kinds_of_all ks)) all new → AreTaken ks sent (patched_all all ks (length seen)).0
+  pub taken : (all : List PatchRow) → SameFrom (length seen) (length (seen ++ kinds_of_all ks)) all new
+      → AreTaken ks sent (patched_all all ks (length seen)).0
 
 -- the elements in rest are left of ks, the rank is that of the first of them, and what they add completes what ks add
 pub record Reached (ks : List Element) (sent : List (Option Data)) (seen : List Kind) (old : List PatchRow)
@@ -94,7 +98,8 @@ GathersRows result e sent rank old new =
     IfOk result (λ after. IsInOrder e → IfOrdered sent → (seen : List Kind) → length seen ≡ rank → SoFar seen old
     → (after ≡ length (seen ++ kinds e)) × Gathered e sent seen old new)
 
-abbrev pub GathersAllRows : Result ℕ Stop → List Element → List (Option Data) → ℕ → List PatchRow → List PatchRow → Type 0
+abbrev pub GathersAllRows : Result ℕ Stop → List Element
+    → List (Option Data) → ℕ → List PatchRow → List PatchRow → Type 0
 GathersAllRows result ks sent rank old new =
     IfOk result (λ after. AllInOrder ks → AllOrdered sent → (seen : List Kind) → length seen ≡ rank → SoFar seen old
     → (after ≡ length (seen ++ kinds_of_all ks)) × GatheredAll ks sent seen old new)

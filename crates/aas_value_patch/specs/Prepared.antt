@@ -1,18 +1,20 @@
 -- What is prepared for a sent value, and why it can't be taken.
-use Rattle.std.specs.Prelude.{◌≡◌, ◌==◌, if◌then◌else◌, List, [], Some, None, IsSome, ⊤}
+use Rattle.std.specs.Prelude.{◌≡◌, ◌⊎◌, ◌==◌, if◌then◌else◌, List, [], Some, None, IsSome, ⊤}
 use Rattle.serde_json.specs.Data.{Data}
 use Rattle.aas_model_names.specs.declared.modifiers.Extent.TheVariants as extent
+use Rattle.aas_model.specs.declared.documents.Submodel.{Submodel}
 use Rattle.aas_model.specs.declared.element.Element.{Element, out-Element}
 use Rattle.aas_model.specs.declared.patch.PatchRow.{PatchRow}
 use Rattle.aas_model.specs.declared.payload.Payload.{Payload}
 use Rattle.aas_path_trees.specs.Patched.{Fits, kinds, patched}
 use Rattle.aas_model.specs.declared.path.Fault.{Fault}
 use Rattle.aas_reference.specs.Rules.{first}
+use Rattle.aas_constraint_rules.specs.Faults.{faults}
 use Rattle.aas_constraint_laws.specs.Law.{local_faults}
 use Rattle.aas_value.specs.ValueForm.{value_form}
 use Rattle.aas_value_update.specs.Laws.{IsInOrder}
 use Rattle.aas_value_update.specs.Shape.{first_misshapen}
-use Rattle.aas_value_update.specs.Update.{IsElementUpdate}
+use Rattle.aas_value_update.specs.Update.{IsElementUpdate, IsSubmodelUpdate, body}
 use Rattle.aas_value_patch.specs.declared.fault.PatchFault.{PatchFault}
 use Rattle.aas_value_patch.specs.declared.fault.PatchFault.TheVariants as patch_fault
 use Rattle.aas_value_patch.specs.declared.preparing.ValueFault.{ValueFault}
@@ -35,10 +37,35 @@ pub record Breaks (e : Element) (v : Data) (f : Fault) : Type 0 where
 
 abbrev pub IsValueFault : Element → Data → ValueFault → Type 0
 IsValueFault e v fault.NoValueForm = value_form extent.WithBlobValue e ≡ None
-IsValueFault e v (fault.Shape path) = IsSome (value_form extent.WithBlobValue e) × (first_misshapen e v ≡ Some path.steps)
+IsValueFault e v (fault.Shape path) =
+    IsSome (value_form extent.WithBlobValue e) × (first_misshapen e v ≡ Some path.steps)
 IsValueFault e v (fault.Lexical path) = Breaks e v (record { number = 0; path = path })
 IsValueFault e v (fault.Constraint f) = Breaks e v f × ¬ (f.number ≡ 0)
 IsValueFault e v fault.NoMemory = ⊤
+
+-- what is left of e where it can't take v: e itself, or its update by v, where that is what breaks a rule
+abbrev pub IsLeft : Element → Data → ValueFault → Element → Type 0
+IsLeft e v fault.NoValueForm u = u ≡ e
+IsLeft e v (fault.Shape path) u = u ≡ e
+IsLeft e v (fault.Lexical path) u = IsElementUpdate e v u
+IsLeft e v (fault.Constraint f) u = IsElementUpdate e v u
+IsLeft e v fault.NoMemory u = (u ≡ e) ⊎ IsElementUpdate e v u
+
+-- ---- a submodel
+
+-- the update of d by v has f for its first fault
+pub record SubmodelBreaks (d : Submodel) (v : Data) (f : Fault) : Type 0 where
+  pub new : Submodel
+  pub update : IsSubmodelUpdate d v new
+  pub first : first (faults new) ≡ Some f
+
+-- why d can't take v: it always has a value form
+abbrev pub IsSubmodelFault : Submodel → Data → ValueFault → Type 0
+IsSubmodelFault d v fault.NoValueForm = ⊥
+IsSubmodelFault d v (fault.Shape path) = first_misshapen (body d) v ≡ Some path.steps
+IsSubmodelFault d v (fault.Lexical path) = SubmodelBreaks d v (record { number = 0; path = path })
+IsSubmodelFault d v (fault.Constraint f) = SubmodelBreaks d v f × ¬ (f.number ≡ 0)
+IsSubmodelFault d v fault.NoMemory = ⊤
 
 -- ---- an element alone
 

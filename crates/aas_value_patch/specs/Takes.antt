@@ -12,5 +12,6 @@ use Rattle.aas_value_update.specs.Took.{Took, NamedIn}
 pub record Takes (x : Payload) (v : Data) (y : Payload) : Type 0 where
   pub rest : without_values y ≡ without_values x
   -- with children that took what v has for them, the value form is v laid over the old one
-  pub form : (xs ys : List Part) → fits_form (form_of x xs) v ≡ true → NamedIn x xs → Took xs (sent x (children xs) v) ys
+  pub form : (xs ys : List Part)
+      → fits_form (form_of x xs) v ≡ true → NamedIn x xs → Took xs (sent x (children xs) v) ys
       → value (form_of y ys) ≡ over (lay_form (form_of x xs)) (value (form_of x xs)) (Some v)

@@ -18,9 +18,9 @@ use aas_value::has_value_form;
 use serde_json::Value;
 use std::alloc::Global;
 
-/// The patch by which an element of these attributes, at rank 0, takes a sent value, where its value form shows no children:
-/// what the value leaves out stays. The element breaks nothing by itself before, so that its other attributes needn't be
-/// looked at.
+/// The patch by which an element of these attributes, at rank 0, takes a sent value, where its value form shows no
+/// children: what the value leaves out stays. The element breaks nothing by itself before, so that its other attributes
+/// needn't be looked at.
 ///
 /// # Errors
 ///
@@ -28,8 +28,10 @@ use std::alloc::Global;
 pub fn prepare_leaf(alloc: Global, payload: &Payload, value: &Value) -> Result<Patch, ValueFault>
     requires leaf { shows_children payload.now ≡ false }
     requires ordered { IsOrdered (view value.now) }
-    ensures patch { IfOk result (λ patch. (e : Element) → Bears payload.now e → IsPreparedFor e (view value.now) patch.rows) }
-    ensures fault { IfErr result (λ fault. (e : Element) → Bears payload.now e → IsValueFault e (view value.now) fault) }
+    ensures patch { IfOk result (λ patch.
+        (e : Element) → Bears payload.now e → IsPreparedFor e (view value.now) patch.rows) }
+    ensures fault { IfErr result (λ fault.
+        (e : Element) → Bears payload.now e → IsValueFault e (view value.now) fault) }
 {
     if !has_value_form(payload.kind()) {
         return Err(ValueFault::NoValueForm);

@@ -9,7 +9,8 @@ ghost use Rattle.aas_value_update.specs.Laws.{IsInOrder};
 ghost use Rattle.aas_value_update.specs.Parts.{children};
 ghost use Rattle.aas_value_update.specs.Shape.{sendable, among, first_misshapen};
 ghost use Rattle.aas_value_patch.specs.Faults.{Shapes};
-ghost use Rattle.aas_value_patch.specs.Gathered.{AllInOrder, AllOrdered, IfOrdered, misshapen, GathersRows, GathersAllRows};
+ghost use Rattle.aas_value_patch.specs.Gathered.{AllInOrder, AllOrdered, IfOrdered, misshapen};
+ghost use Rattle.aas_value_patch.specs.Gathered.{GathersRows, GathersAllRows};
 ghost use Rattle.aas_value_patch.specs.Sent.{sent_by};
 ghost use Rattle.aas_value_patch.specs.declared.fault.Stop.TheVariants as stop;
 
@@ -66,8 +67,8 @@ fn behind(step: PathStep, path: Path) -> Result<Path, NoMemory>
     Ok(path)
 }
 
-/// Adds the rows with which an element of this rank, and what lies below it, takes what is sent to it, and answers the rank
-/// behind them.
+/// Adds the rows with which an element of this rank, and what lies below it, takes what is sent to it, and answers the
+/// rank behind them.
 #[cycle(gather)]
 fn gather(
     alloc: Global,
@@ -95,7 +96,8 @@ pub(crate) fn gather_here(
     element: &Element,
     value: &Value,
 ) -> Result<u64, Stop>
-    ensures shape { IsInOrder element.now → IsOrdered (view value.now) → Shapes result (first_misshapen element.now (view value.now)) }
+    ensures shape { IsInOrder element.now → IsOrdered (view value.now)
+        → Shapes result (first_misshapen element.now (view value.now)) }
     ensures rows { GathersRows result element.now (Some (view value.now)) rank rows.old rows.new }
 {
     match own_step(alloc, element, value) {
@@ -125,7 +127,8 @@ pub(crate) fn gather_all(
     ensures shape { (o : Own) → is_list o.payload ≡ stands_in_list (above_of above.entry) → AllInOrder kids.now
         → AllOrdered (sent_by sent.entry (children (map part_of kids.now)))
         → Shapes result (among o 0 (map sendable kids.now) (sent_by sent.entry (children (map part_of kids.now)))) }
-    ensures rows { GathersAllRows result kids.now (sent_by sent.entry (children (map part_of kids.now))) rank rows.old rows.new }
+    ensures rows { GathersAllRows result kids.now
+        (sent_by sent.entry (children (map part_of kids.now))) rank rows.old rows.new }
 {
     let mut rank = rank;
     let mut sent = sent;

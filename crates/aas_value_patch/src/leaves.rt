@@ -28,7 +28,8 @@ pub(crate) fn property_step<'v>(
     value_id: &Option<Reference>,
     sent: &'v Value,
 ) -> Result<Step<'v>, Misfit>
-    ensures { (old : Option (List ℕ)) (xs : List Part) → Stepped result (p.Property value_type old value_id.now) xs (view sent.now) }
+    ensures { (old : Option (List ℕ)) (xs : List Part)
+        → Stepped result (p.Property value_type old value_id.now) xs (view sent.now) }
 {
     let value = single_from(alloc, value_type, sent)?;
     let kept = copy_option(value_id)?;
@@ -74,7 +75,8 @@ pub(crate) fn languages_step<'v>(
     value_id: &Option<Reference>,
     sent: &'v Value,
 ) -> Result<Step<'v>, Misfit>
-    ensures { (old : List LangText) (xs : List Part) → Stepped result (p.MultiLanguageProperty old value_id.now) xs (view sent.now) }
+    ensures { (old : List LangText) (xs : List Part)
+        → Stepped result (p.MultiLanguageProperty old value_id.now) xs (view sent.now) }
 {
     let value = languages_from(alloc, sent)?;
     Ok(Step {
@@ -173,7 +175,8 @@ fn event_in<'v>(
     event: &Payload,
     members: &'v Map<String, Value>,
 ) -> Result<Step<'v>, Misfit>
-    ensures { (xs : List Part) → kind_of event.now ≡ kind.BasicEventElement → HasOrder (members_view members.now.entries)
+    ensures { (xs : List Part) → kind_of event.now ≡ kind.BasicEventElement
+        → HasOrder (members_view members.now.entries)
         → Stepped result event.now xs (object (members_view members.now.entries)) }
 {
     let Payload::BasicEventElement {
@@ -218,7 +221,8 @@ pub(crate) fn range_step<'v>(
     max: &Option<Text>,
     sent: &'v Value,
 ) -> Result<Step<'v>, Misfit>
-    ensures { (xs : List Part) → IsOrdered (view sent.now) → Stepped result (p.Range value_type min.now max.now) xs (view sent.now) }
+    ensures { (xs : List Part) → IsOrdered (view sent.now)
+        → Stepped result (p.Range value_type min.now max.now) xs (view sent.now) }
 {
     match sent {
         Value::Object(members) => range_in(alloc, value_type, min, max, members),
@@ -233,7 +237,8 @@ pub(crate) fn file_step<'v>(
     value: &Option<Text>,
     sent: &'v Value,
 ) -> Result<Step<'v>, Misfit>
-    ensures { (xs : List Part) → IsOrdered (view sent.now) → Stepped result (p.File content_type.now value.now) xs (view sent.now) }
+    ensures { (xs : List Part) → IsOrdered (view sent.now)
+        → Stepped result (p.File content_type.now value.now) xs (view sent.now) }
 {
     match sent {
         Value::Object(members) => file_in(alloc, content_type, value, members),
@@ -248,7 +253,8 @@ pub(crate) fn blob_step<'v>(
     value: &Option<Text>,
     sent: &'v Value,
 ) -> Result<Step<'v>, Misfit>
-    ensures { (xs : List Part) → IsOrdered (view sent.now) → Stepped result (p.Blob content_type.now value.now) xs (view sent.now) }
+    ensures { (xs : List Part) → IsOrdered (view sent.now)
+        → Stepped result (p.Blob content_type.now value.now) xs (view sent.now) }
 {
     match sent {
         Value::Object(members) => blob_in(alloc, content_type, value, members),

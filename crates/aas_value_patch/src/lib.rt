@@ -1,5 +1,5 @@
-//! Updates of values (IDTA-01002-3-0, ValueOnly) as patches: what a sent value makes of an element, or the first place where
-//! it doesn't fit.
+//! Updates of values (IDTA-01002-3-0, ValueOnly) as patches: what a sent value makes of an element, or the first place
+//! where it doesn't fit.
 //!
 //! Which values may be sent is said in `aas_value_update`.
 //!
@@ -10,7 +10,9 @@
 //! - Else there is no value form, or the path leads to the first element whose own part of the value has the
 //!   wrong shape.
 //! - And before an update is taken, that the updated element breaks no rule by itself, else the first one that it
-//!   breaks.
+//!   breaks; and what is left of the element on which it was tried.
+//! - A valid submodel is valid after its update, or the fault that
+//!   is answered is the first one of the updated submodel.
 
 #![tactic(auto)]
 

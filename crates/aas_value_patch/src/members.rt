@@ -31,7 +31,8 @@ pub(crate) fn has_only(members: &Map<String, Value>, name: &str) -> bool
 #[tactic(auto, using(crate::proofs::Items::size))]
 pub(crate) fn has_only_two(members: &Map<String, Value>, first: &str, second: &str) -> bool
     ensures { result ≡ (one_if_some (get_member first.now (members_view members.now.entries))
-        + (one_if_some (get_member second.now (members_view members.now.entries)) + 0) == members_len (members_view members.now.entries)) }
+        + (one_if_some (get_member second.now (members_view members.now.entries)) + 0)
+        == members_len (members_view members.now.entries)) }
 {
     count(members, first) + count(members, second) == members.len()
 }
@@ -46,7 +47,8 @@ pub(crate) fn has_only_three(
 ) -> bool
     ensures { result ≡ (one_if_some (get_member first.now (members_view members.now.entries))
         + (one_if_some (get_member second.now (members_view members.now.entries))
-        + (one_if_some (get_member third.now (members_view members.now.entries)) + 0)) == members_len (members_view members.now.entries)) }
+        + (one_if_some (get_member third.now (members_view members.now.entries)) + 0))
+        == members_len (members_view members.now.entries)) }
 {
     count(members, first) + count(members, second) + count(members, third) == members.len()
 }
@@ -75,7 +77,8 @@ pub(crate) fn has_only_four(
 pub(crate) fn only_member(members: &Map<String, Value>) -> Option<(&String, &Value)>
     ensures some { IfSome result (λ found. members_view members.now.entries
         ≡ member (string_bytes found.0.now) (view found.1.now) no_members) }
-    ensures none { IfNone result ((n : List ℕ) (d : Data) → members_view members.now.entries ≡ member n d no_members → ⊥) }
+    ensures none { IfNone result
+        ((n : List ℕ) (d : Data) → members_view members.now.entries ≡ member n d no_members → ⊥) }
 {
     if members.len() == 1 {
         members.first_key_value()

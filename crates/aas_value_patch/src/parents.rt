@@ -8,7 +8,8 @@ ghost use Rattle.aas_value_update.specs.Kinds.{part_of};
 ghost use Rattle.aas_path_trees.specs.Children.{is_list_payload};
 ghost use Rattle.aas_path_trees.specs.Places.{Differ};
 ghost use Rattle.aas_value.specs.ValueForm.{Child};
-ghost use Rattle.aas_value_update.specs.Parts.{Part, object_of, entries_of, members_fit, items_fit, entries_fit, fits_if, fits_form};
+ghost use Rattle.aas_value_update.specs.Parts.{Part, object_of, entries_of, members_fit, items_fit, entries_fit};
+ghost use Rattle.aas_value_update.specs.Parts.{fits_if, fits_form};
 ghost use Rattle.aas_value_update.specs.Shape.{under_name, by_names, by_entries, items_in, if_sent};
 ghost use Rattle.aas_value_patch.specs.Counted.{one_if_some, found};
 ghost use Rattle.aas_value_patch.specs.Faults.{Judges};
@@ -29,7 +30,8 @@ use std::alloc::Global;
 
 /// 1 where the object has a member for the child, and else 0.
 fn count_one(members: &Map<String, Value>, kid: &Element) -> usize
-    ensures value { result ≡ one_if_some (under_name (object (members_view members.now.entries)) (part_of kid.now).child) }
+    ensures value { result
+        ≡ one_if_some (under_name (object (members_view members.now.entries)) (part_of kid.now).child) }
     ensures small { result ≤ 1 }
 {
     match member_for(members, kid) {
@@ -63,7 +65,8 @@ fn collection_in<'v>(
     members: &'v Map<String, Value>,
 ) -> Result<Step<'v>, Misfit>
     ensures { Differ kids.now → HasOrder (members_view members.now.entries)
-        → Stepped result p.SubmodelElementCollection (map part_of kids.now) (object (members_view members.now.entries)) }
+        → Stepped result p.SubmodelElementCollection (map part_of kids.now)
+        (object (members_view members.now.entries)) }
 {
     let kids = names_in(kids, members)?;
     Ok(Step {
@@ -104,7 +107,8 @@ fn items_fit(kids: &Many<Element>, items: &[Value]) -> bool
 
 /// A SubmodelElementList sends the items to the children in turn.
 fn list_in<'v>(list: &Payload, kids: &Many<Element>, items: &'v [Value]) -> Result<Step<'v>, Misfit>
-    ensures { is_list_payload list.now ≡ true → Stepped result list.now (map part_of kids.now) (array (items_view items.now)) }
+    ensures { is_list_payload list.now ≡ true
+        → Stepped result list.now (map part_of kids.now) (array (items_view items.now)) }
 {
     if !items_fit(kids, items) {
         return Err(Misfit::Shape);
@@ -119,7 +123,8 @@ fn list_in<'v>(list: &Payload, kids: &Many<Element>, items: &'v [Value]) -> Resu
 fn names_in<'v>(kids: &Many<Element>, members: &'v Map<String, Value>) -> Result<Sent<'v>, Misfit>
     ensures fit { Differ kids.now → HasOrder (members_view members.now.entries)
         → Judges result (members_fit (map part_of kids.now) (members_view members.now.entries)) }
-    ensures sent { IfOk result (λ sent. (cs : List Child) → sent_by sent cs ≡ by_names cs (object (members_view members.now.entries))) }
+    ensures sent { IfOk result (λ sent.
+        (cs : List Child) → sent_by sent cs ≡ by_names cs (object (members_view members.now.entries))) }
 {
     if names_fit(kids, members) {
         Ok(Sent::Members(members))
@@ -222,7 +227,8 @@ fn annotations_in<'v>(
     ensures fit { Judges result (fits_if (fits_form (entries_of (map part_of kids.now)))
         (get_member (codes "annotations") (members_view members.now.entries))) }
     ensures sent { IfOk result (λ sent. (cs : List Child) → sent_by sent cs
-        ≡ if_sent (λ d. by_entries cs (items_in d)) cs (get_member (codes "annotations") (members_view members.now.entries))) }
+        ≡ if_sent (λ d. by_entries cs (items_in d)) cs
+        (get_member (codes "annotations") (members_view members.now.entries))) }
 {
     match member(members, name::ANNOTATIONS) {
         None => Ok(Sent::Nothing),
@@ -298,7 +304,8 @@ pub(crate) fn entity_step<'v>(
     sent: &'v Value,
 ) -> Result<Step<'v>, Misfit>
     ensures { Differ kids.now → IsOrdered (view sent.now)
-        → Stepped result (p.Entity entity_type global_asset_id.now specific_asset_ids.now) (map part_of kids.now) (view sent.now) }
+        → Stepped result (p.Entity entity_type global_asset_id.now specific_asset_ids.now)
+        (map part_of kids.now) (view sent.now) }
 {
     match sent {
         Value::Object(members) => entity_in(

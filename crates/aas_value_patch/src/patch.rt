@@ -20,13 +20,14 @@ use std::alloc::Global;
 ///
 /// # Errors
 ///
-/// Exactly one of these holds, or there is a patch: `NoValueForm` for a Capability or an Operation; `Shape` at the first
-/// element in preorder whose own part of the value has the wrong shape. `NoMemory` may come at any time.
+/// Exactly one of these holds, or there is a patch: `NoValueForm` for a Capability or an Operation; `Shape` at the
+/// first element in preorder whose own part of the value has the wrong shape. `NoMemory` may come at any time.
 pub fn patch_for(alloc: Global, element: &Element, value: &Value) -> Result<Patch, PatchFault>
     requires in_order { IsInOrder element.now }
     requires ordered { IsOrdered (view value.now) }
     ensures fits { IfOk result (λ patch. Fits (kinds element.now) patch.rows) }
-    ensures update { IfOk result (λ patch. IsElementUpdate element.now (view value.now) (patched patch.rows element.now 0).0) }
+    ensures update { IfOk result (λ patch.
+        IsElementUpdate element.now (view value.now) (patched patch.rows element.now 0).0) }
     ensures fault { IfErr result (λ fault. IsPatchFault element.now (view value.now) fault) }
 {
     if !has_form(element) {
@@ -46,7 +47,8 @@ pub fn patch_for_submodel(
     requires in_order { IsInOrder (body submodel.now) }
     requires ordered { IsOrdered (view value.now) }
     ensures fits { IfOk result (λ patch. Fits (kinds_of_all submodel.now.kids) patch.rows) }
-    ensures update { IfOk result (λ patch. IsSubmodelUpdate submodel.now (view value.now) (patched_submodel patch.rows submodel.now)) }
+    ensures update { IfOk result (λ patch.
+        IsSubmodelUpdate submodel.now (view value.now) (patched_submodel patch.rows submodel.now)) }
     ensures fault { IfErr result (λ fault. IsPatchFault (body submodel.now) (view value.now) fault) }
 {
     match object_in(&submodel.kids, value) {

@@ -1,12 +1,14 @@
 ghost use Rattle.std.specs.Prelude.{◌≡◌, [], IfErr, IfOk};
 ghost use Rattle.serde_json.specs.View.{view};
 ghost use Rattle.aas_constraint_laws.specs.Law.{local_faults};
+ghost use Rattle.aas_constraint_laws.specs.Valid.{IsValid};
+ghost use Rattle.aas_constraint_rules.specs.Faults as documents;
 ghost use Rattle.aas_json_spelling.specs.Values.{IsOrdered};
 ghost use Rattle.aas_reference.specs.Rules.{first};
 ghost use Rattle.aas_path_trees.specs.Patched.{Fits, kinds, kinds_of_all, patched, patched_submodel};
 ghost use Rattle.aas_value_update.specs.Laws.{IsInOrder};
 ghost use Rattle.aas_value_update.specs.Update.{IsElementUpdate, IsSubmodelUpdate, body};
-ghost use Rattle.aas_value_patch.specs.Prepared.{IsValueFault, fault_by};
+ghost use Rattle.aas_value_patch.specs.Prepared.{IsLeft, IsSubmodelFault, IsValueFault, fault_by};
 
 use crate::fault::PatchFault;
 use crate::patch::{patch_for, patch_for_submodel};
@@ -95,22 +97,28 @@ fn first_fault(alloc: Global, element: Element) -> Result<Option<Fault>, NoMemor
     found
 }
 
-/// The patch by which the element, at rank 0, takes a sent value: what the value leaves out stays, and the element keeps each
-/// rule that it can break wherever it stands. The patch is tried on the element itself, so that nothing is promised of it
-/// afterwards.
+/// The patch by which the element, at rank 0, takes a sent value: what the value leaves out stays, and the element
+/// keeps each rule that it can break wherever it stands.
+///
+/// The patch is tried on the element itself. With `Ok` it is the updated element, with `Lexical` and `Constraint` the
+/// one that breaks the rule, with `NoValueForm` and `Shape` it is as it was, and with `NoMemory` either as it was or
+/// updated.
 ///
 /// # Errors
 ///
-/// Exactly one of these holds, or there is a patch: `NoValueForm` for a Capability or an Operation; `Shape` at the first
-/// element in preorder whose own part of the value has the wrong shape; `Lexical` or `Constraint` for the first fault that the
-/// updated element has by itself. `NoMemory` may come at any time.
+/// Exactly one of these holds, or there is a patch: `NoValueForm` for a Capability or an Operation; `Shape` at the
+/// first element in preorder whose own part of the value has the wrong shape; `Lexical` or `Constraint` for the first
+/// fault that the updated element has by itself. `NoMemory` may come at any time.
 pub fn prepare(alloc: Global, element: &mut Element, value: &Value) -> Result<Patch, ValueFault>
     requires in_order { IsInOrder element.old }
     requires ordered { IsOrdered (view value.now) }
     ensures fits { IfOk result (λ patch. Fits (kinds element.old) patch.rows) }
-    ensures update { IfOk result (λ patch. IsElementUpdate element.old (view value.now) (patched patch.rows element.old 0).0) }
+    ensures update { IfOk result (λ patch.
+        IsElementUpdate element.old (view value.now) (patched patch.rows element.old 0).0) }
     ensures faultless { IfOk result (λ patch. local_faults (patched patch.rows element.old 0).0 ≡ []) }
     ensures fault { IfErr result (λ fault. IsValueFault element.old (view value.now) fault) }
+    ensures made { IfOk result (λ patch. element.new ≡ (patched patch.rows element.old 0).0) }
+    ensures left { IfErr result (λ fault. IsLeft element.old (view value.now) fault element.new) }
 {
     let patch = patch_for(alloc, element, value)?;
     apply(element, patch.copy()?);
@@ -144,7 +152,9 @@ fn into_body(alloc: Global, submodel: Submodel) -> Element
     }
 }
 
-/// The same for a submodel as an object of its children, whose first child has rank 0. It always has a value form.
+/// The same for a submodel as an object of its children, whose first child has rank 0. It always has a value form. A
+/// valid submodel is valid after the update; else `Lexical` or `Constraint` is the first fault that the updated
+/// submodel has.
 pub fn prepare_submodel(
     alloc: Global,
     submodel: Submodel,
@@ -153,9 +163,14 @@ pub fn prepare_submodel(
     requires in_order { IsInOrder (body submodel) }
     requires ordered { IsOrdered (view value.now) }
     ensures fits { IfOk result (λ patch. Fits (kinds_of_all submodel.kids) patch.rows) }
-    ensures update { IfOk result (λ patch. IsSubmodelUpdate submodel (view value.now) (patched_submodel patch.rows submodel)) }
+    ensures update { IfOk result (λ patch.
+        IsSubmodelUpdate submodel (view value.now) (patched_submodel patch.rows submodel)) }
     ensures faultless { IfOk result (λ patch. local_faults (body (patched_submodel patch.rows submodel)) ≡ []) }
     ensures fault { IfErr result (λ fault. IsValueFault (body submodel) (view value.now) fault) }
+    ensures valid { IsValid (documents.submodel submodel)
+        → IfOk result (λ patch. IsValid (documents.submodel (patched_submodel patch.rows submodel))) }
+    ensures first_fault { IsValid (documents.submodel submodel)
+        → IfErr result (λ fault. IsSubmodelFault submodel (view value.now) fault) }
 {
     let patch = patch_for_submodel(alloc, &submodel, value)?;
     let updated = with_patch_for_all(submodel, &patch)?;

@@ -7,7 +7,8 @@ ghost use Rattle.aas_json_spelling.specs.Values.{IsOrdered, AreOrdered, HasOrder
 ghost use Rattle.aas_json_table.specs.Spelled.{onto};
 ghost use Rattle.aas_reference.specs.Spelling.{spell_reference};
 ghost use Rattle.aas_value.specs.ValueForm.{reference_or_null, array_of};
-ghost use Rattle.aas_value_update.specs.Json.{is_reference, is_reference_or_null, is_specific_asset_id, is_array_of, all_items};
+ghost use Rattle.aas_value_update.specs.Json.{is_reference, is_reference_or_null, is_specific_asset_id};
+ghost use Rattle.aas_value_update.specs.Json.{is_array_of, all_items};
 ghost use Rattle.aas_value_update.specs.Parts.{fits_if};
 ghost use Rattle.aas_value_patch.specs.Faults.{Judges, misfit_of};
 
@@ -92,7 +93,8 @@ pub(crate) fn reference_under(
 
 fn specific_items(alloc: Global, items: &[Value]) -> Result<Many<SpecificAssetId>, Misfit>
     ensures fit { Judges result (all_items is_specific_asset_id (items_view items.now)) }
-    ensures taken { IfOk result (λ new. AreOrdered (items_view items.now) → onto (map spell_specific_asset_id new) no_items
+    ensures taken { IfOk result (λ new.
+        AreOrdered (items_view items.now) → onto (map spell_specific_asset_id new) no_items
         ≡ items_view items.now) }
 {
     let mut ids = Many::new(alloc);
@@ -105,7 +107,8 @@ fn specific_items(alloc: Global, items: &[Value]) -> Result<Many<SpecificAssetId
 /// The specific asset identifiers that an array spells, where each is canonical JSON.
 fn specifics_from(alloc: Global, value: &Value) -> Result<Many<SpecificAssetId>, Misfit>
     ensures fit { Judges result (is_array_of is_specific_asset_id (view value.now)) }
-    ensures taken { IfOk result (λ new. IsOrdered (view value.now) → array_of spell_specific_asset_id new ≡ view value.now) }
+    ensures taken { IfOk result (λ new.
+        IsOrdered (view value.now) → array_of spell_specific_asset_id new ≡ view value.now) }
 {
     match value {
         Value::Array(items) => specific_items(alloc, items.as_slice()),
@@ -120,9 +123,12 @@ pub(crate) fn specifics_under(
     members: &Map<String, Value>,
     name: &str,
 ) -> Result<Many<SpecificAssetId>, Misfit>
-    ensures fit { Judges result (fits_if (is_array_of is_specific_asset_id) (get_member name.now (members_view members.now.entries))) }
-    ensures taken { IfOk result (λ new. HasOrder (members_view members.now.entries) → array_of spell_specific_asset_id new
-        ≡ unwrap_or (get_member name.now (members_view members.now.entries)) (array_of spell_specific_asset_id old.now)) }
+    ensures fit { Judges result
+        (fits_if (is_array_of is_specific_asset_id) (get_member name.now (members_view members.now.entries))) }
+    ensures taken { IfOk result (λ new.
+        HasOrder (members_view members.now.entries) → array_of spell_specific_asset_id new
+        ≡ unwrap_or (get_member name.now (members_view members.now.entries))
+        (array_of spell_specific_asset_id old.now)) }
 {
     match member(members, name) {
         Some(value) => specifics_from(alloc, value),

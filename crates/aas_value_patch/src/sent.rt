@@ -42,7 +42,8 @@ pub(crate) fn has_form(kid: &Element) -> bool
 
 /// The member for a child, where it has a name and a value form.
 pub(crate) fn member_for<'v>(members: &'v Map<String, Value>, kid: &Element) -> Option<&'v Value>
-    ensures { option_map (λ v. view v.now) result ≡ under_name (object (members_view members.now.entries)) (part_of kid.now).child }
+    ensures { option_map (λ v. view v.now) result
+        ≡ under_name (object (members_view members.now.entries)) (part_of kid.now).child }
 {
     if !has_form(kid) {
         return None;
@@ -99,8 +100,10 @@ fn is_called(kid: &Element, name: &str) -> bool
 /// The only member of an object, where it has the name of the child.
 fn named_alone<'v>(members: &'v Map<String, Value>, kid: &Element) -> Option<&'v Value>
     ensures some { IfSome result (λ v. (ds : Items)
-        → entry (part_of kid.now).child (item (object (members_view members.now.entries)) ds) ≡ (Some (view v.now), ds)) }
-    ensures none { IfNone result ((ds : Items) → entry (part_of kid.now).child (item (object (members_view members.now.entries)) ds)
+        → entry (part_of kid.now).child (item (object (members_view members.now.entries)) ds)
+        ≡ (Some (view v.now), ds)) }
+    ensures none { IfNone result
+        ((ds : Items) → entry (part_of kid.now).child (item (object (members_view members.now.entries)) ds)
         ≡ (None, item (object (members_view members.now.entries)) ds)) }
 {
     match only_member(members) {
@@ -117,7 +120,8 @@ fn named_alone<'v>(members: &'v Map<String, Value>, kid: &Element) -> Option<&'v
 
 /// The value of an entry, where it is an object of the name of the child alone.
 fn value_in<'v>(sent: &'v Value, kid: &Element) -> Option<&'v Value>
-    ensures some { IfSome result (λ v. (ds : Items) → entry (part_of kid.now).child (item (view sent.now) ds) ≡ (Some (view v.now), ds)) }
+    ensures some { IfSome result (λ v.
+        (ds : Items) → entry (part_of kid.now).child (item (view sent.now) ds) ≡ (Some (view v.now), ds)) }
     ensures none { IfNone result ((ds : Items) → entry (part_of kid.now).child (item (view sent.now) ds)
         ≡ (None, item (view sent.now) ds)) }
 {

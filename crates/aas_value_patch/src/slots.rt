@@ -7,7 +7,8 @@ ghost use Rattle.aas_lexical.specs.Natives.{is_boolean, is_numeric};
 ghost use Rattle.aas_model_names.specs.EntityTypeNames as entity_type;
 ghost use Rattle.aas_value.specs.Single.{single};
 ghost use Rattle.aas_value.specs.ValueForm.{text_or_null, array_of, language_value, entity_type_or_null};
-ghost use Rattle.aas_value_update.specs.Json.{is_single, is_string, is_string_or_null, is_language, is_array_of, is_entity_type, all_items};
+ghost use Rattle.aas_value_update.specs.Json.{is_single, is_string, is_string_or_null, is_language, is_array_of};
+ghost use Rattle.aas_value_update.specs.Json.{is_entity_type, all_items};
 ghost use Rattle.aas_value_update.specs.Parts.{fits_if};
 ghost use Rattle.aas_value_patch.specs.Faults.{Judges};
 
@@ -87,7 +88,8 @@ pub(crate) fn single_under(
     members: &Map<String, Value>,
     name: &str,
 ) -> Result<Option<Text>, Misfit>
-    ensures fit { Judges result (fits_if (is_single value_type) (get_member name.now (members_view members.now.entries))) }
+    ensures fit { Judges result
+        (fits_if (is_single value_type) (get_member name.now (members_view members.now.entries))) }
     ensures taken { IfOk result (λ new. single value_type new
         ≡ unwrap_or (get_member name.now (members_view members.now.entries)) (single value_type old.now)) }
 {

@@ -33,7 +33,8 @@ pub(crate) fn own_step<'v>(
     sent: &'v Value,
 ) -> Result<Step<'v>, Misfit>
     ensures { IsInOrder element.now → IsOrdered (view sent.now)
-        → Stepped result (out-Element element.now).payload (map part_of (out-Element element.now).kids) (view sent.now) }
+        → Stepped result (out-Element element.now).payload
+        (map part_of (out-Element element.now).kids) (view sent.now) }
 {
     let kids = &element.kids;
     match &element.payload {

@@ -20,12 +20,18 @@ pub record SameFields (r q : Role) (c d : Common) (x y : Payload) (ks us : List 
   pub payloads : x ≡ y
   pub kids : ks ≡ us
 
-pub fields : (r q : Role) (c d : Common) (x y : Payload) (ks us : List Element) → made r c x ks ≡ made q d y us → SameFields r q c d x y ks us
+pub fields : (r q : Role) (c d : Common) (x y : Payload) (ks us : List Element)
+    → made r c x ks ≡ made q d y us → SameFields r q c d x y ks us
 fields r q c d x y ks us e =
     let out =
     sym (out-roll-Element (record { common = c; payload = x; role = r; kids = ks })) ∙ ap out-Element e
     ∙ out-roll-Element (record { common = d; payload = y; role = q; kids = us }) in
-    record { roles = ap (λ z. z.role) out; commons = ap (λ z. z.common) out; payloads = ap (λ z. z.payload) out; kids = ap (λ z. z.kids) out }
+    record {
+      roles = ap (λ z. z.role) out;
+      commons = ap (λ z. z.common) out;
+      payloads = ap (λ z. z.payload) out;
+      kids = ap (λ z. z.kids) out;
+    }
 
 pub kids_made : (r : Role) (c : Common) (x : Payload) (ks : List Element) → kids_of (made r c x ks) ≡ ks
 kids_made r c x ks = ap (λ z. z.kids) (out-roll-Element (record { common = c; payload = x; role = r; kids = ks }))
@@ -50,16 +56,23 @@ pub record Level (u e : Element) : Type 0 where
   pub shows : shows_children (out-Element u).payload ≡ shows_children (out-Element e).payload
 
 alone_out : (e : Element) → left_alone e
-    ≡ made (out-Element e).role (out-Element e).common (without_values (out-Element e).payload) (kids_alone (out-Element e).payload (kids_of e))
+    ≡ made (out-Element e).role (out-Element e).common
+    (without_values (out-Element e).payload) (kids_alone (out-Element e).payload (kids_of e))
 alone_out e = let x = out-Element e in ap left_alone (sym (made_out e)) ∙ alone_at x.role x.common x.payload x.kids
 
 pub level : (u e : Element) → left_alone u ≡ left_alone e → Level u e
 level u e h =
     let x = out-Element u in
     let y = out-Element e in
-    let same = fields x.role y.role x.common y.common (without_values x.payload) (without_values y.payload) (kids_alone x.payload x.kids) (kids_alone y.payload y.kids)
+    let same =
+    fields x.role y.role x.common y.common (without_values x.payload)
+    (without_values y.payload) (kids_alone x.payload x.kids) (kids_alone y.payload y.kids)
     (sym (alone_out u) ∙ h ∙ alone_out e) in
     record { same = same; shows = sym (shows_bare x.payload) ∙ ap shows_children same.payloads ∙ shows_bare y.payload }
 
-pub whole : (u e : Element) → Level u e → (out-Element u).payload ≡ (out-Element e).payload → kids_of u ≡ kids_of e → u ≡ e
-whole u e l xs ks = let rs = l.same.roles in let cs = l.same.commons in sym (made_out u) ∙ (λ i. made (rs i) (cs i) (xs i) (ks i)) ∙ made_out e
+pub whole : (u e : Element)
+    → Level u e → (out-Element u).payload ≡ (out-Element e).payload → kids_of u ≡ kids_of e → u ≡ e
+whole u e l xs ks =
+    let rs = l.same.roles in
+    let cs = l.same.commons in
+    sym (made_out u) ∙ (λ i. made (rs i) (cs i) (xs i) (ks i)) ∙ made_out e

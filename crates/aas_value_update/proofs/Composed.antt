@@ -1,5 +1,6 @@
 -- Two updates one after the other are one, by the second value laid over the first.
-use Rattle.std.proofs.Common.{◌≡◌, ◌↔◌, Bool, true, List, [], ◌∷◌, Option, Some, None, option_map, refl, sym, ap, ◌∙◌, subst}
+use Rattle.std.proofs.Common.{◌≡◌, ◌↔◌, Bool, true, List, [], ◌∷◌, Option, Some, None, option_map, refl, sym, ap}
+use Rattle.std.proofs.Common.{◌∙◌, subst}
 use Rattle.std.proofs.lemmas.Option.{same_Some}
 use Rattle.serde_json.specs.Data.{Data}
 use Rattle.aas_json_spelling.specs.Values.{IsOrdered}
@@ -21,7 +22,8 @@ use Rattle.aas_value_update.specs.Update.{IsElementUpdate, IsUpdateAt, IsSubmode
 use Rattle.aas_value_update.proofs.Again.{element_again}
 use Rattle.aas_value_update.proofs.Alone.{level}
 use Rattle.aas_value_update.proofs.Elements.{child_is}
-use Rattle.aas_value_update.proofs.Entire.{entire, entire_child, lay_entire, fits_entire, joins_entire, fits_shape, shape_fits}
+use Rattle.aas_value_update.proofs.Entire.{entire, entire_child, lay_entire, fits_entire, joins_entire}
+use Rattle.aas_value_update.proofs.Entire.{fits_shape, shape_fits}
 use Rattle.aas_value_update.proofs.OneUpdate.{names_alike}
 use Rattle.aas_value_update.proofs.Order.{body_order, order_at}
 use Rattle.aas_value_update.proofs.Rest.{left_alone_is}
@@ -38,11 +40,14 @@ laid_twice : (e : Element) (v w f : Data) → IsInOrder e → IsOrdered v → Is
     → value_form extent.WithBlobValue e ≡ Some f
     → lay e (lay e f v) w ≡ lay e f (lay e v w)
 laid_twice e v w f order first second a b is =
-    subst (λ (g : Data → Data → Data). g (g f v) w ≡ g f (g v w)) (sym (lay_entire e e order.names refl)) (by_form (entire e).lay
-    (entire_child e) ((joins_entire e order.names).twice v w (fits_shape e v order.names first a) (fits_shape e w order.names second b)))
+    subst (λ (g : Data → Data → Data). g (g f v) w ≡ g f (g v w))
+    (sym (lay_entire e e order.names refl)) (by_form (entire e).lay
+    (entire_child e)
+    ((joins_entire e order.names).twice v w (fits_shape e v order.names first a) (fits_shape e w order.names second b)))
   where
     by_form : (g : Data → Data → Data) → (entire e).child ≡ (part_of e).child
-        → over g (over g (entire e).child.form (Some v)) (Some w) ≡ over g (entire e).child.form (Some (g v w)) → g (g f v) w ≡ g f (g v w)
+        → over g (over g (entire e).child.form (Some v)) (Some w) ≡ over g (entire e).child.form (Some (g v w))
+        → g (g f v) w ≡ g f (g v w)
     by_form g child twice =
         let form : (entire e).child.form ≡ Some f = ap (λ (c : Child). c.form) (child ∙ child_is e) ∙ is in
         let same : Some (g (g f v) w) ≡ Some (g f (g v w)) =
@@ -63,15 +68,19 @@ is_like e u v order a =
     record {
       names = names;
       lays = lay_entire u u names refl ∙ sym (lay_entire e u order.names a.metadata);
-      there = λ w ordered shape. shape_fits e w order.names (ap (λ (t : Data → Bool). t w) fits ∙ fits_shape u w names ordered shape);
-      back = λ w ordered shape. shape_fits u w names (sym (ap (λ (t : Data → Bool). t w) fits) ∙ fits_shape e w order.names ordered shape);
+      there = λ w ordered shape.
+          shape_fits e w order.names (ap (λ (t : Data → Bool). t w) fits ∙ fits_shape u w names ordered shape);
+      back = λ w ordered shape.
+          shape_fits u w names (sym (ap (λ (t : Data → Bool). t w) fits) ∙ fits_shape e w order.names ordered shape);
     }
 
 -- the form after the second value is that after both
-form_after : (e u : Element) (v w : Data) → IsInOrder e → IsOrdered v → IsOrdered w → IsElementUpdate e v u → HasShape e w
+form_after : (e u : Element) (v w : Data)
+    → IsInOrder e → IsOrdered v → IsOrdered w → IsElementUpdate e v u → HasShape e w
     → option_map (λ f. lay u f w) (value_form extent.WithBlobValue u)
     ≡ option_map (λ f. lay e f (lay e v w)) (value_form extent.WithBlobValue e)
-form_after e u v w order first second a shape = ap (option_map (λ f. lay u f w)) a.form ∙ by_form (value_form extent.WithBlobValue e) refl
+form_after e u v w order first second a shape =
+    ap (option_map (λ f. lay u f w)) a.form ∙ by_form (value_form extent.WithBlobValue e) refl
   where
     by_form : (o : Option Data) → value_form extent.WithBlobValue e ≡ o
         → option_map (λ f. lay u f w) (option_map (λ f. lay e f v) o) ≡ option_map (λ f. lay e f (lay e v w)) o
@@ -104,18 +113,24 @@ updates_compose e u x v w order first second a =
 -- ---- in a submodel
 
 -- the path leads to the updated element, and a further one takes its place
-record IsAgain (d u : Submodel) (p : List PathStep) (w : Element) : Type 0 where
-  found : element_at u p ≡ Some w
-  outside : (z : Element) → with_element u p z ≡ with_element d p z
+pub record IsAgain (d u : Submodel) (p : List PathStep) (w : Element) : Type 0 where
+  pub found : element_at u p ≡ Some w
+  pub outside : (z : Element) → with_element u p z ≡ with_element d p z
 
-again : (d u : Submodel) (p : List PathStep) (v : Data) → IsValid (submodel d) → (a : IsUpdateAt d p v u) → IsAgain d u p a.new
+pub again : (d u : Submodel) (p : List PathStep) (v : Data)
+    → IsValid (submodel d) → (a : IsUpdateAt d p v u) → IsAgain d u p a.new
 again d u p v valid a =
-    let rest = left_alone_is a.old a.new (order_at d p a.old valid a.found).placed a.update.metadata a.update.operations in
+    let rest =
+    left_alone_is a.old a.new (order_at d p a.old valid a.found).placed a.update.metadata a.update.operations in
     let name = ap (λ (c : Common). c.id_short) (level a.new a.old rest).same.commons in
     let both = element_again a.old a.new name d p a.found in
-    record { found = ap (λ z. element_at z p) a.outside ∙ both.0; outside = λ z. ap (λ y. with_element y p z) a.outside ∙ both.1 z }
+    record {
+      found = ap (λ z. element_at z p) a.outside ∙ both.0;
+      outside = λ z. ap (λ y. with_element y p z) a.outside ∙ both.1 z;
+    }
 
-at_path : (d u x : Submodel) (p : List PathStep) (e : Element) (v w : Data) → IsValid (submodel d) → IsOrdered v → IsOrdered w
+at_path : (d u x : Submodel) (p : List PathStep) (e : Element) (v w : Data)
+    → IsValid (submodel d) → IsOrdered v → IsOrdered w
     → element_at d p ≡ Some e → IsUpdateAt d p v u → IsUpdateAt u p w x ↔ (HasShape e w × IsUpdateAt d p (lay e v w) x)
 at_path d u x p e v w valid first second there a =
     let after = again d u p v valid a in
@@ -123,8 +138,10 @@ at_path d u x p e v w valid first second there a =
     let both = λ (z : Element). updates_compose e a.new z v w (order_at d p e valid there) first second old in (
       λ b.
           let news = same_Some b.old a.new (sym b.found ∙ after.found) in
-          let one = (both b.new).0 (subst (λ z. IsElementUpdate z w b.new) news b.update) in
-          (one.0, record { old = e; new = b.new; found = there; update = one.1; outside = b.outside ∙ after.outside b.new }),
+          let one = (both b.new).0 (subst (λ z. IsElementUpdate z w b.new) news b.update) in (
+            one.0,
+            record { old = e; new = b.new; found = there; update = one.1; outside = b.outside ∙ after.outside b.new },
+          ),
       λ b.
           let same = same_Some b.1.old e (sym b.1.found ∙ there) in
           record {
@@ -147,5 +164,7 @@ of_body d u x e v w valid first second is a =
     ))
 
 pub value_updates_compose : ValueUpdatesCompose
-value_updates_compose d u x [] e v w valid first second there a = of_body d u x e v w valid first second (same_Some (body d) e there) a
-value_updates_compose d u x (s ∷ p) e v w valid first second there a = at_path d u x (s ∷ p) e v w valid first second there a
+value_updates_compose d u x [] e v w valid first second there a =
+    of_body d u x e v w valid first second (same_Some (body d) e there) a
+value_updates_compose d u x (s ∷ p) e v w valid first second there a =
+    at_path d u x (s ∷ p) e v w valid first second there a

@@ -21,7 +21,8 @@ use Rattle.aas_value_update.specs.LeftAlone.{Left, left_over, left_alone}
 
 -- ---- elements as parts
 
-pub part_at : (r : Role) (c : Common) (x : Payload) (ks : List Element) → part_of (made r c x ks) ≡ child_part c.id_short (form_of x (map part_of ks))
+pub part_at : (r : Role) (c : Common) (x : Payload) (ks : List Element)
+    → part_of (made r c x ks) ≡ child_part c.id_short (form_of x (map part_of ks))
 unfolding part_of
 part_at r c x ks = fold-roll-Element Part part_over (record { common = c; payload = x; role = r; kids = ks })
 
@@ -30,8 +31,10 @@ pub part_out : (e : Element) → part_of e
 part_out e = let x = out-Element e in ap part_of (sym (made_out e)) ∙ part_at x.role x.common x.payload x.kids
 
 pub child_at : (r : Role) (c : Common) (x : Payload) (ks : List Element)
-    → child_of extent.WithBlobValue (made r c x ks) ≡ record { name = c.id_short; form = value_over extent.WithBlobValue x (map (child_of extent.WithBlobValue) ks) }
-child_at r c x ks = fold-roll-Element Child (as_child extent.WithBlobValue) (record { common = c; payload = x; role = r; kids = ks })
+    → child_of extent.WithBlobValue (made r c x ks)
+    ≡ record { name = c.id_short; form = value_over extent.WithBlobValue x (map (child_of extent.WithBlobValue) ks) }
+child_at r c x ks =
+    fold-roll-Element Child (as_child extent.WithBlobValue) (record { common = c; payload = x; role = r; kids = ks })
 
 -- the parts of a kind make its value form
 pub value_is : (x : Payload) (xs : List Part) → value (form_of x xs) ≡ value_over extent.WithBlobValue x (children xs)
@@ -51,7 +54,8 @@ value_is p.Operation xs = refl
 value_is p.SubmodelElementCollection xs = refl
 value_is (p.SubmodelElementList o s t v) xs = refl
 
-children_are : (ks : List Element) → Each (λ k. (part_of k).child ≡ child_of extent.WithBlobValue k) ks → children (map part_of ks) ≡ map (child_of extent.WithBlobValue) ks
+children_are : (ks : List Element) → Each (λ k. (part_of k).child ≡ child_of extent.WithBlobValue k) ks
+    → children (map part_of ks) ≡ map (child_of extent.WithBlobValue) ks
 children_are [] e = refl
 children_are (k ∷ ks) e = ap₂ (λ c cs. c ∷ cs) e.0 (children_are ks e.1)
 
@@ -59,7 +63,8 @@ children_are (k ∷ ks) e = ap₂ (λ c cs. c ∷ cs) e.0 (children_are ks e.1)
 pub child_is : (e : Element) → (part_of e).child ≡ child_of extent.WithBlobValue e
 child_is = by_children (λ e. (part_of e).child ≡ child_of extent.WithBlobValue e) (λ r c x ks each.
     ap (λ y. y.child) (part_at r c x ks)
-    ∙ ap (λ (f : Option Data). record { name = c.id_short; form = f }) (value_is x (map part_of ks) ∙ ap (value_over extent.WithBlobValue x) (children_are ks each))
+    ∙ ap (λ (f : Option Data). record { name = c.id_short; form = f })
+    (value_is x (map part_of ks) ∙ ap (value_over extent.WithBlobValue x) (children_are ks each))
     ∙ sym (child_at r c x ks))
 
 -- ---- what is left alone
@@ -69,21 +74,25 @@ left_element = by_children (λ e. (fold-Element Left left_over e).element ≡ e)
     ap (λ l. l.element) (fold-roll-Element Left left_over (record { common = c; payload = x; role = r; kids = ks }))
     ∙ ap (made r c x) (all ks each))
   where
-    all : (ks : List Element) → Each (λ e. (fold-Element Left left_over e).element ≡ e) ks → map (λ l. l.element) (map (fold-Element Left left_over) ks) ≡ ks
+    all : (ks : List Element) → Each (λ e. (fold-Element Left left_over e).element ≡ e) ks
+        → map (λ l. l.element) (map (fold-Element Left left_over) ks) ≡ ks
     all [] e = refl
     all (k ∷ ks) e = ap₂ (λ c cs. c ∷ cs) e.0 (all ks e.1)
 
 abbrev pub kids_alone : Payload → List Element → List Element
 kids_alone x ks = if shows_children x then map left_alone ks else ks
 
-by_test : (b : Bool) (ks : List Element) → map (λ (k : Left). if b then k.alone else k.element) (map (fold-Element Left left_over) ks) ≡ (if b then map left_alone ks else ks)
+by_test : (b : Bool) (ks : List Element)
+    → map (λ (k : Left). if b then k.alone else k.element) (map (fold-Element Left left_over) ks)
+    ≡ (if b then map left_alone ks else ks)
 unfolding left_alone
 by_test true [] = refl
 by_test true (k ∷ ks) = ap (λ cs. (fold-Element Left left_over k).alone ∷ cs) (by_test true ks)
 by_test false [] = refl
 by_test false (k ∷ ks) = ap₂ (λ c cs. c ∷ cs) (left_element k) (by_test false ks)
 
-pub alone_at : (r : Role) (c : Common) (x : Payload) (ks : List Element) → left_alone (made r c x ks) ≡ made r c (without_values x) (kids_alone x ks)
+pub alone_at : (r : Role) (c : Common) (x : Payload) (ks : List Element)
+    → left_alone (made r c x ks) ≡ made r c (without_values x) (kids_alone x ks)
 unfolding left_alone
 alone_at r c x ks =
     ap (λ l. l.alone) (fold-roll-Element Left left_over (record { common = c; payload = x; role = r; kids = ks }))

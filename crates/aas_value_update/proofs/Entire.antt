@@ -1,6 +1,6 @@
 -- Elements as parts that only what fits them and all below them may be sent for.
-use Rattle.std.proofs.Common.{◌≡◌, ℕ, zero, suc, true, List, [], ◌∷◌, map, Option, Some, None, is_some, slice_get, refl, sym, ap, ap₂, ◌∙◌}
-use Rattle.std.proofs.Common.{subst}
+use Rattle.std.proofs.Common.{◌≡◌, ℕ, zero, suc, true, List, [], ◌∷◌, map, Option, Some, None, is_some, slice_get, refl}
+use Rattle.std.proofs.Common.{sym, ap, ap₂, ◌∙◌, subst}
 use Rattle.serde_json.specs.Data.{Data}
 use Rattle.aas_json_mapping.proofs.Elements.{made, by_children}
 use Rattle.aas_json_spelling.specs.Lists.{Each}
@@ -24,7 +24,8 @@ use Rattle.aas_value_update.proofs.OneForm.{apart_in}
 use Rattle.aas_value_update.proofs.Order.{names_below}
 use Rattle.aas_value_update.proofs.Own.{ApartIn}
 use Rattle.aas_value_update.proofs.Pairs.{Pairs, put_together, AreParts, elements_are_parts, children_same, related}
-use Rattle.aas_value_update.proofs.SameParts.{SameFit, fits_same, same_fit_parts, SameLay, same_lay_forms, same_lay_parts}
+use Rattle.aas_value_update.proofs.SameParts.{SameFit, fits_same, same_fit_parts, SameLay}
+use Rattle.aas_value_update.proofs.SameParts.{same_lay_forms, same_lay_parts}
 use Rattle.aas_value_update.proofs.Sent.{IfOrdered, sent_ordered, IfShaped, AreShaped, shape_out, shape_from}
 
 abbrev entire_over : Element-F Part → Part
@@ -34,7 +35,8 @@ entire_over e = part e.common.id_short (form_of e.payload e.kids)
 pub entire : Element → Part
 entire = fold-Element Part entire_over
 
-pub entire_out : (e : Element) → entire e ≡ part (id_short_of e) (form_of (out-Element e).payload (map entire (kids_of e)))
+pub entire_out : (e : Element)
+    → entire e ≡ part (id_short_of e) (form_of (out-Element e).payload (map entire (kids_of e)))
 unfolding entire
 entire_out e = fold_out-Element Part entire_over e
 
@@ -44,11 +46,13 @@ pub entire_child : (e : Element) → (entire e).child ≡ (part_of e).child
 entire_child = by_children (λ e. (entire e).child ≡ (part_of e).child) (λ r c x ks each.
     level (made r c x ks) (subst (Each (λ e. (entire e).child ≡ (part_of e).child)) (sym (kids_made r c x ks)) each))
   where
-    all : (ks : List Element) → Each (λ e. (entire e).child ≡ (part_of e).child) ks → children (map entire ks) ≡ children (map part_of ks)
+    all : (ks : List Element) → Each (λ e. (entire e).child ≡ (part_of e).child) ks
+        → children (map entire ks) ≡ children (map part_of ks)
     all [] each = refl
     all (k ∷ ks) each = ap₂ (λ c cs. c ∷ cs) each.0 (all ks each.1)
 
-    level : (e : Element) → Each (λ k. (entire k).child ≡ (part_of k).child) (kids_of e) → (entire e).child ≡ (part_of e).child
+    level : (e : Element)
+        → Each (λ k. (entire k).child ≡ (part_of k).child) (kids_of e) → (entire e).child ≡ (part_of e).child
     level e each =
         let x = (out-Element e).payload in
         ap (λ (y : Part). y.child) (entire_out e)
@@ -69,16 +73,19 @@ lay_entire e u names differ =
 
 pub fits_entire : (e u : Element) → NamesDiffer e → DifferInValues e u → (entire e).fits ≡ (entire u).fits
 fits_entire e u names differ =
-    (related SameFit same_fit_parts entire entire part part entire_parts entire_parts same_fit_parts.named e u names differ).same
+    (related SameFit same_fit_parts entire entire part part entire_parts
+    entire_parts same_fit_parts.named e u names differ).same
 
 pub joins_entire : (e : Element) → NamesDiffer e → PartJoins (entire e)
 joins_entire e names =
-    related (λ x y. PartJoins x) joining_parts entire entire part part entire_parts entire_parts joining_parts.named e e names refl
+    related (λ x y. PartJoins x) joining_parts entire entire part part
+    entire_parts entire_parts joining_parts.named e e names refl
 
 -- ---- the shape
 
 -- an element's own part of a value, however its children are judged
-own_part : (e : Element) → NamesDiffer e → (v : Data) → fits_form (form_of (out-Element e).payload (map part_of (kids_of e))) v
+own_part : (e : Element) → NamesDiffer e → (v : Data)
+    → fits_form (form_of (out-Element e).payload (map part_of (kids_of e))) v
     ≡ fits_form (form_of (out-Element e).payload (map opened (map entire (kids_of e)))) v
 unfolding element_in
 own_part e names v =
@@ -101,7 +108,8 @@ own_part e names v =
 
 -- v has the shape of e exactly where it fits, if the names in it rise
 Shapes : Element → Type 0
-Shapes e = (v : Data) → NamesDiffer e → (IsOrdered v → HasShape e v → (entire e).fits v ≡ true) × ((entire e).fits v ≡ true → HasShape e v)
+Shapes e = (v : Data) → NamesDiffer e
+    → (IsOrdered v → HasShape e v → (entire e).fits v ≡ true) × ((entire e).fits v ≡ true → HasShape e v)
 
 kids_fit : (ks : List Element) (ss : List (Option Data)) → Each Shapes ks
     → ((i : ℕ) (k : Element) → slice_get ks i ≡ Some k → NamesDiffer k) → Each IfOrdered ss → AreShaped ks ss
@@ -117,11 +125,13 @@ kids_fit (k ∷ ks) (s ∷ ss) each names order shaped =
     by_sent (Some d) order shaped = (each.0 d (names zero k refl)).0 order shaped
 
 kids_shaped : (ks : List Element) (ss : List (Option Data)) → Each Shapes ks
-    → ((i : ℕ) (k : Element) → slice_get ks i ≡ Some k → NamesDiffer k) → AreFitting (map entire ks) ss → AreShaped ks ss
+    → ((i : ℕ) (k : Element) → slice_get ks i ≡ Some k → NamesDiffer k)
+    → AreFitting (map entire ks) ss → AreShaped ks ss
 unfolding Shapes
 kids_shaped [] ss each names fits = tt
 kids_shaped (k ∷ ks) [] each names fits = tt
-kids_shaped (k ∷ ks) (s ∷ ss) each names fits = (by_sent s fits.0, kids_shaped ks ss each.1 (λ i m. names (suc i) m) fits.1)
+kids_shaped (k ∷ ks) (s ∷ ss) each names fits =
+    (by_sent s fits.0, kids_shaped ks ss each.1 (λ i m. names (suc i) m) fits.1)
   where
     by_sent : (s : Option Data) → fits_if (entire k).fits s ≡ true → IfShaped k s
     by_sent None fits = tt
@@ -146,13 +156,16 @@ level_shapes e each v names =
           let both = level_to x xs v apart (sym all ∙ fits) in
           shape_from e v (record {
             own = own_part e names v ∙ both.0;
-            kids = kids_shaped ks (sent x (children (map part_of ks)) v) each below (subst (λ cs. AreFitting xs (sent x cs v)) same both.1);
+            kids =
+                kids_shaped ks (sent x (children (map part_of ks)) v) each below
+                (subst (λ cs. AreFitting xs (sent x cs v)) same both.1);
           }),
     )
 
 shapes : (e : Element) → Shapes e
 unfolding Shapes
-shapes = by_children Shapes (λ r c x ks each. level_shapes (made r c x ks) (subst (Each Shapes) (sym (kids_made r c x ks)) each))
+shapes = by_children Shapes (λ r c x ks each.
+    level_shapes (made r c x ks) (subst (Each Shapes) (sym (kids_made r c x ks)) each))
 
 pub fits_shape : (e : Element) (v : Data) → NamesDiffer e → IsOrdered v → HasShape e v → (entire e).fits v ≡ true
 unfolding Shapes

@@ -1,7 +1,7 @@
--- A value fits the form of an element, each part with its own form, exactly where its own part fits and what is sent for each
--- child fits that child.
-use Rattle.std.proofs.Common.{◌≡◌, ℕ, Bool, true, false, ◌&&◌, List, [], ◌∷◌, map, codes, Option, Some, None, is_some, option_and_then}
-use Rattle.std.proofs.Common.{refl, sym, ap, ◌∙◌, subst, true≢false}
+-- A value fits the form of an element, each part with its own form, exactly where its own part fits and what is sent
+-- for each child fits that child.
+use Rattle.std.proofs.Common.{◌≡◌, ℕ, Bool, true, false, ◌&&◌, List, [], ◌∷◌, map, codes, Option, Some, None, is_some}
+use Rattle.std.proofs.Common.{option_and_then, refl, sym, ap, ◌∙◌, subst, true≢false}
 use Rattle.std.specs.Prelude.{bytes_eq, if◌then◌else◌}
 use Rattle.std.specs.Str.{encode_utf8_all}
 use Rattle.std.proofs.lemmas.Bool.{and_from}
@@ -13,9 +13,10 @@ use Rattle.aas_json_spelling.specs.Values.{IsOrdered}
 use Rattle.aas_model.specs.declared.payload.Payload.{Payload}
 use Rattle.aas_model.specs.declared.payload.Payload.TheVariants as p
 use Rattle.aas_value_update.specs.Kinds.{form_of}
-use Rattle.aas_value_update.specs.Parts.{Part, object_of, list_of, entries_of, is_called, by_name, children, entry, members_fit}
-use Rattle.aas_value_update.specs.Parts.{items_fit, fits_if, entries_fit, fits_form}
-use Rattle.aas_value_update.specs.Shape.{under_name, by_names, next_item, in_turn, by_entries, items_in, nothing_sent, if_sent, sent}
+use Rattle.aas_value_update.specs.Parts.{Part, object_of, list_of, entries_of, is_called, by_name, children, entry}
+use Rattle.aas_value_update.specs.Parts.{members_fit, items_fit, fits_if, entries_fit, fits_form}
+use Rattle.aas_value_update.specs.Shape.{under_name, by_names, next_item, in_turn, by_entries, items_in, nothing_sent}
+use Rattle.aas_value_update.specs.Shape.{if_sent, sent}
 use Rattle.aas_value_update.proofs.Canonical.{order_rises}
 use Rattle.aas_value_update.proofs.Laid.{sent_fits, fits_named, fits_first}
 use Rattle.aas_value_update.proofs.Members.{Rises, absent, same_name, name_itself, get_here, get_past}
@@ -42,18 +43,22 @@ nothing_fits (x ∷ xs) = (refl, nothing_fits xs)
 
 -- what fits x under the name n fits y
 abbrev Allows : List ℕ → Data → Part → Part → Type 0
-Allows n d x y = (is_called n x.child ≡ is_called n y.child) × (is_called n x.child ≡ true → x.fits d ≡ true → y.fits d ≡ true)
+Allows n d x y =
+    (is_called n x.child ≡ is_called n y.child) × (is_called n x.child ≡ true → x.fits d ≡ true → y.fits d ≡ true)
 
-by_name_allows : (n : List ℕ) (d : Data) (xs ys : List Part) → Pairs (Allows n d) xs ys → (t s : Data → Bool) → (t d ≡ true → s d ≡ true)
+by_name_allows : (n : List ℕ) (d : Data) (xs ys : List Part)
+    → Pairs (Allows n d) xs ys → (t s : Data → Bool) → (t d ≡ true → s d ≡ true)
     → by_name n (λ x. x.fits) xs t d ≡ true → by_name n (λ x. x.fits) ys s d ≡ true
 by_name_allows n d [] [] pairs t s allows fits = allows fits
 by_name_allows n d [] (y ∷ ys) pairs t s allows fits = absurd pairs
 by_name_allows n d (x ∷ xs) [] pairs t s allows fits = absurd pairs
 by_name_allows n d (x ∷ xs) (y ∷ ys) pairs t s allows fits =
-    by_name_allows n d xs ys pairs.1 (if is_called n x.child then x.fits else t) (if is_called n y.child then y.fits else s)
+    by_name_allows n d xs ys pairs.1 (if is_called n x.child then x.fits else t)
+    (if is_called n y.child then y.fits else s)
     (by_test (is_called n x.child) refl (is_called n y.child) pairs.0.0) fits
   where
-    by_test : (b : Bool) → is_called n x.child ≡ b → (c : Bool) → is_called n x.child ≡ c → (if b then x.fits else t) d ≡ true
+    by_test : (b : Bool) → is_called n x.child ≡ b → (c : Bool)
+        → is_called n x.child ≡ c → (if b then x.fits else t) d ≡ true
         → (if c then y.fits else s) d ≡ true
     by_test true is true same passes = pairs.0.1 is passes
     by_test true is false same passes = absurd (true≢false (sym is ∙ same))
@@ -61,26 +66,31 @@ by_name_allows n d (x ∷ xs) (y ∷ ys) pairs t s allows fits =
     by_test false is false same passes = allows passes
 
 -- whatever stands under a name
-members_allow : (xs ys : List Part) → ((n : List ℕ) (d : Data) → Pairs (Allows n d) xs ys) → (ms : Members) → members_fit xs ms ≡ true
+members_allow : (xs ys : List Part)
+    → ((n : List ℕ) (d : Data) → Pairs (Allows n d) xs ys) → (ms : Members) → members_fit xs ms ≡ true
     → members_fit ys ms ≡ true
 members_allow xs ys pairs no_members fits = refl
 members_allow xs ys pairs (member n d ms) fits =
     and_from _ _ (by_name_allows n d xs ys (pairs n d) (λ e. false) (λ e. false) (λ e. e) (and_left _ _ fits))
     (members_allow xs ys pairs ms (and_right _ _ fits))
 
-each_fits : (xs : List Part) (ms : Members) → Rises ms → ((n : List ℕ) (d : Data) → get_member n ms ≡ Some d → fits_named n xs d ≡ true)
+each_fits : (xs : List Part) (ms : Members)
+    → Rises ms → ((n : List ℕ) (d : Data) → get_member n ms ≡ Some d → fits_named n xs d ≡ true)
     → members_fit xs ms ≡ true
 each_fits xs no_members rises each = refl
 each_fits xs (member k d ms) rises each =
     and_from _ _ (each k d (get_here k k d ms (name_itself k)))
     (each_fits xs ms rises.1 (λ n e there. by_test n e there (bytes_eq n k) refl))
   where
-    by_test : (n : List ℕ) (e : Data) → get_member n ms ≡ Some e → (b : Bool) → bytes_eq n k ≡ b → fits_named n xs e ≡ true
-    by_test n e there true is = absurd (none-some e (sym (ap (λ m. get_member m ms) (same_name n k is) ∙ absent k ms rises.0) ∙ there))
+    by_test : (n : List ℕ) (e : Data) → get_member n ms ≡ Some e → (b : Bool)
+        → bytes_eq n k ≡ b → fits_named n xs e ≡ true
+    by_test n e there true is =
+        absurd (none-some e (sym (ap (λ m. get_member m ms) (same_name n k is) ∙ absent k ms rises.0) ∙ there))
     by_test n e there false is = each n e (get_past n k d ms is ∙ there)
 
 -- what stands under it, where names rise
-sent_allow : (xs ys : List Part) (ms : Members) → Rises ms → ((n : List ℕ) (d : Data) → get_member n ms ≡ Some d → Pairs (Allows n d) xs ys)
+sent_allow : (xs ys : List Part) (ms : Members)
+    → Rises ms → ((n : List ℕ) (d : Data) → get_member n ms ≡ Some d → Pairs (Allows n d) xs ys)
     → members_fit xs ms ≡ true → members_fit ys ms ≡ true
 sent_allow xs ys ms rises pairs fits = each_fits ys ms rises (λ n d there.
     by_name_allows n d xs ys (pairs n d there) (λ e. false) (λ e. false) (λ e. e) (sent_fits n xs ms d fits there))
@@ -91,11 +101,13 @@ opened_allow n d (x ∷ xs) = ((refl, λ is fits. refl), opened_allow n d xs)
 
 -- ---- an object of parts
 
-under_called : (n : List ℕ) (ms : Members) (o : Option (List ℕ)) (f : Option Data) → is_called n (record { name = o; form = f }) ≡ true
+under_called : (n : List ℕ) (ms : Members) (o : Option (List ℕ)) (f : Option Data)
+    → is_called n (record { name = o; form = f }) ≡ true
     → under_name (object ms) (record { name = o; form = f }) ≡ get_member n ms
 under_called n ms None f is = absurd (true≢false (sym is))
 under_called n ms (Some m) None is = absurd (true≢false (sym (and_right _ _ is)))
-under_called n ms (Some m) (Some d) is = ap (λ k. get_member k ms) (sym (same_name n (encode_utf8_all m) (and_left _ _ is)))
+under_called n ms (Some m) (Some d) is =
+    ap (λ k. get_member k ms) (sym (same_name n (encode_utf8_all m) (and_left _ _ is)))
 
 sent_pairs : (n : List ℕ) (d : Data) (ms : Members) → get_member n ms ≡ Some d → (xs : List Part)
     → AreFitting xs (by_names (children xs) (object ms)) → Pairs (Allows n d) (map opened xs) xs
@@ -113,11 +125,15 @@ new_name n f (x ∷ xs) new z =
     ∙ ap (λ b. if b then f x else z) (not_called n x.child.name x.child.form new.0)
 
 -- of parts that differ in names the last of a name is the only one
-own_fits : (n : List ℕ) (x : Part) (xs : List Part) (t : Data → Bool) (d : Data) → x.child.name ≡ Some n → IsNew n (children xs)
+own_fits : (n : List ℕ) (x : Part) (xs : List Part) (t : Data → Bool) (d : Data)
+    → x.child.name ≡ Some n → IsNew n (children xs)
     → is_some x.child.form ≡ true
-    → by_name (encode_utf8_all n) (λ y. y.fits) xs (if is_called (encode_utf8_all n) x.child then x.fits else t) d ≡ true → x.fits d ≡ true
+    → by_name (encode_utf8_all n) (λ y. y.fits) xs (if is_called (encode_utf8_all n) x.child then x.fits else t) d
+    ≡ true
+    → x.fits d ≡ true
 own_fits n x xs t d name new there fits =
-    sym (ap (λ (f : Data → Bool). f d) (new_name n (λ y. y.fits) xs new (if is_called (encode_utf8_all n) x.child then x.fits else t))
+    sym (ap (λ (f : Data → Bool). f d)
+    (new_name n (λ y. y.fits) xs new (if is_called (encode_utf8_all n) x.child then x.fits else t))
     ∙ ap (λ b. (if b then x.fits else t) d) (called_itself n x.child.name x.child.form name there))
     ∙ fits
 
@@ -134,10 +150,12 @@ names_fit ms (x ∷ xs) apart t fits =
     by_found : (n : List ℕ) → x.child.name ≡ Some n → IsNew n (children xs) → is_some x.child.form ≡ true
         → (s : Option Data) → get_member (encode_utf8_all n) ms ≡ s → fits_if x.fits s ≡ true
     by_found n name new there None is = refl
-    by_found n name new there (Some d) is = own_fits n x xs (t (encode_utf8_all n)) d name new there (fits (encode_utf8_all n) d is)
+    by_found n name new there (Some d) is =
+        own_fits n x xs (t (encode_utf8_all n)) d name new there (fits (encode_utf8_all n) d is)
 
     by_form : (n : List ℕ) → x.child.name ≡ Some n → IsNew n (children xs) → (b : Bool) → is_some x.child.form ≡ b
-        → fits_if x.fits (if b then option_and_then (λ m. get (encode_utf8_all m) (object ms)) x.child.name else None) ≡ true
+        → fits_if x.fits (if b then option_and_then (λ m. get (encode_utf8_all m) (object ms)) x.child.name else None)
+        ≡ true
     by_form n name new false there = refl
     by_form n name new true there =
         ap (λ o. fits_if x.fits (option_and_then (λ m. get (encode_utf8_all m) (object ms)) o)) name
@@ -159,7 +177,8 @@ object_to xs (object ms) apart fits = (
 )
 object_to xs v apart fits = absurd (true≢false (sym fits))
 
-items_from : (xs : List Part) (ds : Items) → items_fit (map opened xs) ds ≡ true → AreFitting xs (in_turn (children xs) ds)
+items_from : (xs : List Part) (ds : Items)
+    → items_fit (map opened xs) ds ≡ true → AreFitting xs (in_turn (children xs) ds)
     → items_fit xs ds ≡ true
 items_from [] ds own fits = own
 items_from (x ∷ xs) ds own fits = by_form (is_some x.child.form) ds own fits (λ es. items_from xs es)
@@ -167,7 +186,8 @@ items_from (x ∷ xs) ds own fits = by_form (is_some x.child.form) ds own fits (
     by_form : (b : Bool) (ds : Items)
         → fits_first b (λ d. true) (items_fit (map opened xs)) ds ≡ true
         → AreFitting (x ∷ xs) (if b then next_item (in_turn (children xs)) ds else None ∷ in_turn (children xs) ds)
-        → ((es : Items) → items_fit (map opened xs) es ≡ true → AreFitting xs (in_turn (children xs) es) → items_fit xs es ≡ true)
+        → ((es : Items)
+        → items_fit (map opened xs) es ≡ true → AreFitting xs (in_turn (children xs) es) → items_fit xs es ≡ true)
         → fits_first b x.fits (items_fit xs) ds ≡ true
     by_form true no_items own fits more = absurd (true≢false (sym own))
     by_form true (item d ds) own fits more = and_from _ _ fits.0 (more ds own fits.1)
@@ -179,14 +199,18 @@ items_to [] ds fits = (fits, tt)
 items_to (x ∷ xs) ds fits = by_form (is_some x.child.form) ds fits (λ es. items_to xs es)
   where
     by_form : (b : Bool) (ds : Items) → fits_first b x.fits (items_fit xs) ds ≡ true
-        → ((es : Items) → items_fit xs es ≡ true → (items_fit (map opened xs) es ≡ true) × AreFitting xs (in_turn (children xs) es))
+        → ((es : Items)
+        → items_fit xs es ≡ true → (items_fit (map opened xs) es ≡ true) × AreFitting xs (in_turn (children xs) es))
         → (fits_first b (λ d. true) (items_fit (map opened xs)) ds ≡ true)
         × AreFitting (x ∷ xs) (if b then next_item (in_turn (children xs)) ds else None ∷ in_turn (children xs) ds)
     by_form true no_items fits more = absurd (true≢false (sym fits))
-    by_form true (item d ds) fits more = let rest = more ds (and_right _ _ fits) in (rest.0, (and_left _ _ fits, rest.1))
+    by_form true (item d ds) fits more =
+        let rest = more ds (and_right _ _ fits) in
+        (rest.0, (and_left _ _ fits, rest.1))
     by_form false ds fits more = let rest = more ds fits in (rest.0, (refl, rest.1))
 
-list_from : (xs : List Part) (v : Data) → fits_form (list_of (map opened xs)) v ≡ true → AreFitting xs (in_turn (children xs) (items_in v))
+list_from : (xs : List Part) (v : Data)
+    → fits_form (list_of (map opened xs)) v ≡ true → AreFitting xs (in_turn (children xs) (items_in v))
     → fits_form (list_of xs) v ≡ true
 list_from xs (array ds) own fits = items_from xs ds own fits
 list_from xs v own fits = absurd (true≢false (sym own))
@@ -196,10 +220,12 @@ list_to : (xs : List Part) (v : Data) → fits_form (list_of xs) v ≡ true
 list_to xs (array ds) fits = items_to xs ds fits
 list_to xs v fits = absurd (true≢false (sym fits))
 
-entries_from : (xs : List Part) (ds : Items) → entries_fit (map opened xs) ds ≡ true → AreFitting xs (by_entries (children xs) ds)
+entries_from : (xs : List Part) (ds : Items)
+    → entries_fit (map opened xs) ds ≡ true → AreFitting xs (by_entries (children xs) ds)
     → entries_fit xs ds ≡ true
 entries_from [] ds own fits = own
-entries_from (x ∷ xs) ds own fits = and_from _ _ fits.0 (entries_from xs (entry x.child ds).1 (and_right _ _ own) fits.1)
+entries_from (x ∷ xs) ds own fits =
+    and_from _ _ fits.0 (entries_from xs (entry x.child ds).1 (and_right _ _ own) fits.1)
 
 entries_to : (xs : List Part) (ds : Items) → entries_fit xs ds ≡ true
     → (entries_fit (map opened xs) ds ≡ true) × AreFitting xs (by_entries (children xs) ds)
@@ -225,11 +251,13 @@ annotations_to xs v fits = absurd (true≢false (sym fits))
 -- ---- kinds
 
 -- what stands under a form's name
-under_named : (m n : List ℕ) (ms : Members) (d : Data) → bytes_eq n m && true ≡ true → get_member n ms ≡ Some d → get_member m ms ≡ Some d
+under_named : (m n : List ℕ) (ms : Members) (d : Data)
+    → bytes_eq n m && true ≡ true → get_member n ms ≡ Some d → get_member m ms ≡ Some d
 under_named m n ms d is there = ap (λ k. get_member k ms) (sym (same_name n m (and_left _ _ is))) ∙ there
 
 -- where an element's own part fits, and so does what is sent for its children, the whole fits
-pub level_from : (x : Payload) (xs : List Part) (v : Data) → IsOrdered v → fits_form (form_of x (map opened xs)) v ≡ true
+pub level_from : (x : Payload) (xs : List Part) (v : Data)
+    → IsOrdered v → fits_form (form_of x (map opened xs)) v ≡ true
     → AreFitting xs (sent x (children xs) v)
     → fits_form (form_of x xs) v ≡ true
 unfolding lib.Utf8.encode
@@ -270,7 +298,8 @@ level_to (p.AnnotatedRelationshipElement a b) xs (object ms) apart fits =
     let f = form_of (p.AnnotatedRelationshipElement a b) in (
       members_allow (parts_in (f xs)) (parts_in (f (map opened xs)))
           (λ n d. ((refl, λ is e. (annotations_to xs d e).0), ((refl, λ is e. e), ((refl, λ is e. e), tt)))) ms fits,
-      by_sent (get_member (codes "annotations") ms) (λ d there. sent_fits (codes "annotations") (parts_in (f xs)) ms d fits there),
+      by_sent (get_member (codes "annotations") ms) (λ d there.
+          sent_fits (codes "annotations") (parts_in (f xs)) ms d fits there),
     )
   where
     by_sent : (s : Option Data) → ((d : Data) → s ≡ Some d → fits_form (entries_of xs) d ≡ true)
@@ -281,8 +310,13 @@ level_to (p.AnnotatedRelationshipElement a b) xs v apart fits = absurd (true≢f
 level_to (p.Entity t g ids) xs (object ms) apart fits =
     let f = form_of (p.Entity t g ids) in (
       members_allow (parts_in (f xs)) (parts_in (f (map opened xs)))
-          (λ n d. ((refl, λ is e. e), ((refl, λ is e. e), ((refl, λ is e. e), ((refl, λ is e. (object_to xs d apart e).0), tt))))) ms fits,
-      by_sent (get_member (codes "statements") ms) (λ d there. sent_fits (codes "statements") (parts_in (f xs)) ms d fits there),
+          (λ n d. (
+            (refl, λ is e. e),
+            ((refl, λ is e. e), ((refl, λ is e. e), ((refl, λ is e. (object_to xs d apart e).0), tt))),
+          ))
+          ms fits,
+      by_sent (get_member (codes "statements") ms) (λ d there.
+          sent_fits (codes "statements") (parts_in (f xs)) ms d fits there),
     )
   where
     by_sent : (s : Option Data) → ((d : Data) → s ≡ Some d → fits_form (object_of xs) d ≡ true)

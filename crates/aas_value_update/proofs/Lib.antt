@@ -6,6 +6,7 @@ pub mod Elements
 pub mod Entire
 pub mod Fitting
 pub mod Joined
+pub mod Judged
 pub mod Laid
 pub mod Members
 pub mod Named
@@ -14,6 +15,7 @@ pub mod OneUpdate
 pub mod Order
 pub mod Own
 pub mod Pairs
+pub mod Place
 pub mod Replaced
 pub mod Rest
 pub mod Rising

@@ -1,5 +1,7 @@
--- The law of one form: elements that an update could make of one another, and that have the same value form, are the same.
-use Rattle.std.proofs.Common.{◌≡◌, ℕ, zero, suc, Bool, true, false, List, [], ◌∷◌, map, Option, Some, None, IsSome, is_some, slice_get, refl, sym, ap, ap₂, ◌∙◌, subst}
+-- The law of one form: elements that an update could make of one another,
+-- and that have the same value form, are the same.
+use Rattle.std.proofs.Common.{◌≡◌, ℕ, zero, suc, Bool, true, false, List, [], ◌∷◌, map, Option, Some, None, IsSome}
+use Rattle.std.proofs.Common.{is_some, slice_get, refl, sym, ap, ap₂, ◌∙◌, subst}
 use Rattle.std.specs.Prelude.{if◌then◌else◌}
 use Rattle.serde_json.specs.Data.{Data}
 use Rattle.aas_model_names.specs.declared.modifiers.Extent.TheVariants as extent
@@ -32,23 +34,38 @@ form_there p.Capability cs = refl
 form_there p.Operation cs = refl
 form_there _ cs = refl
 
-pub child_made : (r : Role) (c : Common) (x : Payload) (ks : List Element) → (part_of (made r c x ks)).child ≡ record { name = c.id_short; form = value_over extent.WithBlobValue x (children (map part_of ks)) }
-child_made r c x ks = ap (λ y. y.child) (part_at r c x ks) ∙ ap (λ (f : Option Data). record { name = c.id_short; form = f }) (value_is x (map part_of ks))
+pub child_made : (r : Role) (c : Common) (x : Payload) (ks : List Element)
+    → (part_of (made r c x ks)).child
+    ≡ record { name = c.id_short; form = value_over extent.WithBlobValue x (children (map part_of ks)) }
+child_made r c x ks =
+    ap (λ y. y.child) (part_at r c x ks)
+    ∙ ap (λ (f : Option Data). record { name = c.id_short; form = f }) (value_is x (map part_of ks))
 
-pub child_out : (e : Element) → (part_of e).child ≡ record { name = id_short_of e; form = value_over extent.WithBlobValue (out-Element e).payload (children (map part_of (kids_of e))) }
-child_out e = let x = out-Element e in ap (λ z. (part_of z).child) (sym (made_out e)) ∙ child_made x.role x.common x.payload x.kids
+pub child_out : (e : Element)
+    → (part_of e).child ≡ record {
+      name = id_short_of e;
+      form = value_over extent.WithBlobValue (out-Element e).payload (children (map part_of (kids_of e)));
+    }
+child_out e =
+    let x = out-Element e in
+    ap (λ z. (part_of z).child) (sym (made_out e)) ∙ child_made x.role x.common x.payload x.kids
 
-pub heads : (u e : Element) → left_alone u ≡ left_alone e → ((part_of u).child.name ≡ (part_of e).child.name) × (is_some (part_of u).child.form ≡ is_some (part_of e).child.form)
+pub heads : (u e : Element) → left_alone u ≡ left_alone e
+    → ((part_of u).child.name ≡ (part_of e).child.name)
+    × (is_some (part_of u).child.form ≡ is_some (part_of e).child.form)
 heads u e h =
     let l = level u e h in
     let x = (out-Element u).payload in
     let y = (out-Element e).payload in (
-      ap (λ (c : Child). c.name) (child_out u) ∙ ap (λ (c : Common). c.id_short) l.same.commons ∙ sym (ap (λ (c : Child). c.name) (child_out e)),
-      ap (λ (c : Child). is_some c.form) (child_out u) ∙ form_there x _ ∙ sym (value_bare x) ∙ ap has_value l.same.payloads ∙ value_bare y ∙ sym (form_there y (children (map part_of (kids_of e))))
+      ap (λ (c : Child). c.name) (child_out u) ∙ ap (λ (c : Common). c.id_short) l.same.commons
+          ∙ sym (ap (λ (c : Child). c.name) (child_out e)),
+      ap (λ (c : Child). is_some c.form) (child_out u) ∙ form_there x _ ∙ sym (value_bare x)
+          ∙ ap has_value l.same.payloads ∙ value_bare y ∙ sym (form_there y (children (map part_of (kids_of e))))
           ∙ sym (ap (λ (c : Child). is_some c.form) (child_out e)),
     )
 
-pub alike_kids : (us ks : List Element) → map left_alone us ≡ map left_alone ks → Alike (children (map part_of us)) (children (map part_of ks))
+pub alike_kids : (us ks : List Element)
+    → map left_alone us ≡ map left_alone ks → Alike (children (map part_of us)) (children (map part_of ks))
 alike_kids [] [] e = tt
 alike_kids [] (k ∷ ks) e = cc
 alike_kids (u ∷ us) [] e = cc
@@ -62,7 +79,9 @@ alike_kids (u ∷ us) (k ∷ ks) e =
 name_is : (e : Element) → (part_of e).child.name ≡ id_short_of e
 name_is e = ap (λ (c : Child). c.name) (child_out e)
 
-new_of : (n : List ℕ) (ks : List Element) → ((i : ℕ) (k : Element) → slice_get ks i ≡ Some k → id_short_of k ≡ Some n → ⊥) → IsNew n (children (map part_of ks))
+new_of : (n : List ℕ) (ks : List Element)
+    → ((i : ℕ) (k : Element) → slice_get ks i ≡ Some k → id_short_of k ≡ Some n → ⊥)
+    → IsNew n (children (map part_of ks))
 new_of n [] h = tt
 new_of n (k ∷ ks) h = ((λ e. h zero k refl (sym (name_is k) ∙ e)), new_of n ks (λ i j. h (suc i) j))
 
@@ -80,23 +99,32 @@ pub apart_of : (ks : List Element) → Differ ks → Apart (children (map part_o
 apart_of [] d = tt
 apart_of (k ∷ ks) d =
     let n = some_name (id_short_of k) (d.named zero k refl) in (
-      (n.0, name_is k ∙ n.1, new_of n.0 ks (λ i m there same. zero_suc i (d.apart zero (suc i) k m refl there (n.1 ∙ sym same)))),
-      apart_of ks (record { named = λ i m. d.named (suc i) m; apart = λ i j m l a b s. suc_same i j (d.apart (suc i) (suc j) m l a b s) }),
+      (
+        n.0,
+        name_is k ∙ n.1,
+        new_of n.0 ks (λ i m there same. zero_suc i (d.apart zero (suc i) k m refl there (n.1 ∙ sym same))),
+      ),
+      apart_of ks (record {
+        named = λ i m. d.named (suc i) m;
+        apart = λ i j m l a b s. suc_same i j (d.apart (suc i) (suc j) m l a b s);
+      }),
     )
 
 names_of : (ks : List Element) → Apart (children (map part_of ks)) → AreNamed (map part_of ks)
 names_of [] a = tt
 names_of (k ∷ ks) a = ((a.0.0, a.0.1), names_of ks a.1)
 
-pub named_in : (x : Payload) (ks : List Element) → (is_list_payload x ≡ false → Differ ks) → NamedIn x (map part_of ks)
-named_in (p.AnnotatedRelationshipElement a b) ks d = names_of ks (apart_of ks (d refl))
+pub named_in : (x : Payload) (ks : List Element)
+    → (shows_children x ≡ true → is_list_payload x ≡ false → Differ ks) → NamedIn x (map part_of ks)
+named_in (p.AnnotatedRelationshipElement a b) ks d = names_of ks (apart_of ks (d refl refl))
 named_in p.Capability ks d = tt
 named_in _ ks d = tt
 
 -- ---- elements
 
 IsOne : Element → Type 0
-IsOne e = (u : Element) → NamesDiffer e → left_alone u ≡ left_alone e → (part_of u).child.form ≡ (part_of e).child.form → u ≡ e
+IsOne e = (u : Element)
+    → NamesDiffer e → left_alone u ≡ left_alone e → (part_of u).child.form ≡ (part_of e).child.form → u ≡ e
 
 same_kids : (us ks : List Element) → Each IsOne ks → ((i : ℕ) (k : Element) → slice_get ks i ≡ Some k → NamesDiffer k)
     → map left_alone us ≡ map left_alone ks → children (map part_of us) ≡ children (map part_of ks) → us ≡ ks
@@ -109,14 +137,19 @@ same_kids (u ∷ us) (k ∷ ks) each names h e =
     let tail : map left_alone us ≡ map left_alone ks = cc in
     let first : (part_of u).child ≡ (part_of k).child = cc in
     let rest : children (map part_of us) ≡ children (map part_of ks) = cc in
-    ap₂ (λ z zs. z ∷ zs) (each.0 u (names zero k refl) head (ap (λ (c : Child). c.form) first)) (same_kids us ks each.1 (λ i m. names (suc i) m) tail rest)
+    ap₂ (λ z zs. z ∷ zs) (each.0 u (names zero k refl) head (ap (λ (c : Child). c.form) first))
+    (same_kids us ks each.1 (λ i m. names (suc i) m) tail rest)
 
-pub apart_in : (x : Payload) (ks : List Element) → (is_list_payload x ≡ false → Differ ks) → ApartIn x (children (map part_of ks))
-apart_in (p.SubmodelElementList o s t v) ks d = tt
-apart_in p.Capability ks d = apart_of ks (d refl)
-apart_in _ ks d = apart_of ks (d refl)
+pub apart_in : (x : Payload) (ks : List Element)
+    → (shows_children x ≡ true → is_list_payload x ≡ false → Differ ks) → ApartIn x (children (map part_of ks))
+apart_in (p.AnnotatedRelationshipElement a b) ks d = apart_of ks (d refl refl)
+apart_in (p.Entity t g ids) ks d = apart_of ks (d refl refl)
+apart_in p.SubmodelElementCollection ks d = apart_of ks (d refl refl)
+apart_in p.Capability ks d = tt
+apart_in _ ks d = tt
 
-one_level : (u e : Element) → Each IsOne (kids_of e) → NamesDiffer e → left_alone u ≡ left_alone e → (part_of u).child.form ≡ (part_of e).child.form → u ≡ e
+one_level : (u e : Element) → Each IsOne (kids_of e) → NamesDiffer e
+    → left_alone u ≡ left_alone e → (part_of u).child.form ≡ (part_of e).child.form → u ≡ e
 unfolding element_in
 one_level u e each names h form =
     let l = level u e h in
@@ -124,29 +157,43 @@ one_level u e each names h form =
     by_shows (shows_children (out-Element e).payload) refl l forms
   where
     by_shows : (t : Bool) → shows_children (out-Element e).payload ≡ t → Level u e
-        → value_over extent.WithBlobValue (out-Element u).payload (children (map part_of (kids_of u))) ≡ value_over extent.WithBlobValue (out-Element e).payload (children (map part_of (kids_of e)))
+        → value_over extent.WithBlobValue (out-Element u).payload (children (map part_of (kids_of u)))
+        ≡ value_over extent.WithBlobValue (out-Element e).payload (children (map part_of (kids_of e)))
         → u ≡ e
     by_shows false s l forms =
         let kids : kids_of u ≡ kids_of e =
-        ap (λ t. if t then map left_alone (kids_of u) else kids_of u) (sym (l.shows ∙ s)) ∙ l.same.kids ∙ ap (λ t. if t then map left_alone (kids_of e) else kids_of e) s in
-        whole u e l (same_own (out-Element u).payload (out-Element e).payload (children (map part_of (kids_of u))) (children (map part_of (kids_of e))) (l.shows ∙ s) l.same.payloads forms) kids
+        ap (λ t. if t then map left_alone (kids_of u) else kids_of u) (sym (l.shows ∙ s))
+        ∙ l.same.kids ∙ ap (λ t. if t then map left_alone (kids_of e) else kids_of e) s in
+        whole u e l
+        (same_own (out-Element u).payload (out-Element e).payload (children (map part_of (kids_of u)))
+        (children (map part_of (kids_of e))) (l.shows ∙ s) l.same.payloads forms)
+        kids
     by_shows true s l forms =
         let kids : map left_alone (kids_of u) ≡ map left_alone (kids_of e) =
-        ap (λ t. if t then map left_alone (kids_of u) else kids_of u) (sym (l.shows ∙ s)) ∙ l.same.kids ∙ ap (λ t. if t then map left_alone (kids_of e) else kids_of e) s in
+        ap (λ t. if t then map left_alone (kids_of u) else kids_of u) (sym (l.shows ∙ s))
+        ∙ l.same.kids ∙ ap (λ t. if t then map left_alone (kids_of e) else kids_of e) s in
         let apart = apart_in (out-Element e).payload (kids_of e) (names [] e refl) in
-        let both = same_with_children (out-Element e).payload (out-Element u).payload (children (map part_of (kids_of e))) (children (map part_of (kids_of u))) s (sym l.same.payloads) apart
+        let both =
+        same_with_children (out-Element e).payload (out-Element u).payload
+        (children (map part_of (kids_of e))) (children (map part_of (kids_of u))) s (sym l.same.payloads) apart
         (alike_kids (kids_of e) (kids_of u) (sym kids)) (sym forms) in
         whole u e l (sym both.0) (same_kids (kids_of u) (kids_of e) each (names_below e names) kids (sym both.1))
 
 is_one : (e : Element) → IsOne e
 unfolding IsOne
 is_one = by_children IsOne (λ r c x ks each u names h form.
-    one_level u (made r c x ks) (subst (Each IsOne) (sym (ap (λ z. z.kids) (out-roll-Element (record { common = c; payload = x; role = r; kids = ks })))) each) names h form)
+    one_level u (made r c x ks)
+    (subst (Each IsOne)
+    (sym (ap (λ z. z.kids) (out-roll-Element (record { common = c; payload = x; role = r; kids = ks })))) each)
+    names h form)
 
-pub one_alone : (e u : Element) → NamesDiffer e → left_alone u ≡ left_alone e → value_form extent.WithBlobValue u ≡ value_form extent.WithBlobValue e → u ≡ e
+pub one_alone : (e u : Element) → NamesDiffer e → left_alone u ≡ left_alone e
+    → value_form extent.WithBlobValue u ≡ value_form extent.WithBlobValue e → u ≡ e
 unfolding IsOne
 one_alone e u names rest form =
-    is_one e u names rest (ap (λ (c : Child). c.form) (child_is u) ∙ form ∙ sym (ap (λ (c : Child). c.form) (child_is e)))
+    is_one e u names rest
+    (ap (λ (c : Child). c.form) (child_is u) ∙ form ∙ sym (ap (λ (c : Child). c.form) (child_is e)))
 
 pub one_form : OneForm
-one_form e u order differ operations form = one_alone e u order.names (left_alone_is e u order.placed differ operations) form
+one_form e u order differ operations form =
+    one_alone e u order.names (left_alone_is e u order.placed differ operations) form

@@ -1,5 +1,6 @@
 -- An element has at most one update by a value.
-use Rattle.std.proofs.Common.{◌≡◌, ℕ, zero, suc, Bool, true, false, List, [], ◌∷◌, map, Option, Some, None, IsSome, option_and_then, slice_get, refl, sym, ap, ◌∙◌, subst}
+use Rattle.std.proofs.Common.{◌≡◌, ℕ, zero, suc, Bool, true, false, List, [], ◌∷◌, map, Option, Some, None, IsSome}
+use Rattle.std.proofs.Common.{option_and_then, slice_get, refl, sym, ap, ◌∙◌, subst}
 use Rattle.std.specs.Prelude.{if◌then◌else◌}
 use Rattle.aas_model.specs.declared.common.Common.{Common}
 use Rattle.serde_json.specs.Data.{Data}
@@ -32,7 +33,8 @@ record Twin (ks : List Element) (i : ℕ) (u : Element) : Type 0 where
   there : slice_get ks i ≡ Some twin
   same : left_alone u ≡ left_alone twin
 
-twin_mapped : (us ks : List Element) (i : ℕ) (u : Element) → map left_alone us ≡ map left_alone ks → slice_get us i ≡ Some u → Twin ks i u
+twin_mapped : (us ks : List Element) (i : ℕ) (u : Element)
+    → map left_alone us ≡ map left_alone ks → slice_get us i ≡ Some u → Twin ks i u
 twin_mapped [] ks i u h e = absurd (cc)
 twin_mapped (x ∷ us) [] i u h e = absurd (cc)
 twin_mapped (x ∷ us) (k ∷ ks) zero u h e =
@@ -44,14 +46,18 @@ twin_mapped (x ∷ us) (k ∷ ks) (suc i) u h e =
     let more = twin_mapped us ks i u tail e in
     record { twin = more.twin; there = more.there; same = more.same }
 
-twin_of : (b : Bool) (us ks : List Element) (i : ℕ) (u : Element) → (if b then map left_alone us else us) ≡ (if b then map left_alone ks else ks) → slice_get us i ≡ Some u → Twin ks i u
+twin_of : (b : Bool) (us ks : List Element) (i : ℕ) (u : Element)
+    → (if b then map left_alone us else us) ≡ (if b then map left_alone ks else ks)
+    → slice_get us i ≡ Some u → Twin ks i u
 twin_of true us ks i u h e = twin_mapped us ks i u h e
 twin_of false us ks i u h e = record { twin = u; there = sym (ap (λ l. slice_get l i) h) ∙ e; same = refl }
 
-twins : (u e : Element) → left_alone u ≡ left_alone e → (i : ℕ) (c : Element) → slice_get (kids_of u) i ≡ Some c → Twin (kids_of e) i c
+twins : (u e : Element) → left_alone u ≡ left_alone e → (i : ℕ) (c : Element)
+    → slice_get (kids_of u) i ≡ Some c → Twin (kids_of e) i c
 twins u e h i c there =
     let l = level u e h in
-    twin_of (shows_children (out-Element e).payload) (kids_of u) (kids_of e) i c (ap (λ b. if b then map left_alone (kids_of u) else kids_of u) (sym l.shows) ∙ l.same.kids) there
+    twin_of (shows_children (out-Element e).payload) (kids_of u) (kids_of e) i c
+    (ap (λ b. if b then map left_alone (kids_of u) else kids_of u) (sym l.shows) ∙ l.same.kids) there
 
 record Below (e : Element) (q : List ℕ) (k : Element) : Type 0 where
   twin : Element
@@ -63,7 +69,8 @@ unfolding element_in
 below [] u e k h there = let is : u ≡ k = cc in record { twin = e; there = refl; same = ap left_alone (sym is) ∙ h }
 below (i ∷ q) u e k h there = by_child (slice_get (kids_of u) i) refl there (λ c d s f. below q c d k s f)
   where
-    by_child : (o : Option Element) → slice_get (kids_of u) i ≡ o → option_and_then (element_in q) o ≡ Some k → ((c d : Element) → left_alone c ≡ left_alone d → element_in q c ≡ Some k → Below d q k) → Below e (i ∷ q) k
+    by_child : (o : Option Element) → slice_get (kids_of u) i ≡ o → option_and_then (element_in q) o ≡ Some k
+        → ((c d : Element) → left_alone c ≡ left_alone d → element_in q c ≡ Some k → Below d q k) → Below e (i ∷ q) k
     by_child None at f more = absurd (cc)
     by_child (Some c) at f more =
         let t = twins u e h i c at in
@@ -75,14 +82,18 @@ list_bare payload.Capability = refl
 list_bare _ = refl
 
 list_same : (u e : Element) → left_alone u ≡ left_alone e → is_list u ≡ is_list e
-list_same u e h = let l = level u e h in sym (list_bare (out-Element u).payload) ∙ ap is_list_payload l.same.payloads ∙ list_bare (out-Element e).payload
+list_same u e h =
+    let l = level u e h in
+    sym (list_bare (out-Element u).payload) ∙ ap is_list_payload l.same.payloads ∙ list_bare (out-Element e).payload
 
 name_same : (u e : Element) → left_alone u ≡ left_alone e → id_short_of u ≡ id_short_of e
 name_same u e h = ap (λ (c : Common). c.id_short) (level u e h).same.commons
 
 differ_alike : (u e : Element) → left_alone u ≡ left_alone e → Differ (kids_of e) → Differ (kids_of u)
 differ_alike u e h d = record {
-  named = λ i k at. let t = twins u e h i k at in subst IsSome (sym (name_same k t.twin t.same)) (d.named i t.twin t.there);
+  named = λ i k at.
+      let t = twins u e h i k at in
+      subst IsSome (sym (name_same k t.twin t.same)) (d.named i t.twin t.there);
   apart = λ i j k m at bt same.
       let t = twins u e h i k at in
       let s = twins u e h j m bt in
@@ -90,8 +101,10 @@ differ_alike u e h d = record {
 }
 
 pub names_alike : (u e : Element) → left_alone u ≡ left_alone e → NamesDiffer e → NamesDiffer u
-names_alike u e h names q k found none =
-    let b = below q u e k h found in differ_alike k b.twin b.same (names q b.twin b.there (sym (list_same k b.twin b.same) ∙ none))
+names_alike u e h names q k found shows none =
+    let b = below q u e k h found in
+    differ_alike k b.twin b.same
+    (names q b.twin b.there (sym (level k b.twin b.same).shows ∙ shows) (sym (list_same k b.twin b.same) ∙ none))
 
 pub one_element_update : OneElementUpdate
 one_element_update e u w v order a b =
@@ -101,10 +114,12 @@ one_element_update e u w v order a b =
 
 -- ---- in a submodel
 
-same_found : (d : Submodel) (p : List PathStep) (e k : Element) → element_at d p ≡ Some e → element_at d p ≡ Some k → e ≡ k
+same_found : (d : Submodel) (p : List PathStep) (e k : Element)
+    → element_at d p ≡ Some e → element_at d p ≡ Some k → e ≡ k
 same_found d p e k a b = let both : Some e ≡ Some k = sym a ∙ b in cc
 
-one_at : (d u w : Submodel) (p : List PathStep) (v : Data) → IsValid (submodel d) → IsUpdateAt d p v u → IsUpdateAt d p v w → u ≡ w
+one_at : (d u w : Submodel) (p : List PathStep) (v : Data)
+    → IsValid (submodel d) → IsUpdateAt d p v u → IsUpdateAt d p v w → u ≡ w
 one_at d u w p v valid a b =
     let olds = same_found d p a.old b.old a.found b.found in
     let update = subst (λ e. IsElementUpdate e v b.new) (sym olds) b.update in

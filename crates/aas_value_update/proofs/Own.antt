@@ -1,5 +1,6 @@
 -- A kind's own members, by its value form.
-use Rattle.std.proofs.Common.{◌≡◌, ℕ, true, false, List, [], ◌∷◌, map, Option, Some, None, is_some, option_map, refl, sym, ap, ap₂, ◌∙◌}
+use Rattle.std.proofs.Common.{◌≡◌, ℕ, true, false, List, [], ◌∷◌, map, Option, Some, None, is_some, option_map, refl}
+use Rattle.std.proofs.Common.{sym, ap, ap₂, ◌∙◌}
 use Rattle.std.specs.List.{cons_option}
 use Rattle.serde_json.specs.Data.{Data, no_items}
 use Rattle.aas_model_names.specs.declared.modifiers.Extent.TheVariants as extent
@@ -10,9 +11,12 @@ use Rattle.aas_model.specs.declared.payload.Payload.{Payload}
 use Rattle.aas_model.specs.declared.payload.Payload.TheVariants as p
 use Rattle.aas_constraint_laws.specs.Values.{without_values}
 use Rattle.aas_value.specs.Single.{single}
-use Rattle.aas_value.specs.ValueForm.{Child, value_over, named, in_order, forms_of, annotation_value, array_of, language_value, text_or_null, reference_or_null, entity_type_or_null, shows_children}
+use Rattle.aas_value.specs.ValueForm.{Child, value_over, named, in_order, forms_of, annotation_value, array_of}
+use Rattle.aas_value.specs.ValueForm.{language_value, text_or_null, reference_or_null}
+use Rattle.aas_value.specs.ValueForm.{entity_type_or_null, shows_children}
 use Rattle.aas_value_update.proofs.Named.{Apart, Alike, same_named}
-use Rattle.aas_value_update.proofs.Slots.{same_text_or_null, same_entity_type, same_single, same_reference_or_null, same_array, same_language}
+use Rattle.aas_value_update.proofs.Slots.{same_text_or_null, same_entity_type, same_single, same_reference_or_null}
+use Rattle.aas_value_update.proofs.Slots.{same_array, same_language}
 
 -- ---- kinds without children in their form
 
@@ -68,11 +72,15 @@ same_own x y cs ds s r e = absurd (cc)
 
 -- ---- children in an array
 
-first_item : (f g : Option Data) (xs ys : List Data) → is_some f ≡ is_some g → onto (cons_option f xs) no_items ≡ onto (cons_option g ys) no_items → (f ≡ g) × (onto xs no_items ≡ onto ys no_items)
+first_item : (f g : Option Data) (xs ys : List Data)
+    → is_some f ≡ is_some g → onto (cons_option f xs) no_items ≡ onto (cons_option g ys) no_items
+    → (f ≡ g) × (onto xs no_items ≡ onto ys no_items)
 first_item None None xs ys s e = (refl, e)
 first_item None (Some d) xs ys s e = absurd (cc)
 first_item (Some c) None xs ys s e = absurd (cc)
-first_item (Some c) (Some d) xs ys s e = let head : Some c ≡ Some d = cc in let tail : onto xs no_items ≡ onto ys no_items = cc in (head, tail)
+first_item (Some c) (Some d) xs ys s e =
+    let head : Some c ≡ Some d = cc in
+    let tail : onto xs no_items ≡ onto ys no_items = cc in (head, tail)
 
 same_forms : (cs ds : List Child) → Alike cs ds → onto (forms_of cs) no_items ≡ onto (forms_of ds) no_items → cs ≡ ds
 same_forms [] [] h e = refl
@@ -85,7 +93,9 @@ same_forms (c ∷ cs) (d ∷ ds) h e =
     ap₂ (λ x xs. x ∷ xs) (λ i. record { name = names i; form = forms i }) (same_forms cs ds h.1 both.1)
 
 same_in_order : (cs ds : List Child) → Alike cs ds → in_order cs ≡ in_order ds → cs ≡ ds
-same_in_order cs ds h e = let items : onto (forms_of cs) no_items ≡ onto (forms_of ds) no_items = cc in same_forms cs ds h items
+same_in_order cs ds h e =
+    let items : onto (forms_of cs) no_items ≡ onto (forms_of ds) no_items = cc in
+    same_forms cs ds h items
 
 entry_is_some : (c : Child) (f : Option Data) → is_some (option_map (λ (d : Data). named (c ∷ [])) f) ≡ is_some f
 entry_is_some c None = refl
@@ -95,10 +105,13 @@ alike_entries : (cs ds : List Child) → Alike cs ds → Alike (map annotation_v
 alike_entries [] [] h = tt
 alike_entries [] (d ∷ ds) h = absurd h
 alike_entries (c ∷ cs) [] h = absurd h
-alike_entries (c ∷ cs) (d ∷ ds) h = ((h.0.0, entry_is_some c c.form ∙ h.0.1 ∙ sym (entry_is_some d d.form)), alike_entries cs ds h.1)
+alike_entries (c ∷ cs) (d ∷ ds) h =
+    ((h.0.0, entry_is_some c c.form ∙ h.0.1 ∙ sym (entry_is_some d d.form)), alike_entries cs ds h.1)
 
 same_entry : (n : List ℕ) (o q : Option (List ℕ)) (f g : Option Data) → o ≡ Some n → o ≡ q → is_some f ≡ is_some g
-    → option_map (λ (d : Data). named (record { name = o; form = f } ∷ [])) f ≡ option_map (λ (d : Data). named (record { name = q; form = g } ∷ [])) g → f ≡ g
+    → option_map (λ (d : Data). named (record { name = o; form = f } ∷ [])) f
+    ≡ option_map (λ (d : Data). named (record { name = q; form = g } ∷ [])) g
+    → f ≡ g
 same_entry n None q f g i j s e = cc
 same_entry n (Some m) None f g i j s e = cc
 same_entry n (Some m) (Some l) None None i j s e = refl
@@ -106,7 +119,8 @@ same_entry n (Some m) (Some l) None (Some d) i j s e = cc
 same_entry n (Some m) (Some l) (Some c) None i j s e = cc
 same_entry n (Some m) (Some l) (Some c) (Some d) i j s e = cc
 
-same_entries : (cs ds : List Child) → Apart cs → Alike cs ds → map annotation_value cs ≡ map annotation_value ds → cs ≡ ds
+same_entries : (cs ds : List Child)
+    → Apart cs → Alike cs ds → map annotation_value cs ≡ map annotation_value ds → cs ≡ ds
 same_entries [] [] a h e = refl
 same_entries [] (d ∷ ds) a h e = absurd h
 same_entries (c ∷ cs) [] a h e = absurd h
@@ -119,12 +133,15 @@ same_entries (c ∷ cs) (d ∷ ds) a h e =
 
 -- ---- kinds with children in their form
 
--- children differ in names everywhere but in lists
+-- children that a value form shows differ in names, everywhere but in lists
 abbrev pub ApartIn : Payload → List Child → Type 0
-ApartIn (p.SubmodelElementList o s t v) cs = Unit {0}
-ApartIn _ cs = Apart cs
+ApartIn (p.AnnotatedRelationshipElement a b) cs = Apart cs
+ApartIn (p.Entity t g ids) cs = Apart cs
+ApartIn p.SubmodelElementCollection cs = Apart cs
+ApartIn _ cs = Unit {0}
 
-pub same_with_children : (x y : Payload) (cs ds : List Child) → shows_children x ≡ true → without_values x ≡ without_values y → ApartIn x cs → Alike cs ds
+pub same_with_children : (x y : Payload) (cs ds : List Child)
+    → shows_children x ≡ true → without_values x ≡ without_values y → ApartIn x cs → Alike cs ds
     → value_over extent.WithBlobValue x cs ≡ value_over extent.WithBlobValue y ds → (x ≡ y) × (cs ≡ ds)
 same_with_children (p.AnnotatedRelationshipElement a b) (p.AnnotatedRelationshipElement c d) cs ds s r apart h e =
     let entries : in_order (map annotation_value cs) ≡ in_order (map annotation_value ds) = cc in
@@ -142,6 +159,10 @@ same_with_children (p.Entity t g ids) (p.Entity u k jds) cs ds s r apart h e =
     let gs = same_text_or_null g k globals in
     let is = same_array spell_specific_asset_id specific_asset_id_facts.same ids jds specifics in
     ((λ i. p.Entity (ts i) (gs i) (is i)), same_named cs ds apart h statements)
-same_with_children p.SubmodelElementCollection p.SubmodelElementCollection cs ds s r apart h e = let forms : named cs ≡ named ds = cc in (refl, same_named cs ds apart h forms)
-same_with_children (p.SubmodelElementList a b c d) (p.SubmodelElementList a' b' c' d') cs ds s r apart h e = let forms : in_order cs ≡ in_order ds = cc in (r, same_in_order cs ds h forms)
+same_with_children p.SubmodelElementCollection p.SubmodelElementCollection cs ds s r apart h e =
+    let forms : named cs ≡ named ds = cc in
+    (refl, same_named cs ds apart h forms)
+same_with_children (p.SubmodelElementList a b c d) (p.SubmodelElementList a' b' c' d') cs ds s r apart h e =
+    let forms : in_order cs ≡ in_order ds = cc in
+    (r, same_in_order cs ds h forms)
 same_with_children x y cs ds s r apart h e = absurd (cc)

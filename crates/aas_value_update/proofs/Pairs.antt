@@ -1,7 +1,7 @@
--- Forms that are put together alike: what holds of their parts in pairs holds of them, and of elements that differ in values
--- alone.
-use Rattle.std.proofs.Common.{◌≡◌, ℕ, zero, suc, Bool, List, [], ◌∷◌, map, codes, Option, Some, is_some, slice_get, refl, sym, ap, ap₂, ◌∙◌}
-use Rattle.std.proofs.Common.{subst}
+-- Forms that are put together alike: what holds of their parts in pairs holds of them, and of elements that differ in
+-- values alone.
+use Rattle.std.proofs.Common.{◌≡◌, ℕ, zero, suc, Bool, List, [], ◌∷◌, map, codes, Option, Some, is_some, slice_get}
+use Rattle.std.proofs.Common.{refl, sym, ap, ap₂, ◌∙◌, subst}
 use Rattle.serde_json.specs.Data.{Data}
 use Rattle.aas_model_names.specs.declared.value_type.ValueType.{ValueType}
 use Rattle.aas_json_mapping.proofs.Elements.{made, made_out, by_children}
@@ -49,7 +49,8 @@ Forms R (entries_of xs) (entries_of ys) = Pairs R xs ys × Apart (children xs)
 Forms R f g = ⊥
 
 -- a form is there where the other is
-pub forms_there : (R : Part → Part → Type 0) → ((x y : Part) → R x y → is_some x.child.form ≡ is_some y.child.form) → (f g : Form)
+pub forms_there : (R : Part → Part → Type 0)
+    → ((x y : Part) → R x y → is_some x.child.form ≡ is_some y.child.form) → (f g : Form)
     → Forms R f g
     → is_some (value f) ≡ is_some (value g)
 forms_there R there nothing nothing r = refl
@@ -74,9 +75,12 @@ module _ (R : Part → Part → Type 0) (parts : IsOfParts R) where
       subst (λ (z : ValueType). R (own n (single t v) (is_single t)) (own n (single z w) (is_single z))) same
       (parts.attribute n (single t v) (single t w) (is_single t))
 
-  pub put_together : (x y : Payload) (xs ys : List Part) → without_values x ≡ without_values y → ApartIn x (children xs) → Pairs R xs ys
+  pub put_together : (x y : Payload) (xs ys : List Part)
+      → without_values x ≡ without_values y → ApartIn x (children xs) → Pairs R xs ys
       → Forms R (form_of x xs) (form_of y ys)
-  put_together (p.Property t v i) (p.Property u w j) xs ys r apart pairs = let ts : t ≡ u = cc in single_attribute [] t u v w ts
+  put_together (p.Property t v i) (p.Property u w j) xs ys r apart pairs =
+      let ts : t ≡ u = cc in
+      single_attribute [] t u v w ts
   put_together (p.MultiLanguageProperty v i) (p.MultiLanguageProperty w j) xs ys r apart pairs = parts.attribute _ _ _ _
   put_together (p.Range t a b) (p.Range u c d) xs ys r apart pairs =
       let ts : t ≡ u = cc in
@@ -86,8 +90,10 @@ module _ (R : Part → Part → Type 0) (parts : IsOfParts R) where
   put_together (p.ReferenceElement v) (p.ReferenceElement w) xs ys r apart pairs = parts.attribute _ _ _ _
   put_together (p.RelationshipElement a b) (p.RelationshipElement c d) xs ys r apart pairs =
       (parts.attribute _ _ _ _, (parts.attribute _ _ _ _, tt))
-  put_together (p.AnnotatedRelationshipElement a b) (p.AnnotatedRelationshipElement c d) xs ys r apart pairs =
-      (parts.named _ (entries_of xs) (entries_of ys) (pairs, apart), (parts.attribute _ _ _ _, (parts.attribute _ _ _ _, tt)))
+  put_together (p.AnnotatedRelationshipElement a b) (p.AnnotatedRelationshipElement c d) xs ys r apart pairs = (
+    parts.named _ (entries_of xs) (entries_of ys) (pairs, apart),
+    (parts.attribute _ _ _ _, (parts.attribute _ _ _ _, tt)),
+  )
   put_together (p.Entity t g ids) (p.Entity u h jds) xs ys r apart pairs =
       let statements = parts.named _ (object_of xs) (object_of ys) pairs in
       (parts.attribute _ _ _ _, (parts.attribute _ _ _ _, (parts.attribute _ _ _ _, (statements, tt))))
@@ -102,7 +108,8 @@ module _ (R : Part → Part → Type 0) (parts : IsOfParts R) where
 -- ---- elements that differ in values alone
 
 bare_out : (e : Element)
-    → bare e ≡ made (out-Element e).role (out-Element e).common (without_values (out-Element e).payload) (map bare (kids_of e))
+    → bare e
+    ≡ made (out-Element e).role (out-Element e).common (without_values (out-Element e).payload) (map bare (kids_of e))
 bare_out e = let x = out-Element e in ap bare (sym (made_out e)) ∙ bare_at x.role x.common x.payload x.kids
 
 -- elements as parts, by what their children are as parts
@@ -118,13 +125,15 @@ pub children_same : (of : Element → Part) → ((e : Element) → (of e).child 
 children_same of same [] = refl
 children_same of same (k ∷ ks) = ap₂ (λ c cs. c ∷ cs) (same k) (children_same of same ks)
 
-module _ (R : Part → Part → Type 0) (parts : IsOfParts R) (one two : Element → Part) (over more : Option (List ℕ) → Form → Part)
+module _ (R : Part → Part → Type 0) (parts : IsOfParts R)
+    (one two : Element → Part) (over more : Option (List ℕ) → Form → Part)
     (ones : AreParts one over) (twos : AreParts two more)
     (child : (n : Option (List ℕ)) (f g : Form) → Forms R f g → R (over n f) (more n g)) where
   abbrev Related : Element → Type 0
   Related e = (u : Element) → NamesDiffer e → DifferInValues e u → R (one e) (two u)
 
-  kids_related : (ks us : List Element) → Each Related ks → ((i : ℕ) (k : Element) → slice_get ks i ≡ Some k → NamesDiffer k)
+  kids_related : (ks us : List Element)
+      → Each Related ks → ((i : ℕ) (k : Element) → slice_get ks i ≡ Some k → NamesDiffer k)
       → map bare ks ≡ map bare us
       → Pairs R (map one ks) (map two us)
   kids_related [] [] each names same = tt
@@ -143,13 +152,16 @@ module _ (R : Part → Part → Type 0) (parts : IsOfParts R) (one two : Element
       let same = fields x.role y.role x.common y.common (without_values x.payload) (without_values y.payload)
       (map bare x.kids) (map bare y.kids)
       (sym (bare_out e) ∙ differ ∙ bare_out u) in
-      let apart = subst (ApartIn x.payload) (sym (children_same one ones.child x.kids)) (apart_in x.payload x.kids (names [] e refl)) in
+      let apart = subst (ApartIn x.payload) (sym (children_same one ones.child x.kids))
+      (apart_in x.payload x.kids (names [] e refl)) in
       let forms = put_together R parts x.payload y.payload (map one x.kids) (map two y.kids) same.payloads apart
       (kids_related x.kids y.kids each (names_below e names) same.kids) in
       let names_same = ap (λ (c : Common). c.id_short) same.commons in
       subst (R (one e)) (sym (twos.out u))
       (subst (λ (z : Part). R z (more (id_short_of u) (form_of y.payload (map two y.kids)))) (sym (ones.out e))
-      (subst (λ n. R (over (id_short_of e) (form_of x.payload (map one x.kids))) (more n (form_of y.payload (map two y.kids)))) names_same
+      (subst (λ n.
+      R (over (id_short_of e) (form_of x.payload (map one x.kids))) (more n (form_of y.payload (map two y.kids))))
+      names_same
       (child (id_short_of e) (form_of x.payload (map one x.kids)) (form_of y.payload (map two y.kids)) forms)))
 
   pub related : (e u : Element) → NamesDiffer e → DifferInValues e u → R (one e) (two u)

@@ -1,21 +1,23 @@
--- A whole value form laid over another of the same parts is itself, so an update by it makes the element whose form it is.
-use Rattle.std.proofs.Common.{◌≡◌, ℕ, Bool, true, false, List, [], ◌∷◌, map, Option, Some, None, is_some, option_map, refl, sym, ap, ap₂}
-use Rattle.std.proofs.Common.{◌∙◌, subst, true≢false}
+-- A whole value form laid over another of the same parts is itself,
+-- so an update by it makes the element whose form it is.
+use Rattle.std.proofs.Common.{◌≡◌, ℕ, Bool, true, false, List, [], ◌∷◌, map, Option, Some, None, is_some, option_map}
+use Rattle.std.proofs.Common.{refl, sym, ap, ap₂, ◌∙◌, subst, true≢false}
 use Rattle.std.specs.Prelude.{if◌then◌else◌}
 use Rattle.serde_json.specs.Data.{Data, array, object, Items, item, no_members}
 use Rattle.aas_model_names.specs.declared.modifiers.Extent.TheVariants as extent
 use Rattle.aas_model.specs.declared.element.Element.{Element}
 use Rattle.aas_constraint_laws.specs.Values.{DifferInValues}
 use Rattle.aas_value.specs.ValueForm.{Child, forms_of, annotation_value, value_form}
-use Rattle.aas_value_update.specs.Parts.{Part, Form, nothing, whole, object_of, list_of, entries_of, is_called, by_name, children, value}
+use Rattle.aas_value_update.specs.Parts.{Part, Form, nothing, whole, object_of, list_of, entries_of, is_called, by_name}
+use Rattle.aas_value_update.specs.Parts.{children, value}
 use Rattle.aas_value_update.specs.Parts.{later, over, laid, laid_items, put_entry, laid_entries, lay_form}
 use Rattle.aas_value_update.specs.Kinds.{child_part, part_of, lay}
 use Rattle.aas_value_update.specs.Laws.{NamesDiffer, WholeFormReplaces, WholeFormMakesElement}
 use Rattle.aas_value_update.specs.Update.{IsElementUpdate}
 use Rattle.aas_value_update.proofs.Elements.{child_is}
-use Rattle.aas_value_update.proofs.Laid.{form, get_children, get_laid, children_rise, laid_rises, form_entries, called_alike, entry_alike}
-use Rattle.aas_value_update.proofs.Laid.{put_entry_named, entry_before, own_entry, form_members, form_items, items_with, laid_first}
-use Rattle.aas_value_update.proofs.Laid.{lay_named}
+use Rattle.aas_value_update.proofs.Laid.{form, get_children, get_laid, children_rise, laid_rises, form_entries}
+use Rattle.aas_value_update.proofs.Laid.{called_alike, entry_alike, put_entry_named, entry_before, own_entry}
+use Rattle.aas_value_update.proofs.Laid.{form_members, form_items, items_with, laid_first, lay_named}
 use Rattle.aas_value_update.proofs.Members.{known}
 use Rattle.aas_value_update.proofs.Named.{Apart}
 use Rattle.aas_value_update.proofs.OneForm.{one_alone}
@@ -31,7 +33,8 @@ record Replaces (x y : Part) : Type 0 where
 
 -- ---- objects
 
-named_replaced : (n : List ℕ) (xs ys : List Part) → Pairs Replaces xs ys → (f : Data → Data → Data) (o q : Option Data) → over f o q ≡ q
+named_replaced : (n : List ℕ) (xs ys : List Part)
+    → Pairs Replaces xs ys → (f : Data → Data → Data) (o q : Option Data) → over f o q ≡ q
     → over (by_name n (λ x. x.lay) xs f) (by_name n form xs o) (by_name n form ys q) ≡ by_name n form ys q
 named_replaced n [] [] pairs f o q is = is
 named_replaced n [] (y ∷ ys) pairs f o q is = absurd pairs
@@ -43,25 +46,30 @@ named_replaced n (x ∷ xs) (y ∷ ys) pairs f o q is =
     (subst (λ b. over lay old (if b then form y else q) ≡ (if b then form y else q))
     (called_alike n x.child y.child pairs.0.name pairs.0.there) (by_test (is_called n x.child)))
   where
-    by_test : (b : Bool) → over (if b then x.lay else f) (if b then form x else o) (if b then form y else q) ≡ (if b then form y else q)
+    by_test : (b : Bool)
+        → over (if b then x.lay else f) (if b then form x else o) (if b then form y else q) ≡ (if b then form y else q)
     by_test true = pairs.0.laid
     by_test false = is
 
-members_replaced : (xs ys : List Part) → Pairs Replaces xs ys → laid xs (form_members xs) (form_members ys) ≡ form_members ys
+members_replaced : (xs ys : List Part)
+    → Pairs Replaces xs ys → laid xs (form_members xs) (form_members ys) ≡ form_members ys
 members_replaced xs ys pairs =
     let old = form_members xs in
     let new = form_members ys in
-    known (laid xs old new) new (laid_rises xs old new (children_rise xs no_members tt)) (children_rise ys no_members tt) (λ n.
+    known (laid xs old new) new (laid_rises xs old new (children_rise xs no_members tt))
+    (children_rise ys no_members tt) (λ n.
     get_laid n xs old new ∙ ap₂ (over (lay_named n xs)) (get_children n xs no_members) (get_children n ys no_members)
     ∙ named_replaced n xs ys pairs later None None refl ∙ sym (get_children n ys no_members))
 
 -- ---- arrays
 
-items_replaced : (xs ys : List Part) → Pairs Replaces xs ys → laid_items xs (form_items xs) (form_items ys) ≡ form_items ys
+items_replaced : (xs ys : List Part)
+    → Pairs Replaces xs ys → laid_items xs (form_items xs) (form_items ys) ≡ form_items ys
 items_replaced [] [] pairs = refl
 items_replaced [] (y ∷ ys) pairs = absurd pairs
 items_replaced (x ∷ xs) [] pairs = absurd pairs
-items_replaced (x ∷ xs) (y ∷ ys) pairs = by_forms (form x) (form y) pairs.0.there pairs.0.laid (items_replaced xs ys pairs.1)
+items_replaced (x ∷ xs) (y ∷ ys) pairs =
+    by_forms (form x) (form y) pairs.0.there pairs.0.laid (items_replaced xs ys pairs.1)
   where
     by_forms : (f g : Option Data) → is_some f ≡ is_some g → over x.lay f g ≡ g
         → laid_items xs (form_items xs) (form_items ys) ≡ form_items ys
@@ -82,7 +90,8 @@ entries_replaced (x ∷ xs) (y ∷ ys) pairs apart =
     let r = pairs.0 in
     let n = apart.0.0 in
     let mine = own_entry n x xs apart.0.1 in
-    let sent = entry_alike x.child y.child r.name r.there (form_entries (y ∷ ys)) ∙ own_entry n y ys (sym r.name ∙ apart.0.1) in
+    let sent = entry_alike x.child y.child r.name r.there (form_entries (y ∷ ys))
+    ∙ own_entry n y ys (sym r.name ∙ apart.0.1) in
     ap₂ (λ (w v : Option Data × Items). put_entry x.child (over x.lay w.0 v.0) (laid_entries xs w.1 v.1)) mine sent
     ∙ ap₂ (put_entry x.child) r.laid (entries_replaced xs ys pairs.1 apart.1)
     ∙ put_entry_named x.child y.child r.name (form y) (form_entries ys)
@@ -107,14 +116,16 @@ form_replaced f g r = absurd r
 replaces_parts : IsOfParts Replaces
 replaces_parts = record {
   attribute = λ n d e test. record { name = refl; there = refl; laid = refl };
-  named = λ n f g r. record { name = refl; there = forms_there Replaces (λ x y r. r.there) f g r; laid = form_replaced f g r };
+  named = λ n f g r.
+      record { name = refl; there = forms_there Replaces (λ x y r. r.there) f g r; laid = form_replaced f g r };
 }
 
 -- ---- elements
 
 replaces : (e u : Element) → NamesDiffer e → DifferInValues e u → Replaces (part_of e) (part_of u)
 replaces = related Replaces replaces_parts part_of part_of child_part child_part elements_are_parts elements_are_parts
-    (λ n f g r. record { name = refl; there = forms_there Replaces (λ x y r. r.there) f g r; laid = form_replaced f g r })
+    (λ n f g r.
+    record { name = refl; there = forms_there Replaces (λ x y r. r.there) f g r; laid = form_replaced f g r })
 
 form_is : (e : Element) → (part_of e).child.form ≡ value_form extent.WithBlobValue e
 form_is e = ap (λ (c : Child). c.form) (child_is e)
@@ -122,7 +133,8 @@ form_is e = ap (λ (c : Child). c.form) (child_is e)
 pub whole_form_replaces : WholeFormReplaces
 whole_form_replaces e u w v order differ old new =
     let laid : Some (lay e w v) ≡ Some v =
-    sym (ap₂ (over (part_of e).lay) (form_is e ∙ old) (form_is u ∙ new)) ∙ (replaces e u order.names differ).laid ∙ form_is u ∙ new in
+    sym (ap₂ (over (part_of e).lay) (form_is e ∙ old) (form_is u ∙ new))
+    ∙ (replaces e u order.names differ).laid ∙ form_is u ∙ new in
     cc
 
 pub whole_form_makes_element : WholeFormMakesElement
@@ -131,7 +143,8 @@ whole_form_makes_element e u w v order differ operations new =
     let form = by_form (value_form extent.WithBlobValue e) refl in (
       λ a. (
         a.shape,
-        one_alone u w (names_alike u e same order.names) (left_alone_is e w order.placed a.metadata a.operations ∙ sym same)
+        one_alone u w (names_alike u e same order.names)
+            (left_alone_is e w order.placed a.metadata a.operations ∙ sym same)
             (a.form ∙ form ∙ sym new),
       ),
       λ a. subst (IsElementUpdate e v) (sym a.1)
@@ -141,5 +154,7 @@ whole_form_makes_element e u w v order differ operations new =
     by_form : (o : Option Data) → value_form extent.WithBlobValue e ≡ o
         → option_map (λ x. lay e x v) (value_form extent.WithBlobValue e) ≡ Some v
     by_form None is =
-        absurd (true≢false (sym (ap is_some (form_is u ∙ new)) ∙ sym (replaces e u order.names differ).there ∙ ap is_some (form_is e ∙ is)))
-    by_form (Some x) is = ap (option_map (λ x. lay e x v)) is ∙ ap (λ d. Some d) (whole_form_replaces e u x v order differ is new)
+        absurd (true≢false (sym (ap is_some (form_is u ∙ new))
+        ∙ sym (replaces e u order.names differ).there ∙ ap is_some (form_is e ∙ is)))
+    by_form (Some x) is =
+        ap (option_map (λ x. lay e x v)) is ∙ ap (λ d. Some d) (whole_form_replaces e u x v order differ is new)

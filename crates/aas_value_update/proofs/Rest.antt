@@ -1,5 +1,7 @@
--- What an update leaves alone in one tree, and the two sentences that say the same: all but values, and the Operations and Capabilities.
-use Rattle.std.proofs.Common.{◌≡◌, ◌+◌, Bool, true, false, List, [], ◌∷◌, ◌++◌, length, map, refl, sym, ap, ap₂, ◌∙◌, subst, true≢false, length-append}
+-- What an update leaves alone in one tree, and the two sentences that say the same:
+-- all but values, and the Operations and Capabilities.
+use Rattle.std.proofs.Common.{◌≡◌, ◌+◌, Bool, true, false, List, [], ◌∷◌, ◌++◌, length, map, refl, sym, ap, ap₂, ◌∙◌}
+use Rattle.std.proofs.Common.{subst, true≢false, length-append}
 use Rattle.std.specs.Prelude.{if◌then◌else◌}
 use Rattle.std.specs.List.{flat_map}
 use Rattle.aas_model.specs.declared.common.Common.{Common}
@@ -20,7 +22,8 @@ use Rattle.aas_value_update.proofs.Alone.{SameFields, fields, kids_made, Level, 
 
 -- ---- without values
 
-pub bare_at : (r : Role) (c : Common) (x : Payload) (ks : List Element) → bare (made r c x ks) ≡ made r c (without_values x) (map bare ks)
+pub bare_at : (r : Role) (c : Common) (x : Payload) (ks : List Element)
+    → bare (made r c x ks) ≡ made r c (without_values x) (map bare ks)
 unfolding bare
 bare_at r c x ks = fold-roll-Element Element bare_over (record { common = c; payload = x; role = r; kids = ks })
 
@@ -28,7 +31,8 @@ twice : (x : Payload) → without_values (without_values x) ≡ without_values x
 twice p.Capability = refl
 twice _ = refl
 
-kids_bare : (ks : List Element) → Each (λ e. bare (left_alone e) ≡ bare e) ks → map bare (map left_alone ks) ≡ map bare ks
+kids_bare : (ks : List Element)
+    → Each (λ e. bare (left_alone e) ≡ bare e) ks → map bare (map left_alone ks) ≡ map bare ks
 kids_bare [] each = refl
 kids_bare (k ∷ ks) each = ap₂ (λ z zs. z ∷ zs) each.0 (kids_bare ks each.1)
 
@@ -38,7 +42,8 @@ bare_alone = by_children (λ e. bare (left_alone e) ≡ bare e) (λ r c x ks eac
     ∙ ap₂ (made r c) (twice x) (by_test (shows_children x) ks each)
     ∙ sym (bare_at r c x ks))
   where
-    by_test : (b : Bool) (ks : List Element) → Each (λ e. bare (left_alone e) ≡ bare e) ks → map bare (if b then map left_alone ks else ks) ≡ map bare ks
+    by_test : (b : Bool) (ks : List Element)
+        → Each (λ e. bare (left_alone e) ≡ bare e) ks → map bare (if b then map left_alone ks else ks) ≡ map bare ks
     by_test true ks each = kids_bare ks each
     by_test false ks each = refl
 
@@ -49,29 +54,36 @@ differ_in_values e u same = sym (bare_alone e) ∙ ap bare (sym same) ∙ bare_a
 
 unshown_element : (e : Element) → (fold-Element Unshown unshown_over e).element ≡ e
 unshown_element = by_children (λ e. (fold-Element Unshown unshown_over e).element ≡ e) (λ r c x ks each.
-    ap (λ l. l.element) (fold-roll-Element Unshown unshown_over (record { common = c; payload = x; role = r; kids = ks }))
+    ap (λ l. l.element)
+    (fold-roll-Element Unshown unshown_over (record { common = c; payload = x; role = r; kids = ks }))
     ∙ ap (made r c x) (all ks each))
   where
-    all : (ks : List Element) → Each (λ e. (fold-Element Unshown unshown_over e).element ≡ e) ks → map (λ l. l.element) (map (fold-Element Unshown unshown_over) ks) ≡ ks
+    all : (ks : List Element) → Each (λ e. (fold-Element Unshown unshown_over e).element ≡ e) ks
+        → map (λ l. l.element) (map (fold-Element Unshown unshown_over) ks) ≡ ks
     all [] e = refl
     all (k ∷ ks) e = ap₂ (λ c cs. c ∷ cs) e.0 (all ks e.1)
 
-kids_themselves : (ks : List Element) → map (λ (l : Unshown). l.element) (map (fold-Element Unshown unshown_over) ks) ≡ ks
+kids_themselves : (ks : List Element)
+    → map (λ (l : Unshown). l.element) (map (fold-Element Unshown unshown_over) ks) ≡ ks
 kids_themselves [] = refl
 kids_themselves (k ∷ ks) = ap₂ (λ c cs. c ∷ cs) (unshown_element k) (kids_themselves ks)
 
-unshown_kids : (ks : List Element) → flat_map (λ (l : Unshown). l.unshown) (map (fold-Element Unshown unshown_over) ks) ≡ flat_map unshown ks
+unshown_kids : (ks : List Element)
+    → flat_map (λ (l : Unshown). l.unshown) (map (fold-Element Unshown unshown_over) ks) ≡ flat_map unshown ks
 unfolding unshown
 unshown_kids [] = refl
 unshown_kids (k ∷ ks) = ap (λ l. (fold-Element Unshown unshown_over k).unshown ++ l) (unshown_kids ks)
 
-pub unshown_at : (r : Role) (c : Common) (x : Payload) (ks : List Element) → unshown (made r c x ks) ≡ (if has_value x then flat_map unshown ks else made r c x ks ∷ [])
+pub unshown_at : (r : Role) (c : Common) (x : Payload) (ks : List Element)
+    → unshown (made r c x ks) ≡ (if has_value x then flat_map unshown ks else made r c x ks ∷ [])
 unfolding unshown
 unshown_at r c x ks =
-    ap (λ l. l.unshown) (fold-roll-Element Unshown unshown_over (record { common = c; payload = x; role = r; kids = ks }))
+    ap (λ l. l.unshown)
+    (fold-roll-Element Unshown unshown_over (record { common = c; payload = x; role = r; kids = ks }))
     ∙ ap₂ (λ l m. if has_value x then l else made r c x m ∷ []) (unshown_kids ks) (kids_themselves ks)
 
-unshown_out : (e : Element) → unshown e ≡ (if has_value (out-Element e).payload then flat_map unshown (kids_of e) else e ∷ [])
+unshown_out : (e : Element)
+    → unshown e ≡ (if has_value (out-Element e).payload then flat_map unshown (kids_of e) else e ∷ [])
 unshown_out e =
     let x = out-Element e in
     ap unshown (sym (made_out e)) ∙ unshown_at x.role x.common x.payload x.kids
@@ -82,7 +94,8 @@ unshown_out e =
 KeepsUnshown : Element → Type 0
 KeepsUnshown e = (u : Element) → left_alone u ≡ left_alone e → unshown u ≡ unshown e
 
-kids_keep : (us ks : List Element) → Each KeepsUnshown ks → map left_alone us ≡ map left_alone ks → flat_map unshown us ≡ flat_map unshown ks
+kids_keep : (us ks : List Element)
+    → Each KeepsUnshown ks → map left_alone us ≡ map left_alone ks → flat_map unshown us ≡ flat_map unshown ks
 unfolding KeepsUnshown
 kids_keep [] [] each h = refl
 kids_keep [] (k ∷ ks) each h = cc
@@ -93,7 +106,8 @@ kids_keep (u ∷ us) (k ∷ ks) each h =
     ap₂ (λ a b. a ++ b) (each.0 u head) (kids_keep us ks each.1 tail)
 
 value_same : (u e : Element) → Level u e → has_value (out-Element u).payload ≡ has_value (out-Element e).payload
-value_same u e l = sym (value_bare (out-Element u).payload) ∙ ap has_value l.same.payloads ∙ value_bare (out-Element e).payload
+value_same u e l =
+    sym (value_bare (out-Element u).payload) ∙ ap has_value l.same.payloads ∙ value_bare (out-Element e).payload
 
 -- what shows no children and has no value has no values either
 same_without : (x y : Payload) → has_value x ≡ false → without_values y ≡ without_values x → y ≡ x
@@ -106,17 +120,21 @@ hides p.Capability h = refl
 hides p.Operation h = refl
 hides x h = absurd (cc)
 
-kids_chosen : (b : Bool) (us ks : List Element) → b ≡ false → (if b then map left_alone us else us) ≡ (if b then map left_alone ks else ks) → us ≡ ks
+kids_chosen : (b : Bool) (us ks : List Element)
+    → b ≡ false → (if b then map left_alone us else us) ≡ (if b then map left_alone ks else ks) → us ≡ ks
 kids_chosen true us ks e h = absurd (true≢false e)
 kids_chosen false us ks e h = h
 
-pub same_kids_alone : (u e : Element) → Level u e → (if shows_children (out-Element e).payload then map left_alone (kids_of u) else kids_of u) ≡ kids_alone (out-Element e).payload (kids_of e)
+pub same_kids_alone : (u e : Element) → Level u e
+    → (if shows_children (out-Element e).payload then map left_alone (kids_of u) else kids_of u)
+    ≡ kids_alone (out-Element e).payload (kids_of e)
 same_kids_alone u e l = ap (λ b. if b then map left_alone (kids_of u) else kids_of u) (sym l.shows) ∙ l.same.kids
 
 keeps_level : (u e : Element) → Each KeepsUnshown (kids_of e) → Level u e → unshown u ≡ unshown e
 keeps_level u e each l = by_value (has_value (out-Element e).payload) refl
   where
-    by_shows : (b : Bool) → (if b then map left_alone (kids_of u) else kids_of u) ≡ (if b then map left_alone (kids_of e) else kids_of e)
+    by_shows : (b : Bool)
+        → (if b then map left_alone (kids_of u) else kids_of u) ≡ (if b then map left_alone (kids_of e) else kids_of e)
         → flat_map unshown (kids_of u) ≡ flat_map unshown (kids_of e)
     by_shows true h = kids_keep (kids_of u) (kids_of e) each h
     by_shows false h = ap (flat_map unshown) h
@@ -127,13 +145,15 @@ keeps_level u e each l = by_value (has_value (out-Element e).payload) refl
         ∙ by_shows (shows_children (out-Element e).payload) (same_kids_alone u e l)
         ∙ ap (λ b. if b then flat_map unshown (kids_of e) else e ∷ []) (sym is) ∙ sym (unshown_out e)
     by_value false is =
-        let kids = kids_chosen (shows_children (out-Element e).payload) (kids_of u) (kids_of e) (hides (out-Element e).payload is) (same_kids_alone u e l) in
+        let kids = kids_chosen (shows_children (out-Element e).payload) (kids_of u)
+        (kids_of e) (hides (out-Element e).payload is) (same_kids_alone u e l) in
         ap unshown (whole u e l (same_without (out-Element e).payload (out-Element u).payload is l.same.payloads) kids)
 
 keeps : (e : Element) → KeepsUnshown e
 unfolding KeepsUnshown
 keeps = by_children KeepsUnshown (λ r c x ks each u h.
-    keeps_level u (made r c x ks) (subst (Each KeepsUnshown) (sym (kids_made r c x ks)) each) (level u (made r c x ks) h))
+    keeps_level u (made r c x ks)
+    (subst (Each KeepsUnshown) (sym (kids_made r c x ks)) each) (level u (made r c x ks) h))
 
 pub unshown_stays : (e u : Element) → left_alone u ≡ left_alone e → unshown u ≡ unshown e
 unfolding KeepsUnshown
@@ -146,18 +166,22 @@ bare_count : (e : Element) → length (unshown (bare e)) ≡ length (unshown e)
 bare_count = by_children (λ e. length (unshown (bare e)) ≡ length (unshown e)) (λ r c x ks each.
     ap (λ z. length (unshown z)) (bare_at r c x ks)
     ∙ ap length (unshown_at r c (without_values x) (map bare ks))
-    ∙ ap (λ b. length (if b then flat_map unshown (map bare ks) else made r c (without_values x) (map bare ks) ∷ [])) (value_bare x)
+    ∙ ap (λ b. length (if b then flat_map unshown (map bare ks) else made r c (without_values x) (map bare ks) ∷ []))
+    (value_bare x)
     ∙ by_value (has_value x) ks (made r c (without_values x) (map bare ks)) (made r c x ks) (all ks each)
     ∙ ap length (sym (unshown_at r c x ks)))
   where
-    all : (ks : List Element) → Each (λ e. length (unshown (bare e)) ≡ length (unshown e)) ks → length (flat_map unshown (map bare ks)) ≡ length (flat_map unshown ks)
+    all : (ks : List Element) → Each (λ e. length (unshown (bare e)) ≡ length (unshown e)) ks
+        → length (flat_map unshown (map bare ks)) ≡ length (flat_map unshown ks)
     all [] each = refl
     all (k ∷ ks) each =
         length-append (unshown (bare k)) (flat_map unshown (map bare ks)) ∙ ap₂ (λ m n. m + n) each.0 (all ks each.1)
         ∙ sym (length-append (unshown k) (flat_map unshown ks))
 
-    by_value : (b : Bool) (ks : List Element) (a z : Element) → length (flat_map unshown (map bare ks)) ≡ length (flat_map unshown ks)
-        → length (if b then flat_map unshown (map bare ks) else a ∷ []) ≡ length (if b then flat_map unshown ks else z ∷ [])
+    by_value : (b : Bool) (ks : List Element) (a z : Element)
+        → length (flat_map unshown (map bare ks)) ≡ length (flat_map unshown ks)
+        → length (if b then flat_map unshown (map bare ks) else a ∷ [])
+        ≡ length (if b then flat_map unshown ks else z ∷ [])
     by_value true ks a z same = same
     by_value false ks a z same = refl
 
@@ -178,7 +202,8 @@ split (x ∷ a) (y ∷ b) xs ys n e =
 IsAlone : Element → Type 0
 IsAlone e = (u : Element) → is_placed e ≡ true → bare u ≡ bare e → unshown u ≡ unshown e → left_alone u ≡ left_alone e
 
-kids_are_alone : (x : Payload) (us ks : List Element) → Each IsAlone ks → Each (Stands x) ks → map bare us ≡ map bare ks → flat_map unshown us ≡ flat_map unshown ks
+kids_are_alone : (x : Payload) (us ks : List Element)
+    → Each IsAlone ks → Each (Stands x) ks → map bare us ≡ map bare ks → flat_map unshown us ≡ flat_map unshown ks
     → map left_alone us ≡ map left_alone ks
 unfolding IsAlone
 kids_are_alone x [] [] each stand b s = refl
@@ -191,7 +216,8 @@ kids_are_alone x (u ∷ us) (k ∷ ks) each stand b s =
     ap₂ (λ z zs. z ∷ zs) (each.0 u stand.0.placed head both.0) (kids_are_alone x us ks each.1 stand.1 tail both.1)
 
 -- where no children are shown, and there is a value, there are no children
-no_kids : (x : Payload) (ks : List Element) → has_value x ≡ true → shows_children x ≡ false → Each (Stands x) ks → ks ≡ []
+no_kids : (x : Payload) (ks : List Element)
+    → has_value x ≡ true → shows_children x ≡ false → Each (Stands x) ks → ks ≡ []
 no_kids x [] v s stand = refl
 no_kids x (k ∷ ks) v s stand = absurd (nowhere x (seen k) v s stand.0.admitted)
   where
@@ -226,23 +252,28 @@ alone_level r q c d x y ks us each stand same s = by_value (has_value x) refl
         let xs = same.payloads in
         alone_at q d y us ∙ (λ i. made (rs i) (cs i) (xs i) (kids i)) ∙ sym (alone_at r c x ks)
 
-    by_shows : (b : Bool) → shows_children x ≡ b → has_value x ≡ true → flat_map unshown us ≡ flat_map unshown ks → left_alone (made q d y us) ≡ left_alone (made r c x ks)
+    by_shows : (b : Bool) → shows_children x ≡ b → has_value x ≡ true → flat_map unshown us ≡ flat_map unshown ks
+        → left_alone (made q d y us) ≡ left_alone (made r c x ks)
     by_shows true is v lists =
-        joined (ap (λ b. if b then map left_alone us else us) (shows ∙ is) ∙ kids_are_alone x us ks each stand same.kids lists
+        joined (ap (λ b. if b then map left_alone us else us) (shows ∙ is)
+        ∙ kids_are_alone x us ks each stand same.kids lists
         ∙ ap (λ b. if b then map left_alone ks else ks) (sym is))
     by_shows false is v lists =
         let none = no_kids x ks v is stand in
-        joined (ap (λ b. if b then map left_alone us else us) (shows ∙ is) ∙ none_mapped us (same.kids ∙ ap (map bare) none) ∙ sym none
+        joined (ap (λ b. if b then map left_alone us else us) (shows ∙ is)
+        ∙ none_mapped us (same.kids ∙ ap (map bare) none) ∙ sym none
         ∙ ap (λ b. if b then map left_alone ks else ks) (sym is))
 
     by_value : (b : Bool) → has_value x ≡ b → left_alone (made q d y us) ≡ left_alone (made r c x ks)
     by_value true is =
         by_shows (shows_children x) refl is
-        (ap (λ b. if b then flat_map unshown us else made q d y us ∷ []) (sym (values ∙ is)) ∙ sym (unshown_at q d y us) ∙ s
+        (ap (λ b. if b then flat_map unshown us else made q d y us ∷ []) (sym (values ∙ is))
+        ∙ sym (unshown_at q d y us) ∙ s
         ∙ unshown_at r c x ks ∙ ap (λ b. if b then flat_map unshown ks else made r c x ks ∷ []) is)
     by_value false is =
         let one : made q d y us ∷ [] ≡ made r c x ks ∷ [] =
-        ap (λ b. if b then flat_map unshown us else made q d y us ∷ []) (sym (values ∙ is)) ∙ sym (unshown_at q d y us) ∙ s
+        ap (λ b. if b then flat_map unshown us else made q d y us ∷ []) (sym (values ∙ is))
+        ∙ sym (unshown_at q d y us) ∙ s
         ∙ unshown_at r c x ks ∙ ap (λ b. if b then flat_map unshown ks else made r c x ks ∷ []) is in
         let same : made q d y us ≡ made r c x ks = cc in
         ap left_alone same
@@ -254,8 +285,10 @@ is_alone = by_children IsAlone (λ r c x ks each u placed b s.
     let same = fields z.role r z.common c (without_values z.payload) (without_values x) (map bare z.kids) (map bare ks)
     (sym (bare_at z.role z.common z.payload z.kids) ∙ ap bare (made_out u) ∙ b ∙ bare_at r c x ks) in
     ap left_alone (sym (made_out u))
-    ∙ alone_level r z.role c z.common x z.payload ks z.kids each (standing r c x ks placed).each same (ap unshown (made_out u) ∙ s))
+    ∙ alone_level r z.role c z.common x z.payload ks z.kids each
+    (standing r c x ks placed).each same (ap unshown (made_out u) ∙ s))
 
-pub left_alone_is : (e u : Element) → is_placed e ≡ true → DifferInValues e u → unshown u ≡ unshown e → left_alone u ≡ left_alone e
+pub left_alone_is : (e u : Element)
+    → is_placed e ≡ true → DifferInValues e u → unshown u ≡ unshown e → left_alone u ≡ left_alone e
 unfolding IsAlone
 left_alone_is e u placed differ s = is_alone e u placed (sym differ) s

@@ -1,6 +1,6 @@
 -- What is laid of values whose names rise has names that rise.
-use Rattle.std.proofs.Common.{◌≡◌, ℕ, Bool, true, false, List, [], ◌∷◌, Option, Some, None, is_some, Ordering, Less, Equal, Greater}
-use Rattle.std.proofs.Common.{nat_cmp, refl}
+use Rattle.std.proofs.Common.{◌≡◌, ℕ, Bool, true, false, List, [], ◌∷◌, Option, Some, None, is_some, Ordering, Less}
+use Rattle.std.proofs.Common.{Equal, Greater, nat_cmp, refl}
 use Rattle.std.specs.Prelude.{if◌then◌else◌}
 use Rattle.std.specs.Cmp.Lexicographic.{slice_cmp}
 use Rattle.std.specs.Ordering.{match_ordering}
@@ -11,7 +11,8 @@ use Rattle.aas_json_spelling.specs.Values.{IsOrdered, AreOrdered, HasOrder}
 use Rattle.aas_value.specs.ValueForm.{Child, named}
 use Rattle.aas_value_update.specs.Kinds.{child_part, part_of}
 use Rattle.aas_value_update.specs.Laws.{LaidNamesRise}
-use Rattle.aas_value_update.specs.Parts.{Part, Form, nothing, whole, object_of, list_of, entries_of, is_called, by_name, over, over_one}
+use Rattle.aas_value_update.specs.Parts.{Part, Form, nothing, whole, object_of, list_of, entries_of, is_called, by_name}
+use Rattle.aas_value_update.specs.Parts.{over, over_one}
 use Rattle.aas_value_update.specs.Parts.{later, laid, laid_item, laid_items, entry, put_entry, laid_entries, lay_form}
 use Rattle.aas_value_update.proofs.Canonical.{order_rises}
 use Rattle.aas_value_update.proofs.Laid.{laid_rises, lay_named}
@@ -23,7 +24,8 @@ use Rattle.aas_value_update.proofs.WholeOwn.{member_ordered}
 Rising : (Data → Data → Data) → Type 0
 Rising lay = (w v : Data) → IsOrdered w → IsOrdered v → IsOrdered (lay w v)
 
-over_ordered : (lay : Data → Data → Data) → Rising lay → (w v : Option Data) → IfOrdered w → IfOrdered v → IfOrdered (over lay w v)
+over_ordered : (lay : Data → Data → Data) → Rising lay → (w v : Option Data)
+    → IfOrdered w → IfOrdered v → IfOrdered (over lay w v)
 unfolding Rising
 over_ordered lay rising None None a b = tt
 over_ordered lay rising None (Some v) a b = b
@@ -61,7 +63,8 @@ put_ordered n d (member m e ms) one all = by_order (slice_cmp nat_cmp n m) (put_
 name_rises : (n : List ℕ) (xs : List Part) → Each PartRises xs → (lay : Data → Data → Data) → Rising lay
     → Rising (by_name n (λ x. x.lay) xs lay)
 name_rises n [] each lay rising = rising
-name_rises n (x ∷ xs) each lay rising = name_rises n xs each.1 (if is_called n x.child then x.lay else lay) (by_test (is_called n x.child))
+name_rises n (x ∷ xs) each lay rising =
+    name_rises n xs each.1 (if is_called n x.child then x.lay else lay) (by_test (is_called n x.child))
   where
     by_test : (b : Bool) → Rising (if b then x.lay else lay)
     by_test true = each.0
@@ -71,7 +74,8 @@ later_rises : Rising later
 unfolding Rising
 later_rises w v a b = b
 
-laid_ordered : (xs : List Part) → Each PartRises xs → (ws vs : Members) → HasOrder ws → AllOrdered vs → AllOrdered (laid xs ws vs)
+laid_ordered : (xs : List Part) → Each PartRises xs → (ws vs : Members)
+    → HasOrder ws → AllOrdered vs → AllOrdered (laid xs ws vs)
 unfolding Rising
 laid_ordered xs each ws no_members a b = all_ordered ws a
 laid_ordered xs each ws (member n v vs) a b =
@@ -84,10 +88,12 @@ laid_ordered xs each ws (member n v vs) a b =
 
 -- ---- arrays
 
-items_ordered : (xs : List Part) → Each PartRises xs → (ws vs : Items) → AreOrdered ws → AreOrdered vs → AreOrdered (laid_items xs ws vs)
+items_ordered : (xs : List Part) → Each PartRises xs → (ws vs : Items)
+    → AreOrdered ws → AreOrdered vs → AreOrdered (laid_items xs ws vs)
 unfolding Rising
 items_ordered [] each ws vs a b = b
-items_ordered (x ∷ xs) each ws vs a b = by_test (is_some x.child.form) ws vs a b (λ ds es. items_ordered xs each.1 ds es)
+items_ordered (x ∷ xs) each ws vs a b =
+    by_test (is_some x.child.form) ws vs a b (λ ds es. items_ordered xs each.1 ds es)
   where
     by_test : (t : Bool) (ws vs : Items) → AreOrdered ws → AreOrdered vs
         → ((ds es : Items) → AreOrdered ds → AreOrdered es → AreOrdered (laid_items xs ds es))
@@ -103,15 +109,18 @@ entries_ordered [] each ws vs a b = tt
 entries_ordered (x ∷ xs) each ws vs a b =
     let w = entry_ordered x.child ws a in
     let v = entry_ordered x.child vs b in
-    put_in_order x.child (over x.lay (entry x.child ws).0 (entry x.child vs).0) (laid_entries xs (entry x.child ws).1 (entry x.child vs).1)
+    put_in_order x.child (over x.lay (entry x.child ws).0 (entry x.child vs).0)
+    (laid_entries xs (entry x.child ws).1 (entry x.child vs).1)
     (over_ordered x.lay each.0 (entry x.child ws).0 (entry x.child vs).0 w.0 v.0)
     (entries_ordered xs each.1 (entry x.child ws).1 (entry x.child vs).1 w.1 v.1)
   where
-    named_ordered : (o : Option (List ℕ)) (d : Data) → IsOrdered d → IsOrdered (named (record { name = o; form = Some d } ∷ []))
+    named_ordered : (o : Option (List ℕ)) (d : Data)
+        → IsOrdered d → IsOrdered (named (record { name = o; form = Some d } ∷ []))
     named_ordered None d one = tt
     named_ordered (Some n) d one = (tt, one, tt)
 
-    put_in_order : (c : Child) (o : Option Data) (ds : Items) → IfOrdered o → AreOrdered ds → AreOrdered (put_entry c o ds)
+    put_in_order : (c : Child) (o : Option Data) (ds : Items)
+        → IfOrdered o → AreOrdered ds → AreOrdered (put_entry c o ds)
     put_in_order c None ds one rest = rest
     put_in_order c (Some d) ds one rest = (named_ordered c.name d one, rest)
 
@@ -125,9 +134,11 @@ form_rises (object_of xs) (object_of ys) r (object ws) (object vs) a b =
     in_order (laid xs ws vs) (laid_rises xs ws vs (order_rises ws a))
     (laid_ordered xs (first_each PartRises xs ys r) ws vs a (all_ordered vs b))
 form_rises (object_of xs) (object_of ys) r w v a b = b
-form_rises (list_of xs) (list_of ys) r (array ws) (array vs) a b = items_ordered xs (first_each PartRises xs ys r) ws vs a b
+form_rises (list_of xs) (list_of ys) r (array ws) (array vs) a b =
+    items_ordered xs (first_each PartRises xs ys r) ws vs a b
 form_rises (list_of xs) (list_of ys) r w v a b = b
-form_rises (entries_of xs) (entries_of ys) r (array ws) (array vs) a b = entries_ordered xs (first_each PartRises xs ys r.0) ws vs a b
+form_rises (entries_of xs) (entries_of ys) r (array ws) (array vs) a b =
+    entries_ordered xs (first_each PartRises xs ys r.0) ws vs a b
 form_rises (entries_of xs) (entries_of ys) r w v a b = b
 form_rises f g r w v a b = absurd r
 
@@ -137,5 +148,6 @@ rising_parts = record { attribute = λ n d e test. later_rises; named = λ n f g
 pub laid_names_rise : LaidNamesRise
 unfolding Rising
 laid_names_rise e v w order a b =
-    related (λ x y. PartRises x) rising_parts part_of part_of child_part child_part elements_are_parts elements_are_parts
+    related (λ x y. PartRises x) rising_parts part_of part_of
+    child_part child_part elements_are_parts elements_are_parts
     rising_parts.named e e order.names refl v w a b

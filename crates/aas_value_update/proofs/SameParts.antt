@@ -3,9 +3,10 @@ use Rattle.std.proofs.Common.{◌≡◌, ℕ, Bool, false, ◌&&◌, List, [], �
 use Rattle.std.specs.Prelude.{if◌then◌else◌}
 use Rattle.serde_json.specs.Data.{Data, array, object, put, Items, Members, no_members, member}
 use Rattle.serde_json.specs.Find.{get_member}
-use Rattle.aas_value_update.specs.Parts.{Part, Form, nothing, whole, object_of, list_of, entries_of, is_called, by_name, later, value, over}
-use Rattle.aas_value_update.specs.Parts.{over_one, laid, laid_item, laid_items, entry, put_entry, laid_entries, lay_form}
-use Rattle.aas_value_update.specs.Parts.{members_fit, item_fits, items_fit, fits_if, entries_fit, fits_form}
+use Rattle.aas_value_update.specs.Parts.{Part, Form, nothing, whole, object_of, list_of, entries_of, is_called, by_name}
+use Rattle.aas_value_update.specs.Parts.{later, value, over}
+use Rattle.aas_value_update.specs.Parts.{over_one, laid, laid_item, laid_items, entry, put_entry, laid_entries}
+use Rattle.aas_value_update.specs.Parts.{lay_form, members_fit, item_fits, items_fit, fits_if, entries_fit, fits_form}
 use Rattle.aas_value_update.proofs.Laid.{called_alike, entry_alike, put_entry_named}
 use Rattle.aas_value_update.proofs.Pairs.{Pairs, Forms, forms_there, IsOfParts}
 
@@ -33,7 +34,8 @@ SameFit = Same (λ x. x.fits)
 members_same : (xs ys : List Part) → Pairs SameFit xs ys → (ms : Members) → members_fit xs ms ≡ members_fit ys ms
 members_same xs ys pairs no_members = refl
 members_same xs ys pairs (member n d ms) =
-    ap₂ (λ (t : Data → Bool) b. t d && b) (named_same (λ x. x.fits) n xs ys pairs (λ e. false)) (members_same xs ys pairs ms)
+    ap₂ (λ (t : Data → Bool) b. t d && b)
+    (named_same (λ x. x.fits) n xs ys pairs (λ e. false)) (members_same xs ys pairs ms)
 
 items_same : (xs ys : List Part) → Pairs SameFit xs ys → items_fit xs ≡ items_fit ys
 items_same [] [] pairs = refl
@@ -68,7 +70,8 @@ fits_same f g r v = absurd r
 pub same_fit_parts : IsOfParts SameFit
 same_fit_parts = record {
   attribute = λ n d e test. record { name = refl; there = refl; same = refl };
-  named = λ n f g r. record { name = refl; there = forms_there SameFit (λ x y s. s.there) f g r; same = λ i v. fits_same f g r v i };
+  named = λ n f g r.
+      record { name = refl; there = forms_there SameFit (λ x y s. s.there) f g r; same = λ i v. fits_same f g r v i };
 }
 
 -- ---- how they are laid
@@ -79,7 +82,8 @@ SameLay = Same (λ x. x.lay)
 members_laid : (xs ys : List Part) → Pairs SameLay xs ys → (ws vs : Members) → laid xs ws vs ≡ laid ys ws vs
 members_laid xs ys pairs ws no_members = refl
 members_laid xs ys pairs ws (member n v vs) =
-    ap₂ (λ (f : Data → Data → Data) ms. put n (over_one f (get_member n ws) v) ms) (named_same (λ x. x.lay) n xs ys pairs later)
+    ap₂ (λ (f : Data → Data → Data) ms. put n (over_one f (get_member n ws) v) ms)
+    (named_same (λ x. x.lay) n xs ys pairs later)
     (members_laid xs ys pairs ws vs)
 
 items_laid : (xs ys : List Part) → Pairs SameLay xs ys → laid_items xs ≡ laid_items ys
@@ -92,7 +96,8 @@ items_laid (x ∷ xs) (y ∷ ys) pairs =
     let more = items_laid xs ys pairs.1 in
     λ i ws vs. if there i then laid_item (lay i) (more i) ws vs else more i ws vs
 
-entries_laid : (xs ys : List Part) → Pairs SameLay xs ys → (ws vs : Items) → laid_entries xs ws vs ≡ laid_entries ys ws vs
+entries_laid : (xs ys : List Part) → Pairs SameLay xs ys → (ws vs : Items)
+    → laid_entries xs ws vs ≡ laid_entries ys ws vs
 entries_laid [] [] pairs ws vs = refl
 entries_laid [] (y ∷ ys) pairs ws vs = absurd pairs
 entries_laid (x ∷ xs) [] pairs ws vs = absurd pairs
@@ -103,7 +108,8 @@ entries_laid (x ∷ xs) (y ∷ ys) pairs ws vs =
     let w = entry y.child ws in
     let v = entry y.child vs in
     ap₂ (λ (a b : Option Data × Items). put_entry x.child (over x.lay a.0 b.0) (laid_entries xs a.1 b.1)) old sent
-    ∙ ap₂ (λ (f : Data → Data → Data) ds. put_entry x.child (over f w.0 v.0) ds) s.same (entries_laid xs ys pairs.1 w.1 v.1)
+    ∙ ap₂ (λ (f : Data → Data → Data) ds. put_entry x.child (over f w.0 v.0) ds) s.same
+    (entries_laid xs ys pairs.1 w.1 v.1)
     ∙ put_entry_named x.child y.child s.name (over y.lay w.0 v.0) (laid_entries ys w.1 v.1)
 
 pub laid_same : (f g : Form) → Forms SameLay f g → (w v : Data) → lay_form f w v ≡ lay_form g w v
@@ -111,14 +117,16 @@ laid_same nothing nothing r w v = refl
 laid_same (whole x) (whole y) r w v = refl
 laid_same (object_of xs) (object_of ys) r (object ws) (object vs) = ap object (members_laid xs ys r ws vs)
 laid_same (object_of xs) (object_of ys) r w v = refl
-laid_same (list_of xs) (list_of ys) r (array ws) (array vs) = ap (λ (f : Items → Items → Items). array (f ws vs)) (items_laid xs ys r)
+laid_same (list_of xs) (list_of ys) r (array ws) (array vs) =
+    ap (λ (f : Items → Items → Items). array (f ws vs)) (items_laid xs ys r)
 laid_same (list_of xs) (list_of ys) r w v = refl
 laid_same (entries_of xs) (entries_of ys) r (array ws) (array vs) = ap array (entries_laid xs ys r.0 ws vs)
 laid_same (entries_of xs) (entries_of ys) r w v = refl
 laid_same f g r w v = absurd r
 
 -- a form under a name, however it fits
-pub same_lay_forms : (f g : Form) → Forms SameLay f g → (is_some (value f) ≡ is_some (value g)) × (lay_form f ≡ lay_form g)
+pub same_lay_forms : (f g : Form)
+    → Forms SameLay f g → (is_some (value f) ≡ is_some (value g)) × (lay_form f ≡ lay_form g)
 same_lay_forms f g r = (forms_there SameLay (λ x y s. s.there) f g r, λ i w v. laid_same f g r w v i)
 
 pub same_lay_parts : IsOfParts SameLay

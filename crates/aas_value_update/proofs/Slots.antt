@@ -1,5 +1,6 @@
 -- Attributes with the same value form are the same.
-use Rattle.std.proofs.Common.{◌≡◌, ℕ, ℤ, pos, negsuc, Bool, true, false, List, [], ◌∷◌, map, codes, Option, Some, None, option_map, refl, sym, ap, ap₂, ◌∙◌}
+use Rattle.std.proofs.Common.{◌≡◌, ℕ, ℤ, pos, negsuc, Bool, true, false, List, [], ◌∷◌, map, codes, Option, Some, None}
+use Rattle.std.proofs.Common.{option_map, refl, sym, ap, ap₂, ◌∙◌}
 use Rattle.std.specs.Str.{encode_utf8_all}
 use Rattle.std.specs.Fmt.{signed_decimal}
 use Rattle.std.proofs.lemmas.Str.{encodes_same}
@@ -36,7 +37,9 @@ pub same_entity_type : (a b : Option EntityType) → entity_type_or_null a ≡ e
 same_entity_type None None e = refl
 same_entity_type None (Some b) e = cc
 same_entity_type (Some a) None e = cc
-same_entity_type (Some a) (Some b) e = ap (λ (x : EntityType). Some x) (same_words entity_type.name_of entity_type.all entity_type.found a b (ap (λ (d : Data). Some d) e))
+same_entity_type (Some a) (Some b) e =
+    ap (λ (x : EntityType). Some x)
+    (same_words entity_type.name_of entity_type.all entity_type.found a b (ap (λ (d : Data). Some d) e))
 
 same_integer : (y z : ℤ) → of_integer y ≡ of_integer z → y ≡ z
 same_integer (pos a) (pos b) e = cc
@@ -54,7 +57,8 @@ native_word t true s h = h.1
 native_word t false s h = h.1
 
 -- what is written natively as the same value is the same text
-same_native : (t : ValueType) (m n : Option Native) (a b : List ℕ) → native_of t (encode_utf8_all a) ≡ m → native_of t (encode_utf8_all b) ≡ n
+same_native : (t : ValueType) (m n : Option Native) (a b : List ℕ)
+    → native_of t (encode_utf8_all a) ≡ m → native_of t (encode_utf8_all b) ≡ n
     → native_or_text m a ≡ native_or_text n b → encode_utf8_all a ≡ encode_utf8_all b
 same_native t None None a b i j e = cc
 same_native t None (Some (native.Bool y)) a b i j e = cc
@@ -65,10 +69,12 @@ same_native t (Some (native.Bool x)) (Some (native.Whole y)) a b i j e = cc
 same_native t (Some (native.Whole x)) (Some (native.Bool y)) a b i j e = cc
 same_native t (Some (native.Bool x)) (Some (native.Bool y)) a b i j e =
     let same : x ≡ y = cc in
-    native_word t x _ (native_some t _ (native.Bool x) i) ∙ ap word same ∙ sym (native_word t y _ (native_some t _ (native.Bool y) j))
+    native_word t x _ (native_some t _ (native.Bool x) i) ∙ ap word same
+    ∙ sym (native_word t y _ (native_some t _ (native.Bool y) j))
 same_native t (Some (native.Whole x)) (Some (native.Whole y)) a b i j e =
     let numbers : of_integer x ≡ of_integer y = cc in
-    (native_some t _ (native.Whole x) i).1 ∙ ap signed_decimal (same_integer x y numbers) ∙ sym (native_some t _ (native.Whole y) j).1
+    (native_some t _ (native.Whole x) i).1 ∙ ap signed_decimal (same_integer x y numbers)
+    ∙ sym (native_some t _ (native.Whole y) j).1
 
 not_null : (n : Option Native) (s : List ℕ) → null ≡ native_or_text n s → ⊥
 not_null None s e = cc
@@ -86,7 +92,8 @@ same_single t (Some a) (Some b) e = ap (λ (x : List ℕ). Some x) (encodes_same
 never_null : (r : Reference) → null ≡ spell_reference r → ⊥
 never_null r e =
     let x = out-Reference r in
-    let same : null ≡ spelled (parts reference) (attributes_at x.ref_type x.keys (option_map spell_reference x.referred)) =
+    let same : null
+    ≡ spelled (parts reference) (attributes_at x.ref_type x.keys (option_map spell_reference x.referred)) =
     e ∙ ap spell_reference (sym (made_out r)) ∙ spell_at x.ref_type x.keys x.referred in
     absurd (cc)
 
@@ -98,7 +105,8 @@ same_reference_or_null (Some a) (Some b) e = ap (λ (x : Reference). Some x) (sa
 
 -- ---- lists
 
-pub same_list : {A : Type 0} (spell : A → Data) → ((x y : A) → spell x ≡ spell y → x ≡ y) → (xs ys : List A) → onto (map spell xs) no_items ≡ onto (map spell ys) no_items → xs ≡ ys
+pub same_list : {A : Type 0} (spell : A → Data) → ((x y : A) → spell x ≡ spell y → x ≡ y) → (xs ys : List A)
+    → onto (map spell xs) no_items ≡ onto (map spell ys) no_items → xs ≡ ys
 same_list spell same [] [] e = refl
 same_list spell same [] (y ∷ ys) e = cc
 same_list spell same (x ∷ xs) [] e = cc
@@ -107,8 +115,11 @@ same_list spell same (x ∷ xs) (y ∷ ys) e =
     let tail : onto (map spell xs) no_items ≡ onto (map spell ys) no_items = cc in
     ap₂ (λ z zs. z ∷ zs) (same x y head) (same_list spell same xs ys tail)
 
-pub same_array : {A : Type 0} (spell : A → Data) → ((x y : A) → spell x ≡ spell y → x ≡ y) → (xs ys : List A) → array_of spell xs ≡ array_of spell ys → xs ≡ ys
-same_array spell same xs ys e = let items : onto (map spell xs) no_items ≡ onto (map spell ys) no_items = cc in same_list spell same xs ys items
+pub same_array : {A : Type 0} (spell : A → Data) → ((x y : A) → spell x ≡ spell y → x ≡ y) → (xs ys : List A)
+    → array_of spell xs ≡ array_of spell ys → xs ≡ ys
+same_array spell same xs ys e =
+    let items : onto (map spell xs) no_items ≡ onto (map spell ys) no_items = cc in
+    same_list spell same xs ys items
 
 pub same_language : (a b : LangText) → language_value a ≡ language_value b → a ≡ b
 same_language a b e =

@@ -25,12 +25,14 @@ own_form_stays e u v order is a = ((whole_form_makes_element e e u v order refl 
 
 -- ---- an object without members
 
-no_object : (n : Option Native) (s : List ℕ) (ms : Members) → ◌≡◌ {A = Option Data} (Some (native_or_text n s)) (Some (object ms)) → ⊥
+no_object : (n : Option Native) (s : List ℕ) (ms : Members)
+    → ◌≡◌ {A = Option Data} (Some (native_or_text n s)) (Some (object ms)) → ⊥
 no_object None s ms e = cc
 no_object (Some (native.Bool b)) s ms e = cc
 no_object (Some (native.Whole z)) s ms e = cc
 
-no_single_object : (t : ValueType) (v : Option (List ℕ)) (ms : Members) → ◌≡◌ {A = Option Data} (Some (single t v)) (Some (object ms)) → ⊥
+no_single_object : (t : ValueType) (v : Option (List ℕ)) (ms : Members)
+    → ◌≡◌ {A = Option Data} (Some (single t v)) (Some (object ms)) → ⊥
 no_single_object t None ms e = cc
 no_single_object t (Some s) ms e = no_object (native_of t (encode_utf8_all s)) s ms e
 
@@ -58,6 +60,7 @@ no_members_change_nothing e u ms order other is a =
     let forms : value (form_of x.payload (map part_of x.kids)) ≡ Some (object ms) =
     sym (ap (λ (y : Part). y.child.form) (part_out e)) ∙ ap (λ (c : Child). c.form) (child_is e) ∙ is in
     let laid : (part_of e).lay (object ms) (object no_members) ≡ object ms =
-    ap (λ (y : Part). y.lay (object ms) (object no_members)) (part_out e) ∙ nothing_laid x.payload (map part_of x.kids) ms other forms in
+    ap (λ (y : Part). y.lay (object ms) (object no_members)) (part_out e)
+    ∙ nothing_laid x.payload (map part_of x.kids) ms other forms in
     one_form e u order a.metadata a.operations
     (a.form ∙ ap (option_map (λ w. (part_of e).lay w (object no_members))) is ∙ ap (λ (d : Data). Some d) laid ∙ sym is)

@@ -1,7 +1,8 @@
--- Which JSON values may be sent for an attribute (IDTA-01002-3-0, serialization ValueOnly). Where null may stand, and which
--- texts are sent as a truth value or a number, is this profile's own rule.
+-- Which JSON values may be sent for an attribute (IDTA-01002-3-0, serialization ValueOnly). Where null may stand, and
+-- which texts are sent as a truth value or a number, is this profile's own rule.
 use Rattle.std.specs.Prelude.{Bool, true, false, not, ◌&&◌, ◌||◌, is_none}
-use Rattle.serde_json.specs.Data.{Data, null, boolean, number, string, array, object, Items, no_items, item, Members, no_members, member}
+use Rattle.serde_json.specs.Data.{Data, null, boolean, number, string, array, object, Items, no_items, item, Members}
+use Rattle.serde_json.specs.Data.{no_members, member}
 use Rattle.serde_json.specs.Find.{is_float}
 use Rattle.aas_model_names.specs.EntityTypeNames as entity_type
 use Rattle.aas_model_names.specs.Names.{names_of}

@@ -1,5 +1,5 @@
--- The parts of each kind's value form (IDTA-01001-3-0, the value-only serialisation), with Blob values. Value form, shape
--- and laying follow from them.
+-- The parts of each kind's value form (IDTA-01001-3-0, the value-only serialisation), with Blob values. Value form,
+-- shape and laying follow from them.
 use Rattle.std.specs.Prelude.{ℕ, Bool, true, List, [], ◌∷◌, codes, Option, Some}
 use Rattle.serde_json.specs.Data.{Data}
 use Rattle.aas_json_mapping.specs.Parts.{spell_specific_asset_id}
@@ -11,7 +11,8 @@ use Rattle.aas_model.specs.declared.payload.Payload.{Payload}
 use Rattle.aas_model.specs.declared.payload.Payload.TheVariants as p
 use Rattle.aas_value_update.specs.Json.{is_single, is_string, is_string_or_null, is_language, is_array_of}
 use Rattle.aas_value_update.specs.Json.{is_reference, is_reference_or_null, is_specific_asset_id, is_entity_type}
-use Rattle.aas_value_update.specs.Parts.{Part, Form, nothing, whole, object_of, list_of, entries_of, value, later, lay_form, fits_form}
+use Rattle.aas_value_update.specs.Parts.{Part, Form, nothing, whole, object_of, list_of, entries_of, value, later}
+use Rattle.aas_value_update.specs.Parts.{lay_form, fits_form}
 
 -- an attribute: its name, its value, and what may be sent for it
 abbrev pub own : List ℕ → Data → (Data → Bool) → Part

@@ -22,7 +22,12 @@ pub record Unshown : Type 0 where
 
 abbrev pub unshown_over : Element-F Unshown → Unshown
 unshown_over e =
-    let itself = roll-Element (record { common = e.common; payload = e.payload; role = e.role; kids = map (λ k. k.element) e.kids }) in
+    let itself = roll-Element (record {
+      common = e.common;
+      payload = e.payload;
+      role = e.role;
+      kids = map (λ k. k.element) e.kids;
+    }) in
     record { element = itself; unshown = if has_value e.payload then flat_map (λ k. k.unshown) e.kids else itself ∷ [] }
 
 -- the Operations and Capabilities in preorder, each with all that lies below it
@@ -38,7 +43,12 @@ pub record Left : Type 0 where
 
 abbrev pub left_over : Element-F Left → Left
 left_over e = record {
-  element = roll-Element (record { common = e.common; payload = e.payload; role = e.role; kids = map (λ k. k.element) e.kids });
+  element = roll-Element (record {
+    common = e.common;
+    payload = e.payload;
+    role = e.role;
+    kids = map (λ k. k.element) e.kids;
+  });
   alone = roll-Element (record {
     common = e.common;
     payload = without_values e.payload;
@@ -47,6 +57,7 @@ left_over e = record {
   });
 }
 
--- an element without its values: all but the members of class V, in itself and in the children that its value form shows
+-- an element without its values: all but the members of class V,
+-- in itself and in the children that its value form shows
 unfoldable pub left_alone : Element → Element
 left_alone e = (fold-Element Left left_over e).alone

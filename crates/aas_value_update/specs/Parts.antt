@@ -1,7 +1,8 @@
--- A value form as it is put together from parts, each with a name and a value of its own; what may be sent for it, and how
--- one value is laid over another. An update of values (IDTA-01002-3-0) sends parts of a form: what is left out stays. This
--- profile's own rule.
-use Rattle.std.specs.Prelude.{ℕ, Bool, true, false, ◌&&◌, if◌then◌else◌, List, [], ◌∷◌, map, bytes_eq, Option, Some, None, is_some}
+-- A value form as it is put together from parts, each with a name and a value of its own; what may be sent for it, and
+-- how one value is laid over another. An update of values (IDTA-01002-3-0) sends parts of a form: what is left out
+-- stays. This profile's own rule.
+use Rattle.std.specs.Prelude.{ℕ, Bool, true, false, ◌&&◌, if◌then◌else◌, List, [], ◌∷◌, map, bytes_eq, Option, Some}
+use Rattle.std.specs.Prelude.{None, is_some}
 use Rattle.std.specs.Str.{encode_utf8_all}
 use Rattle.serde_json.specs.Data.{Data, array, object, put, Items, no_items, item, Members, no_members, member}
 use Rattle.serde_json.specs.Find.{get_member}
@@ -83,7 +84,8 @@ laid_items (x ∷ xs) ws vs = if is_some x.child.form then laid_item x.lay (laid
 
 -- what stands for a part at the front of entries, and the entries behind it
 abbrev pub entry : Child → Items → Option Data × Items
-entry c (item (object (member n d no_members)) ds) = if is_called n c then (Some d, ds) else (None, item (object (member n d no_members)) ds)
+entry c (item (object (member n d no_members)) ds) =
+    if is_called n c then (Some d, ds) else (None, item (object (member n d no_members)) ds)
 entry c ds = (None, ds)
 
 abbrev pub put_entry : Child → Option Data → Items → Items

@@ -1,19 +1,22 @@
--- The shape of a sent value: the first misshapen element in preorder is the one whose own part of the value is wrong, a
--- parent before its children. This profile's own rule.
-use Rattle.std.specs.Prelude.{◌≡◌, ℕ, ◌+◌, if◌then◌else◌, List, [], ◌∷◌, map, codes, Option, Some, None, option_map, option_and_then, is_some}
+-- The shape of a sent value (IDTA-01002-3-0, serialization ValueOnly): which value may be sent for an element, and
+-- which element is the first, in preorder, that another value doesn't fit. The walk `first_misshapen` finds just this
+-- element. That a parent comes before its children is this profile's own rule.
+use Rattle.std.specs.Prelude.{◌≡◌, ℕ, ◌+◌, ◌<◌, true, false, if◌then◌else◌, List, [], ◌∷◌, map, codes, slice_get}
+use Rattle.std.specs.Prelude.{Option, Some, None, option_map, option_and_then, is_some}
 use Rattle.std.specs.Str.{encode_utf8_all}
 use Rattle.serde_json.specs.Data.{Data, array, Items, no_items, item}
 use Rattle.serde_json.specs.Find.{get}
 use Rattle.aas_json_table.specs.Rows.{first_of}
 use Rattle.aas_value.specs.ValueForm.{Child}
-use Rattle.aas_model.specs.declared.element.Element.{Element, fold-Element}
+use Rattle.aas_model.specs.declared.element.Element.{Element, out-Element, fold-Element}
 use Rattle.aas_model.specs.declared.element.Element.TheOpen.{Element-F}
 use Rattle.aas_model.specs.declared.path.PathStep.{PathStep}
 use Rattle.aas_model.specs.declared.payload.Payload.{Payload}
 use Rattle.aas_model.specs.declared.payload.Payload.TheVariants as p
-use Rattle.aas_constraint_rules.specs.Sites.{Own, step_to}
-use Rattle.aas_value_update.specs.Parts.{Part, entry, children, fits_form}
-use Rattle.aas_value_update.specs.Kinds.{form_of, child_part}
+use Rattle.aas_constraint_rules.specs.Sites.{Own, own_of, step_to}
+use Rattle.aas_path_trees.specs.Children.{kids_of}
+use Rattle.aas_value_update.specs.Parts.{Part, Form, entry, children, fits_form}
+use Rattle.aas_value_update.specs.Kinds.{form_of, child_part, part_of}
 
 -- ---- what is sent for each child
 
@@ -50,11 +53,38 @@ if_sent f cs (Some d) = f d
 abbrev pub sent : Payload → List Child → Data → List (Option Data)
 sent p.SubmodelElementCollection cs v = by_names cs v
 sent (p.Entity t g ids) cs v = if_sent (by_names cs) cs (get (codes "statements") v)
-sent (p.AnnotatedRelationshipElement first second) cs v = if_sent (λ d. by_entries cs (items_in d)) cs (get (codes "annotations") v)
+sent (p.AnnotatedRelationshipElement first second) cs v =
+    if_sent (λ d. by_entries cs (items_in d)) cs (get (codes "annotations") v)
 sent (p.SubmodelElementList o s t u) cs v = in_turn cs (items_in v)
 sent x cs v = nothing_sent cs
 
--- ---- the first misshapen element
+-- ---- what may be sent
+
+-- the form of e: what its own attributes make with its children, for each of which anything may stand
+abbrev pub form_at : Element → Form
+form_at e = form_of (out-Element e).payload (map part_of (kids_of e))
+
+-- v has d for k, the child of e that comes after n others
+pub record IsSentFor (e : Element) (v : Data) (n : ℕ) (k : Element) (d : Data) : Type 0 where
+  pub child : slice_get (kids_of e) n ≡ Some k
+  pub value : slice_get (sent (out-Element e).payload (children (map part_of (kids_of e))) v) n ≡ Some (Some d)
+
+-- v may be sent for e: it fits the form of e, and what it has for a child may be sent for the child
+pub data HasShape : Element → Data → Type 0 where
+  shaped : (e : Element) (v : Data) → fits_form (form_at e) v ≡ true
+      → ((n : ℕ) (k : Element) (d : Data) → IsSentFor e v n k d → HasShape k d) → HasShape e v
+
+-- q leads from e to the first element for which v has something that doesn't fit the form of this element
+pub data IsFirstMisfit : Element → Data → List PathStep → Type 0 where
+  -- e itself
+  at_itself : (e : Element) (v : Data) → fits_form (form_at e) v ≡ false → IsFirstMisfit e v []
+  -- within a child, where v fits the form of e, and what it has for the children before may be sent for them
+  in_child : (e : Element) (v : Data) (n : ℕ) (k : Element) (d : Data) (q : List PathStep)
+      → fits_form (form_at e) v ≡ true
+      → ((m : ℕ) (j : Element) (w : Data) → m < n → IsSentFor e v m j w → HasShape j w)
+      → IsSentFor e v n k d → IsFirstMisfit k d q → IsFirstMisfit e v (step_to (Some (own_of e)) n (own_of k) ∷ q)
+
+-- ---- the walk that finds it
 
 -- a child, as its parent sees it
 pub record Sendable : Type 0 where
@@ -67,7 +97,8 @@ abbrev pub among : Own → ℕ → List Sendable → List (Option Data) → Opti
 among o n [] vs = None
 among o n (k ∷ ks) [] = None
 among o n (k ∷ ks) (None ∷ vs) = among o (n + 1) ks vs
-among o n (k ∷ ks) (Some v ∷ vs) = first_of (option_map (λ q. step_to (Some o) n k.own ∷ q) (k.misshapen v)) (among o (n + 1) ks vs)
+among o n (k ∷ ks) (Some v ∷ vs) =
+    first_of (option_map (λ q. step_to (Some o) n k.own ∷ q) (k.misshapen v)) (among o (n + 1) ks vs)
 
 abbrev pub misshapen_over : Own → List Sendable → Data → Option (List PathStep)
 misshapen_over o ks v =
@@ -90,7 +121,3 @@ sendable = fold-Element Sendable sendable_over
 -- the path, from e on, of the first element whose own part of v is wrong
 abbrev pub first_misshapen : Element → Data → Option (List PathStep)
 first_misshapen e = (sendable e).misshapen
-
--- v is a value form of e's kind with e's children, or a part of one
-abbrev pub HasShape : Element → Data → Type 0
-HasShape e v = first_misshapen e v ≡ None

@@ -1,6 +1,6 @@
 -- Updates of values (IDTA-01002-3-0, PatchSubmodelElementByPath and PatchSubmodel with ValueOnly). What is sent is laid
 -- over the value form; what it leaves out stays. This profile's own rule.
-use Rattle.std.specs.Prelude.{◌≡◌, List, [], ◌∷◌, Option, Some, None, option_map}
+use Rattle.std.specs.Prelude.{◌≡◌, List, [], ◌∷◌, Option, Some, option_map}
 use Rattle.serde_json.specs.Data.{Data}
 use Rattle.aas_model_names.specs.declared.modifiers.Extent.TheVariants as extent
 use Rattle.aas_model.specs.declared.documents.Submodel.{Submodel}
@@ -40,7 +40,12 @@ pub record IsUpdateAt (d : Submodel) (p : List PathStep) (v : Data) (d' : Submod
 
 -- a submodel as an object of its children, as a SubmodelElementCollection is one
 abbrev pub body : Submodel → Element
-body d = roll-Element (record { common = no_attributes; payload = payload.SubmodelElementCollection; role = role.Member; kids = d.kids })
+body d = roll-Element (record {
+  common = no_attributes;
+  payload = payload.SubmodelElementCollection;
+  role = role.Member;
+  kids = d.kids;
+})
 
 -- what a path leads to, where the empty one leads to the submodel as an object of its children
 abbrev pub valued_at : Submodel → List PathStep → Option Element

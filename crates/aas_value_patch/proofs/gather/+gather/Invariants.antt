@@ -10,11 +10,14 @@ use Rattle.aas_value_patch.proofs.gather.+gather.Given as goal
 
 abbrev pub invariant-gather_all-loop-place : goal.invariant-gather_all-loop-place
 invariant-gather_all-loop-place l = record {
-  order : AllOrdered (sent_by l.fn.sent (children (map part_of l.kid-items))) → AllOrdered (sent_by l.sent (children (map part_of (drop l.place l.kid-items))));
+  order : AllOrdered (sent_by l.fn.sent (children (map part_of l.kid-items)))
+      → AllOrdered (sent_by l.sent (children (map part_of (drop l.place l.kid-items))));
   shape : (o : Own) → AllInOrder l.kid-items → AllOrdered (sent_by l.fn.sent (children (map part_of l.kid-items)))
       → among o 0 (map sendable l.kid-items) (sent_by l.fn.sent (children (map part_of l.kid-items)))
-      ≡ among o l.place (map sendable (drop l.place l.kid-items)) (sent_by l.sent (children (map part_of (drop l.place l.kid-items))));
-  rows : AllInOrder l.kid-items → AllOrdered (sent_by l.fn.sent (children (map part_of l.kid-items))) → (seen : List Kind) → length seen ≡ l.fn.rank
+      ≡ among o l.place (map sendable (drop l.place l.kid-items))
+      (sent_by l.sent (children (map part_of (drop l.place l.kid-items))));
+  rows : AllInOrder l.kid-items → AllOrdered (sent_by l.fn.sent (children (map part_of l.kid-items)))
+      → (seen : List Kind) → length seen ≡ l.fn.rank
       → SoFar seen l.fn.rows
       → Reached l.kid-items (sent_by l.fn.sent (children (map part_of l.kid-items))) seen l.fn.rows
       (drop l.place l.kid-items) (sent_by l.sent (children (map part_of (drop l.place l.kid-items)))) l.rank l.rows;

@@ -9,7 +9,8 @@ use Rattle.aas_value_patch.proofs.parents.collection_in.Goals as goal
 pub returns-in_err-kids : goal.returns-in_err-kids
 returns-in_err-kids c = λ differ order.
     let ms = members_view c.args.members.now.entries in
-    refused c.from_residual.result c.in_err-kids.field-0.0 p.SubmodelElementCollection (map part_of c.args.kids.now) (object ms) _ c.from_residual.ensures.0
+    refused c.from_residual.result c.in_err-kids.field-0.0 p.SubmodelElementCollection
+    (map part_of c.args.kids.now) (object ms) _ c.from_residual.ensures.0
     c.from_residual.ensures.1 (c.in_err-kids.ensures.fit differ order) (λ e. e)
 
 pub returns : goal.returns

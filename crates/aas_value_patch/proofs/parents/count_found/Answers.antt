@@ -9,10 +9,15 @@ loop-kid-preserved c =
     let ks = c.args.kids.now in
     let lt : l.kid-index < length ks = omega arith in
     record {
-      counted = found_step ks l.kid-index c.kid-item.result (members_view c.args.members.now.entries) l.count c.count_one-count.result _ lt c.kid-item.is
+      counted =
+          found_step ks l.kid-index c.kid-item.result
+          (members_view c.args.members.now.entries) l.count c.count_one-count.result _ lt c.kid-item.is
           c.count_one-count.ensures.value l.invariant.counted;
       small = omega arith;
     }
 
 pub returns : goal.returns
-returns c = let l = c.loop-kid in found_end c.args.kids.now l.kid-index (members_view c.args.members.now.entries) l.count _ (omega arith) l.invariant.counted
+returns c =
+    let l = c.loop-kid in
+    found_end c.args.kids.now l.kid-index
+    (members_view c.args.members.now.entries) l.count _ (omega arith) l.invariant.counted

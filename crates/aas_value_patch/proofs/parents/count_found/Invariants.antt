@@ -6,7 +6,8 @@ use Rattle.aas_value_patch.proofs.parents.count_found.Given as goal
 
 abbrev pub invariant-loop-kid : goal.invariant-loop-kid
 invariant-loop-kid l = record {
-  counted : l.count + found (map part_of (drop l.kid-index l.kids)) (members_view l.members.entries) ≡ found (map part_of l.kids)
+  counted : l.count + found (map part_of (drop l.kid-index l.kids)) (members_view l.members.entries)
+      ≡ found (map part_of l.kids)
       (members_view l.members.entries);
   small : l.count ≤ l.kid-index;
 }

@@ -18,5 +18,6 @@ loop-kid-preserved c =
 pub returns : goal.returns
 returns c =
     let l = c.loop-kid in
-    entries_end c.as_slice-kid-items.result.now l.kid-index l.left.now c.is_empty.result _ (omega arith) c.is_empty.ensures l.invariant
+    entries_end c.as_slice-kid-items.result.now l.kid-index l.left.now c.is_empty.result _
+    (omega arith) c.is_empty.ensures l.invariant
     ∙ ap (λ ks. entries_fit (map part_of ks) (items_view c.args.entries.now)) c.as_slice-kid-items.ensures

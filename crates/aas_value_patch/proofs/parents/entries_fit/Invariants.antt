@@ -5,5 +5,6 @@ use Rattle.aas_value_update.specs.Parts.{entries_fit}
 use Rattle.aas_value_patch.proofs.parents.entries_fit.Given as goal
 
 abbrev pub invariant-loop-kid : goal.invariant-loop-kid
-invariant-loop-kid l = entries_fit (map part_of (drop l.kid-index l.kid-items)) (items_view l.left) ≡ entries_fit (map part_of l.kid-items)
+invariant-loop-kid l =
+    entries_fit (map part_of (drop l.kid-index l.kid-items)) (items_view l.left) ≡ entries_fit (map part_of l.kid-items)
     (items_view l.entries)

@@ -8,5 +8,6 @@ use Rattle.aas_value_patch.proofs.parents.items_fit.Goals as goal
 pub returns : goal.returns
 returns c =
     let l = c.loop-kid in
-    fit_end c.as_slice-kid-items.result.now l.kid-index l.left.now c.is_empty.result _ (omega arith) c.is_empty.ensures l.invariant
+    fit_end c.as_slice-kid-items.result.now l.kid-index l.left.now c.is_empty.result _
+    (omega arith) c.is_empty.ensures l.invariant
     ∙ ap (λ ks. items_fit (map part_of ks) (items_view c.args.items.now)) c.as_slice-kid-items.ensures

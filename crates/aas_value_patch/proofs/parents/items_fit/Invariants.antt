@@ -5,4 +5,6 @@ use Rattle.aas_value_update.specs.Parts.{items_fit}
 use Rattle.aas_value_patch.proofs.parents.items_fit.Given as goal
 
 abbrev pub invariant-loop-kid : goal.invariant-loop-kid
-invariant-loop-kid l = items_fit (map part_of (drop l.kid-index l.kid-items)) (items_view l.left) ≡ items_fit (map part_of l.kid-items) (items_view l.items)
+invariant-loop-kid l =
+    items_fit (map part_of (drop l.kid-index l.kid-items)) (items_view l.left)
+    ≡ items_fit (map part_of l.kid-items) (items_view l.items)

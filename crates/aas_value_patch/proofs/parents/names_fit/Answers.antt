@@ -10,5 +10,6 @@ use Rattle.aas_value_patch.proofs.parents.names_fit.Goals as goal
 pub returns : goal.returns
 returns c = λ differ order.
     let ms = members_view c.args.members.now.entries in
-    names_are c.args.kids.now ms c.count_found.result c.len.result (c.count_found.ensures ∙ ap (λ ks. found (map part_of ks) ms) c.as_slice.ensures)
+    names_are c.args.kids.now ms c.count_found.result c.len.result
+    (c.count_found.ensures ∙ ap (λ ks. found (map part_of ks) ms) c.as_slice.ensures)
     (c.len.ensures.len ∙ sym (size c.args.members.now.entries)) (apart_of c.args.kids.now differ) order

@@ -9,5 +9,7 @@ use Rattle.aas_value_patch.proofs.parents.statements_in.Goals as goal
 pub returns-in-Some-clause-fit : goal.returns-in-Some-clause-fit
 returns-in-Some-clause-fit c = λ differ order.
     let ms = members_view c.args.members.now.entries in
-    subst (λ o. Judges c.object_in.result (fits_if (fits_form (object_of (map part_of c.args.kids.now))) o)) c.in-Some.ensures
-    (c.object_in.ensures.fit differ (order_under (codes "statements") ms (view c.in-Some.value.now) order c.in-Some.ensures))
+    subst (λ o. Judges c.object_in.result (fits_if (fits_form (object_of (map part_of c.args.kids.now))) o))
+    c.in-Some.ensures
+    (c.object_in.ensures.fit differ
+    (order_under (codes "statements") ms (view c.in-Some.value.now) order c.in-Some.ensures))

@@ -7,4 +7,5 @@ pub returns-in_ok-reference_from-in-Some-clause-taken : goal.returns-in_ok-refer
 returns-in_ok-reference_from-in-Some-clause-taken c = λ order.
     let ms = members_view c.args.members.now.entries in
     taken_under c.args.name.now ms (view c.in-Some.value.now) (reference_or_null c.args.old.now) _ c.in-Some.ensures
-    (c.in_ok-reference_from-in-Some.ensures.taken (order_under c.args.name.now ms (view c.in-Some.value.now) order c.in-Some.ensures))
+    (c.in_ok-reference_from-in-Some.ensures.taken
+    (order_under c.args.name.now ms (view c.in-Some.value.now) order c.in-Some.ensures))

@@ -10,7 +10,11 @@ loop-item-preserved c =
     let vs = c.args.items.now in
     let lt : l.item-index < length vs = omega arith in
     record {
-      fit = fit_step is_language vs l.item-index c.item-item.result _ lt c.item-item.is c.in_ok-language_from.ensures.fit l.invariant.fit;
-      taken = taken_step language_value l.texts c.push.new.self c.in_ok-language_from.field-0 vs l.item-index c.item-item.result _ lt c.item-item.is
+      fit =
+          fit_step is_language vs l.item-index c.item-item.result
+          _ lt c.item-item.is c.in_ok-language_from.ensures.fit l.invariant.fit;
+      taken =
+          taken_step language_value l.texts c.push.new.self c.in_ok-language_from.field-0
+          vs l.item-index c.item-item.result _ lt c.item-item.is
           c.in_ok-push.ensures.ok c.in_ok-language_from.ensures.taken l.invariant.taken;
     }

@@ -7,7 +7,8 @@ use Rattle.aas_value_patch.proofs.slots.number_from.Goals as goal
 
 pub returns-in_ok-from_str-in-Some-clause-taken : goal.returns-in_ok-from_str-in-Some-clause-taken
 returns-in_ok-from_str-in-Some-clause-taken c =
-    unsigned_written c.args.value_type c.in-Some.whole c.args.sent.now.n c.in_ok-from_str-in-Some.field-0 (sym c.is_numeric.ensures ∙ search rules)
+    unsigned_written c.args.value_type c.in-Some.whole c.args.sent.now.n c.in_ok-from_str-in-Some.field-0
+    (sym c.is_numeric.ensures ∙ search rules)
     (omega arith) c.in-Some.ensures
     (c.in_ok-from_str-in-Some.ensures.bytes ∙ c.format.ensures.text)
 
