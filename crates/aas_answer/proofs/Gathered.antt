@@ -15,13 +15,18 @@ use Rattle.aas_answer.specs.Answers.{of_gathered, refusal_of_gather}
 module _ (d : Documents) (shells submodels : List (List ℕ)) (concepts : Bool) where
   pub environment_planned : (c : Chosen) → (Ok c ≡ Err gather.NoMemory) ⊎ (Ok c ≡ chosen d shells submodels concepts)
       → of_gathered (gathered d shells submodels concepts) ≡ Ok (canonical_text environments (chosen_environment d c))
-  environment_planned c chose = sym (ap of_gathered (environment_gathered d shells submodels concepts c (chosen_environment d c) chose refl))
+  environment_planned c chose =
+      sym (ap of_gathered (environment_gathered d shells submodels concepts c (chosen_environment d c) chose refl))
 
-  pub environment_refused : (f : GatherFault) → ◌≡◌ {A = Result Chosen GatherFault} (Err f) (Err gather.NoMemory) ⊎ (Err f ≡ chosen d shells submodels concepts)
-      → (refusal_of_gather f ≡ refused.NoMemory) ⊎ (of_gathered (gathered d shells submodels concepts) ≡ Err (refusal_of_gather f))
+  pub environment_refused : (f : GatherFault)
+      → ◌≡◌ {A = Result Chosen GatherFault} (Err f) (Err gather.NoMemory) ⊎ (Err f ≡ chosen d shells submodels concepts)
+      → (refusal_of_gather f ≡ refused.NoMemory)
+      ⊎ (of_gathered (gathered d shells submodels concepts) ≡ Err (refusal_of_gather f))
   environment_refused f chose = by (fault_gathered d shells submodels concepts f chose)
     where
-      by : ◌≡◌ {A = Result Environment GatherFault} (Err f) (Err gather.NoMemory) ⊎ (Err f ≡ gathered d shells submodels concepts)
-          → (refusal_of_gather f ≡ refused.NoMemory) ⊎ (of_gathered (gathered d shells submodels concepts) ≡ Err (refusal_of_gather f))
+      by : ◌≡◌ {A = Result Environment GatherFault} (Err f) (Err gather.NoMemory)
+          ⊎ (Err f ≡ gathered d shells submodels concepts)
+          → (refusal_of_gather f ≡ refused.NoMemory)
+          ⊎ (of_gathered (gathered d shells submodels concepts) ≡ Err (refusal_of_gather f))
       by (inl none) = let is : f ≡ gather.NoMemory = cc in inl (ap refusal_of_gather is)
       by (inr is) = inr (sym (ap of_gathered is))

@@ -8,5 +8,4 @@ mod Low
 mod Pages
 mod Planned
 mod Ranked
-mod Shown
 mod Stored

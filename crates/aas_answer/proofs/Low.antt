@@ -1,5 +1,6 @@
 -- The rows of elements of which none stands too deep.
-use Rattle.std.proofs.Common.{◌≡◌, ℕ, zero, suc, ◌+◌, ◌≤◌, List, [], ◌∷◌, ◌++◌, length, slice_get, Some, refl, sym, ap, ◌∙◌, subst, arith}
+use Rattle.std.proofs.Common.{◌≡◌, ℕ, zero, suc, ◌+◌, ◌≤◌, List, [], ◌∷◌, ◌++◌, length, slice_get, Some, refl, sym, ap}
+use Rattle.std.proofs.Common.{◌∙◌, subst, arith}
 use Rattle.std.specs.Prelude.{option_and_then}
 use Rattle.aas_model.specs.declared.element.Element.{Element}
 use Rattle.aas_path_trees.specs.Children.{kids_of}
@@ -23,10 +24,12 @@ IsShallow k e = (q : List ℕ) (f : Element) → element_in q e ≡ Some f → k
 Lies : Element → Type 0
 Lies e = (k : ℕ) → IsShallow k e → AreLow (rows e k)
 
-lie_all : (es : List Element) (k : ℕ) → Every Lies es → ((i : ℕ) (e : Element) → slice_get es i ≡ Some e → IsShallow k e) → AreLow (rows_of_all es k)
+lie_all : (es : List Element) (k : ℕ)
+    → Every Lies es → ((i : ℕ) (e : Element) → slice_get es i ≡ Some e → IsShallow k e) → AreLow (rows_of_all es k)
 unfolding Lies
 lie_all [] k h short = λ n r is. absurd (cc)
-lie_all (e ∷ es) k h short = low_both (rows e k) (rows_of_all es k) (h.0 k (short 0 e refl)) (lie_all es k h.1 (λ i. short (suc i)))
+lie_all (e ∷ es) k h short =
+    low_both (rows e k) (rows_of_all es k) (h.0 k (short 0 e refl)) (lie_all es k h.1 (λ i. short (suc i)))
 
 lie : (e : Element) → Every Lies (kids_of e) → Lies e
 unfolding Lies IsShallow element_in
@@ -36,7 +39,8 @@ lie e h k short =
     (lie_all (kids_of e) (k + 1) h
     (λ i o at q f is. omega (arith, short (i ∷ q) f (ap (option_and_then (element_in q)) at ∙ is)))))
 
-pub rows_are_low : (es : List Element) → ((q : List ℕ) (e : Element) → element_in_all q es ≡ Some e → length q ≤ 30) → AreLow (rows_of_all es 1)
+pub rows_are_low : (es : List Element)
+    → ((q : List ℕ) (e : Element) → element_in_all q es ≡ Some e → length q ≤ 30) → AreLow (rows_of_all es 1)
 unfolding IsShallow
 rows_are_low es shallow =
     lie_all es 1 (every Lies (by_kids Lies lie) es)

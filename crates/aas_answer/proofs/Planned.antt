@@ -29,42 +29,61 @@ same None = refl
 same (Some c) = refl
 
 -- a page whose beginning, entries and end were put
-pub page_added : {X K : Type 0} (text : X → List ℕ) (ids : List X) (cursor : Option (List ℕ)) (s a b r : Pouring) (t u v w : Told K)
+pub page_added : {X K : Type 0} (text : X → List ℕ) (ids : List X)
+    (cursor : Option (List ℕ)) (s a b r : Pouring) (t u v w : Told K)
     → Adds s a t u (page_begin cursor) → Adds a b u v (joined text ids) → Adds b r v w (codes "]}")
     → Adds s r t w (page_text text cursor (record { entries = ids; more = is_some cursor }))
 page_added text ids cursor s a b r t u v w begun told ended =
-    adds_same s r t w ((page_begin cursor ++ joined text ids) ++ codes "]}") (page_text text cursor (record { entries = ids; more = is_some cursor }))
-    (adds_both s b r t v w (page_begin cursor ++ joined text ids) (codes "]}") (adds_both s a b t u v (page_begin cursor) (joined text ids) begun told) ended)
+    adds_same s r t w ((page_begin cursor ++ joined text ids) ++ codes "]}")
+    (page_text text cursor (record { entries = ids; more = is_some cursor }))
+    (adds_both s b r t v w (page_begin cursor ++ joined text ids) (codes "]}")
+    (adds_both s a b t u v (page_begin cursor) (joined text ids) begun told) ended)
     (ap (λ c. (page_begin c ++ joined text ids) ++ codes "]}") (same cursor))
 
 -- the text of a page of documents, and of its entries
 abbrev page_over : Documents → Collection → Level → Extent → List (List ℕ) → Option (List ℕ) → List ℕ
-page_over d c level extent ids cursor = (page_begin cursor ++ joined (λ id. document_shown c level extent (encode_utf8_all id) d) ids) ++ codes "]}"
+page_over d c level extent ids cursor =
+    (page_begin cursor ++ joined (λ id. document_shown c level extent (encode_utf8_all id) d) ids) ++ codes "]}"
 
 abbrev page_told : Documents → Collection → Level → Extent → List (List ℕ) → Option (List ℕ) → List ℕ
-page_told d c level extent ids cursor = page_text (λ id. document_shown c level extent (encode_utf8_all id) d) cursor (record { entries = ids; more = is_some cursor })
+page_told d c level extent ids cursor =
+    page_text (λ id. document_shown c level extent (encode_utf8_all id) d) cursor
+    (record { entries = ids; more = is_some cursor })
 
-over : (d : Documents) (c : Collection) (level : Level) (extent : Extent) (ids : List (List ℕ)) (cursor : Option (List ℕ))
+over : (d : Documents) (c : Collection) (level : Level)
+    (extent : Extent) (ids : List (List ℕ)) (cursor : Option (List ℕ))
     → page_over d c level extent ids cursor ≡ page_told d c level extent ids cursor
 over d c level extent ids cursor = ap (page_over d c level extent ids) (same cursor)
 
 -- the page of a plan
-pub page_planned : (c : Collection) (level : Level) (extent : Extent) (d : Documents) (s : Selection) (ids : List (List ℕ)) (more : Bool) (cursor : Option (List ℕ))
-    → record { entries = map encode_utf8_all ids; more = more } ≡ page_of c s.filter (option_map encode_utf8_all s.after) s.limit d
+pub page_planned : (c : Collection) (level : Level) (extent : Extent) (d : Documents)
+    (s : Selection) (ids : List (List ℕ)) (more : Bool) (cursor : Option (List ℕ))
+    → record { entries = map encode_utf8_all ids; more = more }
+    ≡ page_of c s.filter (option_map encode_utf8_all s.after) s.limit d
     → cursor ≡ (if more then option_map (encode_of url_safe_no_pad) (last_or None (map encode_utf8_all ids)) else None)
-    → page_shown c level extent d s ≡ Ok (page_text (λ id. document_shown c level extent (encode_utf8_all id) d) cursor (record { entries = ids; more = is_some cursor }))
+    → page_shown c level extent d s
+    ≡ Ok (page_text (λ id. document_shown c level extent (encode_utf8_all id) d) cursor
+    (record { entries = ids; more = is_some cursor }))
 page_planned Shells level extent d s ids more cursor shown next =
     sym
-    (told_on d.shells (passes_shell s.filter) (canonical_text shells) (λ id. document_shown Shells level extent id d) (λ id. refl) (option_map encode_utf8_all s.after) s.limit ids more cursor
-    (page_begin cursor ++ joined (λ id. document_shown Shells level extent (encode_utf8_all id) d) ids) (page_over d Shells level extent ids cursor) shown next refl refl)
+    (told_on d.shells (passes_shell s.filter) (canonical_text shells) (λ id. document_shown Shells level extent id d)
+    (λ id. refl) (option_map encode_utf8_all s.after) s.limit ids more cursor
+    (page_begin cursor ++ joined (λ id. document_shown Shells level extent (encode_utf8_all id) d) ids)
+    (page_over d Shells level extent ids cursor) shown next refl refl)
     ∙ ap (λ t. Ok t) (over d Shells level extent ids cursor)
 page_planned Submodels level extent d s ids more cursor shown next =
     sym
-    (told_on d.submodels (passes_submodel s.filter) (submodel_shown level extent) (λ id. document_shown Submodels level extent id d) (λ id. refl) (option_map encode_utf8_all s.after) s.limit ids more cursor
-    (page_begin cursor ++ joined (λ id. document_shown Submodels level extent (encode_utf8_all id) d) ids) (page_over d Submodels level extent ids cursor) shown next refl refl)
+    (told_on d.submodels (passes_submodel s.filter) (submodel_shown level extent)
+    (λ id. document_shown Submodels level extent id d)
+    (λ id. refl) (option_map encode_utf8_all s.after) s.limit ids more cursor
+    (page_begin cursor ++ joined (λ id. document_shown Submodels level extent (encode_utf8_all id) d) ids)
+    (page_over d Submodels level extent ids cursor) shown next refl refl)
     ∙ ap (λ t. Ok t) (over d Submodels level extent ids cursor)
 page_planned Concepts level extent d s ids more cursor shown next =
     sym
-    (told_on d.concepts (passes_concept s.filter) (canonical_text concepts) (λ id. document_shown Concepts level extent id d) (λ id. refl) (option_map encode_utf8_all s.after) s.limit ids more cursor
-    (page_begin cursor ++ joined (λ id. document_shown Concepts level extent (encode_utf8_all id) d) ids) (page_over d Concepts level extent ids cursor) shown next refl refl)
+    (told_on d.concepts (passes_concept s.filter) (canonical_text concepts)
+    (λ id. document_shown Concepts level extent id d)
+    (λ id. refl) (option_map encode_utf8_all s.after) s.limit ids more cursor
+    (page_begin cursor ++ joined (λ id. document_shown Concepts level extent (encode_utf8_all id) d) ids)
+    (page_over d Concepts level extent ids cursor) shown next refl refl)
     ∙ ap (λ t. Ok t) (over d Concepts level extent ids cursor)

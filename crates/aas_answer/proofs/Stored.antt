@@ -3,8 +3,6 @@ use Rattle.std.proofs.Common.{◌≡◌, ℕ, List, [], Option, Some, None, refl
 use Rattle.std.specs.Prelude.{MatchOption, option_map}
 use Rattle.std.specs.FinMap as map
 use Rattle.std.specs.Option.{option_map_or}
-use Rattle.aas_json_mapping.specs.Documents.{spell_submodel}
-use Rattle.serde_json.specs.Written.{compact_text}
 use Rattle.aas_constraint_laws.specs.Values.{without_values}
 use Rattle.aas_form.specs.MetadataForm.{metadata_form}
 use Rattle.aas_model.specs.declared.documents.Submodel.{Submodel}
@@ -12,22 +10,21 @@ use Rattle.aas_model.specs.declared.element.Element.{Element, roll-Element}
 use Rattle.aas_model_names.specs.declared.modifiers.Extent.{Extent}
 use Rattle.aas_model_names.specs.declared.modifiers.Level.{Level}
 use Rattle.aas_pour.specs.Poured.{AreLow}
-use Rattle.aas_pour.specs.Submodels.{shown_submodel}
+use Rattle.aas_pour.specs.Submodels.{with_elements}
 use Rattle.aas_rows.specs.Rows.{Line, line_at, rows_of_all}
 use Rattle.aas_step.specs.Laws.{ValidIsStorable}
 use Rattle.aas_step.specs.Valid.{AreValid}
 use Rattle.aas_store.specs.Documents.{Documents, Identifier, without_children}
 use Rattle.aas_store.specs.Storable.{IsStorable}
 use Rattle.aas_answer.specs.Answers.{submodel_shown}
-use Rattle.aas_answer.specs.Shown.{show_at}
 use Rattle.aas_answer.proofs.Low.{rows_are_low}
-use Rattle.aas_answer.proofs.Shown.{submodel_text_shown}
 
 -- these rows are those of the submodel that is found
 abbrev pub HasLines : Option Submodel → List Line → Type 0
 HasLines found lines = MatchOption found ⊥ (λ s. lines ≡ rows_of_all s.kids 1)
 
-pub has_lines : (found : Option Submodel) (s : Submodel) (lines : List Line) → Some s ≡ found → lines ≡ rows_of_all s.kids 1
+pub has_lines : (found : Option Submodel) (s : Submodel) (lines : List Line)
+    → Some s ≡ found → lines ≡ rows_of_all s.kids 1
     → HasLines found lines
 has_lines found s lines is rows = subst (λ (o : Option Submodel). HasLines o lines) is rows
 
@@ -43,12 +40,11 @@ low_lines None lines valid has = absurd has
 low_lines (Some s) lines valid has = subst AreLow (sym has) (rows_are_low s.kids (valid s refl).shallow)
 
 -- what is shown of a stored submodel by its head, with its children
-pub shown_by_head : (level : Level) (extent : Extent) (found : Option Submodel) (h s : Submodel) → HasValid found → Some s ≡ found
-    → without_children h ≡ without_children s
-    → compact_text (spell_submodel (shown_submodel (show_at 0 level extent) h s.kids)) ≡ option_map_or (submodel_shown level extent) found []
-shown_by_head level extent found h s valid is head =
-    ap (λ h. compact_text (spell_submodel (shown_submodel (show_at 0 level extent) h s.kids))) head
-    ∙ submodel_text_shown level extent s (rows_are_low s.kids (valid s (sym is)).shallow)
+pub shown_by_head : (level : Level) (extent : Extent) (found : Option Submodel) (h s : Submodel)
+    → Some s ≡ found → without_children h ≡ without_children s
+    → submodel_shown level extent (with_elements h s.kids) ≡ option_map_or (submodel_shown level extent) found []
+shown_by_head level extent found h s is head =
+    ap (λ h. submodel_shown level extent (with_elements h s.kids)) head
     ∙ ap (λ o. option_map_or (submodel_shown level extent) o []) is
 
 -- a submodel that isn't told of by its head isn't there
@@ -58,7 +54,8 @@ no_head (Some s) is = absurd (cc)
 
 -- the metadata of an element is told by its row
 metadata_of : Line → Element
-metadata_of r = roll-Element (record { common = r.common; payload = without_values r.payload; role = r.role; kids = [] })
+metadata_of r =
+    roll-Element (record { common = r.common; payload = without_values r.payload; role = r.role; kids = [] })
 
 pub same_metadata : (k : ℕ) (a e : Element) → line_at k a ≡ line_at k e → metadata_form a ≡ metadata_form e
 unfolding metadata_of

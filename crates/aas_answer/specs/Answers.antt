@@ -1,7 +1,8 @@
--- What a question is answered in some documents: the text of what it asks for, or why there is none (IDTA-01002-3-0, the operations that get a page
--- of documents or of a submodel's children, a document by its identifier and an element by its path, with the content modifiers Normal, Metadata,
--- Value, Reference and Path; discovery and serialization).
-use Rattle.std.specs.Prelude.{ℕ, ◌+◌, List, [], ◌++◌, map, take, codes, decimal, Option, Some, None, option_map, Result, Ok, Err, if◌then◌else◌}
+-- What a question is answered in some documents: the text of what it asks for, or why there is none (IDTA-01002-3-0,
+-- the operations that get a page of documents or of a submodel's children, a document by its identifier and an element
+-- by its path, with the content modifiers Normal, Metadata, Value, Reference and Path; discovery and serialization).
+use Rattle.std.specs.Prelude.{ℕ, ◌+◌, List, [], ◌++◌, map, take, codes, decimal, Option, Some, None, option_map, Result}
+use Rattle.std.specs.Prelude.{Ok, Err, if◌then◌else◌}
 use Rattle.std.specs.FinMap as fin
 use Rattle.std.specs.List.{join_by, last_or}
 use Rattle.std.specs.Option.{option_map_or}
@@ -70,7 +71,8 @@ abbrev pub of_shell : Documents → List ℕ → (Shell → Answer) → Answer
 of_shell d id answer = option_map_or answer (fin.get d.shells (encode_utf8_all id)) (Err (NotFound absent.Shell))
 
 abbrev pub of_submodel : Documents → List ℕ → (Submodel → Answer) → Answer
-of_submodel d id answer = option_map_or answer (fin.get d.submodels (encode_utf8_all id)) (Err (NotFound absent.Submodel))
+of_submodel d id answer =
+    option_map_or answer (fin.get d.submodels (encode_utf8_all id)) (Err (NotFound absent.Submodel))
 
 abbrev pub of_concept : Documents → List ℕ → (Concept → Answer) → Answer
 of_concept d id answer = option_map_or answer (fin.get d.concepts (encode_utf8_all id)) (Err (NotFound absent.Concept))
@@ -109,28 +111,35 @@ page_begin cursor = codes "{\"paging_metadata\":" ++ cursor_text cursor ++ codes
 
 -- the text of each of the entries of a page, and the cursor of the next page, where a further entry follows
 abbrev pub page_text : {X : Type 0} → (X → List ℕ) → Option (List ℕ) → PageOf X → List ℕ
-page_text text cursor p = page_begin (if p.more then cursor else None) ++ join_by text (codes ",") p.entries ++ codes "]}"
+page_text text cursor p =
+    page_begin (if p.more then cursor else None) ++ join_by text (codes ",") p.entries ++ codes "]}"
 
 -- documents, the last of which is the cursor
 abbrev pub documents_page : {X : Type 0} → (X → List ℕ) → PageOf (Identifier × X) → Answer
-documents_page text p = Ok (page_text (λ e. text e.1) (option_map (encode_of url_safe_no_pad) (last_or None (map (λ e. e.0) p.entries))) p)
+documents_page text p =
+    Ok (page_text (λ e. text e.1) (option_map (encode_of url_safe_no_pad) (last_or None (map (λ e. e.0) p.entries))) p)
 
 -- the identifiers of documents as strings, the last of which is the cursor
 abbrev pub ids_page : PageOf Identifier → Answer
-ids_page p = Ok (page_text (λ id. compact_text (string id)) (option_map (encode_of url_safe_no_pad) (last_or None p.entries)) p)
+ids_page p =
+    Ok (page_text (λ id. compact_text (string id)) (option_map (encode_of url_safe_no_pad) (last_or None p.entries)) p)
 
 -- entries at places, the next of which is the cursor
 abbrev pub places_page : {X : Type 0} → (X → List ℕ) → Span → List X → Answer
-places_page text span xs = Ok (page_text text (Some (decimal (span.from + span.limit))) (page_from span.from span.limit xs))
+places_page text span xs =
+    Ok (page_text text (Some (decimal (span.from + span.limit))) (page_from span.from span.limit xs))
 
 abbrev pub of_shells : Documents → Selection → (Shell → List ℕ) → Answer
-of_shells d s text = documents_page text (page_after (passes_shell s.filter) (option_map encode_utf8_all s.after) s.limit d.shells)
+of_shells d s text =
+    documents_page text (page_after (passes_shell s.filter) (option_map encode_utf8_all s.after) s.limit d.shells)
 
 abbrev pub of_submodels : Documents → Selection → (Submodel → List ℕ) → Answer
-of_submodels d s text = documents_page text (page_after (passes_submodel s.filter) (option_map encode_utf8_all s.after) s.limit d.submodels)
+of_submodels d s text =
+    documents_page text (page_after (passes_submodel s.filter) (option_map encode_utf8_all s.after) s.limit d.submodels)
 
 abbrev pub of_concepts : Documents → Selection → (Concept → List ℕ) → Answer
-of_concepts d s text = documents_page text (page_after (passes_concept s.filter) (option_map encode_utf8_all s.after) s.limit d.concepts)
+of_concepts d s text =
+    documents_page text (page_after (passes_concept s.filter) (option_map encode_utf8_all s.after) s.limit d.concepts)
 
 -- of the children of a submodel
 abbrev pub of_children : Documents → List ℕ → Span → (Submodel → Element → List ℕ) → Answer
@@ -158,7 +167,8 @@ answer_of d (question.SubmodelsMetadata s) = of_submodels d s (λ x. canonical_t
 answer_of d (question.SubmodelsValue s level extent) = of_submodels d s (submodel_valued level extent)
 answer_of d (question.SubmodelsReference s) = of_submodels d s (λ x. reference_text (submodel_reference x))
 answer_of d (question.Elements id span level extent) = of_children d id span (λ s. element_shown level extent)
-answer_of d (question.ElementsMetadata id span) = of_children d id span (λ s e. canonical_text elements (metadata_form e))
+answer_of d (question.ElementsMetadata id span) =
+    of_children d id span (λ s e. canonical_text elements (metadata_form e))
 answer_of d (question.ElementsReference id span) = of_children d id span (λ s e. reference_text (child_reference s e))
 answer_of d (question.Concepts s) = of_concepts d s (canonical_text concepts)
 answer_of d (question.Shell id) = of_shell d id (λ s. Ok (canonical_text shells s))
@@ -169,13 +179,19 @@ answer_of d (question.Submodel id level extent) =
 answer_of d (question.SubmodelMetadata id) = of_submodel d id (λ s. Ok (canonical_text submodels (submodel_metadata s)))
 answer_of d (question.SubmodelValue id level extent) = of_submodel d id (λ s. Ok (submodel_valued level extent s))
 answer_of d (question.SubmodelReference id) = of_submodel d id (λ s. of_reference (reference_to s []) (lost [] s))
-answer_of d (question.SubmodelPaths id level) = of_submodel d id (λ s. Ok (paths_text (submodel_paths (submodel_core level s))))
+answer_of d (question.SubmodelPaths id level) =
+    of_submodel d id (λ s. Ok (paths_text (submodel_paths (submodel_core level s))))
 answer_of d (question.Element id p level extent) =
     of_element d id p.steps (λ e. Ok (element_shown level extent e))
-answer_of d (question.ElementMetadata id p) = of_element d id p.steps (λ e. Ok (canonical_text elements (metadata_form e)))
-answer_of d (question.ElementValue id p level extent) = of_element d id p.steps (λ e. value_answer (value_form extent (core_form level e)))
-answer_of d (question.ElementReference id p) = of_submodel d id (λ s. of_reference (reference_to s p.steps) (lost p.steps s))
-answer_of d (question.ElementPaths id p level) = of_element d id p.steps (λ e. Ok (paths_text (element_paths p.steps (core_form level e))))
+answer_of d (question.ElementMetadata id p) =
+    of_element d id p.steps (λ e. Ok (canonical_text elements (metadata_form e)))
+answer_of d (question.ElementValue id p level extent) =
+    of_element d id p.steps (λ e. value_answer (value_form extent (core_form level e)))
+answer_of d (question.ElementReference id p) =
+    of_submodel d id (λ s. of_reference (reference_to s p.steps) (lost p.steps s))
+answer_of d (question.ElementPaths id p level) =
+    of_element d id p.steps (λ e. Ok (paths_text (element_paths p.steps (core_form level e))))
 answer_of d (question.Concept id) = of_concept d id (λ c. Ok (canonical_text concepts c))
-answer_of d (question.Lookup wanted after limit) = ids_page (lookup_page wanted (option_map encode_utf8_all after) limit d)
+answer_of d (question.Lookup wanted after limit) =
+    ids_page (lookup_page wanted (option_map encode_utf8_all after) limit d)
 answer_of d (question.Serialization s t c) = of_gathered (gathered d s t c)

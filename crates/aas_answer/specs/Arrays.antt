@@ -1,4 +1,5 @@
--- The member of an environment that lists documents, as it is put document by document (IDTA-01001-3-0, class Environment).
+-- The member of an environment that lists documents, as it is put
+-- document by document (IDTA-01001-3-0, class Environment).
 use Rattle.std.specs.Prelude.{ℕ, Bool, true, List, [], ◌∷◌, ◌++◌, codes, Option, option_map, if◌then◌else◌}
 use Rattle.std.specs.FinMap as map
 use Rattle.std.specs.Option.{option_to_list}

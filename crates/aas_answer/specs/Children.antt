@@ -8,8 +8,8 @@ use Rattle.aas_rows.specs.Rows.{Line, rows_of_all}
 abbrev pub child_from : ℕ → List Line → Option ℕ
 child_from n rows = option_map (λ i. n + i) (nth_where (is_at 1) 0 (drop n rows))
 
--- The row of the rank is that of e, which stands in a place among the children whose rows these are, and behind it stand
--- the rows below e, up to the next child.
+-- The row of the rank is that of e, which stands in a place among the children whose rows these are, and behind it
+-- stand the rows below e, up to the next child.
 pub record IsChildAt (rows : List Line) (rank : ℕ) (e : Element) : Type 0 where
   pub kids : List Element
   pub place : ℕ

@@ -1,5 +1,5 @@
--- What pages tell of their entries, by the form in which they tell it (IDTA-01002-3-0, the content modifiers Normal, Metadata,
--- Value and Reference).
+-- What pages tell of their entries, by the form in which they tell it (IDTA-01002-3-0, the content modifiers Normal,
+-- Metadata, Value and Reference).
 use Rattle.std.specs.Prelude.{ℕ, List, []}
 use Rattle.std.specs.FinMap as map
 use Rattle.std.specs.Option.{option_map_or}
@@ -40,7 +40,8 @@ collection_of (document.Submodel form) = Submodels
 
 -- of the document of an identifier; nothing where there is none
 abbrev pub document_text : DocumentForm → Identifier → Documents → List ℕ
-document_text document.ShellReference id d = option_map_or (λ s. reference_text (shell_reference s)) (map.get d.shells id) []
+document_text document.ShellReference id d =
+    option_map_or (λ s. reference_text (shell_reference s)) (map.get d.shells id) []
 document_text (document.Submodel form) id d = option_map_or (submodel_text form) (map.get d.submodels id) []
 
 abbrev pub documents_in : DocumentForm → Documents → Selection → Answer

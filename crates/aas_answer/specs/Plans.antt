@@ -1,5 +1,6 @@
 -- Plans of answers: which documents are told, of which there may be many.
-use Rattle.std.specs.Prelude.{◌≡◌, ℕ, Bool, true, false, List, [], slice_get, is_some, Option, Some, None, Ok, if◌then◌else◌}
+use Rattle.std.specs.Prelude.{◌≡◌, ℕ, Bool, true, false, List, [], slice_get, is_some, Option, Some, None}
+use Rattle.std.specs.Prelude.{Ok, if◌then◌else◌}
 use Rattle.std.specs.Option.{option_map_or}
 use Rattle.std.specs.Str.{encode_utf8_all}
 use Rattle.aas_json_mapping.specs.Trees.{concepts, environments, shells}
@@ -34,7 +35,8 @@ abbrev pub plan_text : Documents → Plan → List ℕ
 plan_text d (plan.Listing listing) = listing_text d listing
 plan_text d (plan.Environment chosen) = canonical_text environments (chosen_environment d chosen)
 
--- whether answers to a question are planned, which those are that tell whole documents: a page of any, one submodel, an environment
+-- whether answers to a question are planned, which those are that tell whole documents:
+-- a page of any, one submodel, an environment
 abbrev pub is_planned : Question → Bool
 is_planned (question.Shells s) = true
 is_planned (question.Submodels s level extent) = true

@@ -20,7 +20,8 @@ pub(crate) fn shell_answer<S: Store>(
     store: &S,
     id: &Text,
 ) -> Result<Many<u8>, Refusal>
-    ensures { (result ≡ Err NoMemory) ⊎ (result ≡ of_shell (S.documents store.now) id.now (λ s. Ok (canonical_text shells s))) }
+    ensures { (result ≡ Err NoMemory)
+        ⊎ (result ≡ of_shell (S.documents store.now) id.now (λ s. Ok (canonical_text shells s))) }
 {
     match store.shell(id.as_str()) {
         Some(shell) => Ok(Many::from(shell_text(alloc, shell)?)),
@@ -36,7 +37,8 @@ pub(crate) fn shell_reference_answer<S: Store>(
     store: &S,
     id: &Text,
 ) -> Result<Many<u8>, Refusal>
-    ensures { (result ≡ Err NoMemory) ⊎ (result ≡ of_shell (S.documents store.now) id.now (λ s. Ok (reference_text (shell_reference s)))) }
+    ensures { (result ≡ Err NoMemory)
+        ⊎ (result ≡ of_shell (S.documents store.now) id.now (λ s. Ok (reference_text (shell_reference s)))) }
 {
     match store.shell(id.as_str()) {
         Some(shell) => Ok(reference_text(alloc, &reference_of_shell(alloc, shell)?)?),
@@ -69,7 +71,8 @@ pub(crate) fn concept_answer<S: Store>(
     store: &S,
     id: &Text,
 ) -> Result<Many<u8>, Refusal>
-    ensures { (result ≡ Err NoMemory) ⊎ (result ≡ of_concept (S.documents store.now) id.now (λ c. Ok (canonical_text concepts c))) }
+    ensures { (result ≡ Err NoMemory)
+        ⊎ (result ≡ of_concept (S.documents store.now) id.now (λ c. Ok (canonical_text concepts c))) }
 {
     match store.concept(id.as_str()) {
         Some(concept) => Ok(Many::from(concept_text(alloc, concept)?)),

@@ -21,7 +21,7 @@ use aas_command::Refusal;
 use aas_form::{metadata_of, reference_of_shell, reference_of_submodel};
 use aas_members_text::{Poured, comma_of};
 use aas_model::{Extent, Level, Many, NoMemory, Submodel, Text};
-use aas_out::{Out, Pouring, TextOut, add};
+use aas_out::{Out, Pouring, TextOut, add, add_text};
 use aas_page::{Page, Selection, page};
 use aas_pour::pour_submodel_tree;
 use aas_reference::References;
@@ -56,7 +56,8 @@ fn page_told<S: Store>(
     form: DocumentForm,
 ) -> Result<Many<u8>, NoMemory>
     ensures { IfOk result (λ text. (s : asked.Selection) →
-        shown page.now ≡ page_of (collection_of form) s.filter (option_map encode_utf8_all s.after) s.limit (S.documents store.now) →
+        shown page.now
+        ≡ page_of (collection_of form) s.filter (option_map encode_utf8_all s.after) s.limit (S.documents store.now) →
         documents_in form (S.documents store.now) s ≡ Ok text) }
 {
     let cursor = document_cursor(alloc, page)?;
@@ -80,7 +81,7 @@ fn pour_documents<S: Store, O: Out>(
 {
     let mut state = so_far;
     for (place, id) in ids.iter().enumerate() {
-        let comma = add(state, comma_of(place > 0), out);
+        let comma = add_text(state, comma_of(place > 0), out);
         state = pour_told(alloc, comma, store, id.as_str(), form, out)?;
     }
     Ok(state)
@@ -147,7 +148,8 @@ fn pour_metadata<O: Out>(
     submodel: &Submodel,
     out: &mut O,
 ) -> Result<Pouring, NoMemory>
-    ensures { IfOk result (λ state. Adds so_far state (O.told out.old) (O.told out.new) (canonical_text submodels (submodel_metadata submodel.now))) }
+    ensures { IfOk result (λ state. Adds so_far state (O.told out.old)
+        (O.told out.new) (canonical_text submodels (submodel_metadata submodel.now))) }
 {
     let form = metadata_of(alloc, submodel)?;
     Ok(pour_submodel_tree(so_far, &form, out))
@@ -162,7 +164,8 @@ fn pour_value<O: Out>(
     extent: Extent,
     out: &mut O,
 ) -> Result<Pouring, NoMemory>
-    ensures { IfOk result (λ state. Adds so_far state (O.told out.old) (O.told out.new) (submodel_valued level extent submodel)) }
+    ensures { IfOk result (λ state.
+        Adds so_far state (O.told out.old) (O.told out.new) (submodel_valued level extent submodel)) }
 {
     let mut text = Vec::new(alloc);
     append_value(alloc, submodel, level, extent, &mut text)?;

@@ -1,6 +1,5 @@
 // Environments of chosen documents: their plan, and their text, put into an end.
-ghost use Rattle.std.specs.Prelude.{◌≡◌, ◌⊎◌, ◌∷◌, ◌||◌, [], true, IfErr, IfOk, Err, Ok};
-ghost use Rattle.std.specs.FinMap as map;
+ghost use Rattle.std.specs.Prelude.{◌≡◌, ◌⊎◌, ◌∷◌, ◌||◌, [], IfErr, IfOk, Err, Ok};
 ghost use Rattle.aas_command.specs.declared.refusal.Refusal.TheVariants as refused;
 ghost use Rattle.aas_json_mapping.specs.Trees.{environments};
 ghost use Rattle.aas_json_spelling.specs.Spells.{canonical_text};
@@ -17,7 +16,7 @@ use aas_command::{Absent, Refusal};
 use aas_json_table::name;
 use aas_members_text::{Pen, begin_object, comma_of, end_object};
 use aas_model::{Collection, Extent, Level, Many, Text};
-use aas_out::{Out, Pouring, add};
+use aas_out::{Out, Pouring, add_text};
 use aas_serialization::{Chosen, GatherFault, choose};
 use aas_store::{Shelf, Store};
 
@@ -28,7 +27,8 @@ pub(crate) fn plan_environment<S: Store>(
     submodels: &Many<Text>,
     concepts: bool,
 ) -> Result<Chosen, Refusal>
-    ensures planned { IfOk result (λ chosen. of_gathered (gathered (S.documents store.now) shells.now submodels.now concepts)
+    ensures planned { IfOk result (λ chosen.
+        of_gathered (gathered (S.documents store.now) shells.now submodels.now concepts)
         ≡ Ok (canonical_text environments (chosen_environment (S.documents store.now) chosen))) }
     ensures refused { IfErr result (λ refusal. (refusal ≡ refused.NoMemory)
         ⊎ (of_gathered (gathered (S.documents store.now) shells.now submodels.now concepts) ≡ Err refusal)) }
@@ -62,7 +62,8 @@ pub(crate) fn pour_environment<S: Store, O: Out>(
     out: &mut O,
 ) -> Pouring
     requires { AreValid (S.documents store.now) }
-    ensures { Adds so_far result (O.told out.old) (O.told out.new) (canonical_text environments (chosen_environment (S.documents store.now) chosen.now)) }
+    ensures { Adds so_far result (O.told out.old) (O.told out.new)
+        (canonical_text environments (chosen_environment (S.documents store.now) chosen.now)) }
 {
     let begun = begin_object(so_far, out);
     let shells = put_documents(begun, store, Collection::Shells, &chosen.shells, out);
@@ -161,15 +162,16 @@ fn put_entry<S: Store, O: Out>(
 
 /// Puts what stands before a document of the array: a comma, or before the first one the member's name and the bracket.
 fn begin_entry<O: Out>(array: Array, later: bool, collection: Collection, out: &mut O) -> Pouring
-    ensures { Adds array.state result (O.told out.old) (O.told out.new) (before_entry later (name_of collection) array.any) }
+    ensures { Adds array.state result (O.told out.old) (O.told out.new)
+        (before_entry later (name_of collection) array.any) }
 {
     if array.any {
-        return add(array.state, b",", out);
+        return add_text(array.state, ",", out);
     }
-    let comma = add(array.state, comma_of(later), out);
-    let opened = add(comma, b"\"", out);
-    let named = add(opened, name_of(collection).as_bytes(), out);
-    add(named, b"\":[", out)
+    let comma = add_text(array.state, comma_of(later), out);
+    let opened = add_text(comma, "\"", out);
+    let named = add_text(opened, name_of(collection), out);
+    add_text(named, "\":[", out)
 }
 
 /// Puts the bracket behind the array, if it was begun.
@@ -177,7 +179,7 @@ fn end_array<O: Out>(array: Array, out: &mut O) -> Pouring
     ensures { Adds array.state result (O.told out.old) (O.told out.new) (array_end array.any) }
 {
     if array.any {
-        add(array.state, b"]", out)
+        add_text(array.state, "]", out)
     } else {
         array.state
     }

@@ -24,7 +24,8 @@ pub(crate) fn lookup_answer<S: Lookup>(
     limit: u32,
 ) -> Result<Many<u8>, Refusal>
     ensures { (result ≡ Err refused.NoMemory)
-        ⊎ (result ≡ ids_page (lookup_page wanted.now (option_map encode_utf8_all behind.now) limit (S.documents store.now))) }
+        ⊎ (result
+        ≡ ids_page (lookup_page wanted.now (option_map encode_utf8_all behind.now) limit (S.documents store.now))) }
 {
     let page = store.lookup(wanted, after(behind), limit)?;
     Ok(ids_told(alloc, &page)?)

@@ -1,7 +1,7 @@
 //! Questions about the documents of a store are answered.
 //!
-//! What a question is answered is said by `specs/Answers.antt`; questions themselves are said below (`aas_question`), and how
-//! a request asks one above.
+//! What a question is answered is said by `specs/Answers.antt`; questions themselves are said below (`aas_question`),
+//! and how a request asks one above.
 //!
 //! Proved, by the contract of `tell`; `plan`, `pour_plan`, `measure_plan`, `pour_document`:
 //!

@@ -1,5 +1,6 @@
 // The texts of pages, but for entries that are told by a store.
-ghost use Rattle.std.specs.Prelude.{◌≡◌, ◌+◌, ◌++◌, None, Some, codes, decimal, map, min, nat_lt, option_map, if◌then◌else◌, IfOk};
+ghost use Rattle.std.specs.Prelude.{◌≡◌, ◌+◌, ◌++◌, None, Some, codes, decimal, map, min, nat_lt, option_map};
+ghost use Rattle.std.specs.Prelude.{if◌then◌else◌, IfOk};
 ghost use Rattle.std.specs.List.{join_by, last_or};
 ghost use Rattle.std.specs.Option.{option_copied};
 ghost use Rattle.std.specs.Str.{encode_utf8_all};
@@ -12,7 +13,7 @@ ghost use Rattle.aas_answer.specs.Answers.{cursor_text, page_begin};
 
 use aas_members_text::{Poured, comma_of};
 use aas_model::{Many, NoMemory, Text};
-use aas_out::{Out, Pouring, TextOut, add};
+use aas_out::{Out, Pouring, TextOut, add, add_text};
 use aas_page::{Page, Span, id_to_segment};
 use itoa::Buffer;
 use std::alloc::Global;
@@ -30,7 +31,9 @@ pub(crate) fn after(id: &Option<Text>) -> Option<&str>
 /// The cursor of the page behind this one, if a further document follows.
 pub(crate) fn document_cursor(alloc: Global, page: &Page) -> Result<Option<Many<u8>>, NoMemory>
     ensures { IfOk result (λ cursor. cursor
-        ≡ (if page.now.more then option_map (encode_of url_safe_no_pad) (last_or None (map encode_utf8_all page.now.ids)) else None)) }
+        ≡ (if page.now.more
+        then option_map (encode_of url_safe_no_pad) (last_or None (map encode_utf8_all page.now.ids))
+        else None)) }
 {
     if !page.more {
         return Ok(None);
@@ -69,20 +72,20 @@ pub(crate) fn place_cursor(
 pub(crate) fn pour_begin<O: Out>(so_far: Pouring, cursor: &Option<Many<u8>>, out: &mut O) -> Pouring
     ensures { Adds so_far result (O.told out.old) (O.told out.new) (page_begin cursor.now) }
 {
-    let named = add(so_far, b"{\"paging_metadata\":", out);
+    let named = add_text(so_far, "{\"paging_metadata\":", out);
     let paged = pour_cursor(named, cursor, out);
-    add(paged, b",\"result\":[", out)
+    add_text(paged, ",\"result\":[", out)
 }
 
 fn pour_cursor<O: Out>(so_far: Pouring, cursor: &Option<Many<u8>>, out: &mut O) -> Pouring
     ensures { Adds so_far result (O.told out.old) (O.told out.new) (cursor_text cursor.now) }
 {
     match cursor {
-        None => add(so_far, b"{}", out),
+        None => add_text(so_far, "{}", out),
         Some(cursor) => {
-            let named = add(so_far, b"{\"cursor\":\"", out);
+            let named = add_text(so_far, "{\"cursor\":\"", out);
             let told = add(named, cursor.as_slice(), out);
-            add(told, b"\"}", out)
+            add_text(told, "\"}", out)
         }
     }
 }
@@ -93,11 +96,12 @@ pub(crate) fn pour_listed<P: Poured, O: Out>(
     trees: &[P::Tree],
     out: &mut O,
 ) -> Pouring
-    ensures { Adds so_far result (O.told out.old) (O.told out.new) (join_by (λ tree. compact_text (P.spell tree)) (codes ",") trees.now) }
+    ensures { Adds so_far result (O.told out.old) (O.told out.new)
+        (join_by (λ tree. compact_text (P.spell tree)) (codes ",") trees.now) }
 {
     let mut state = so_far;
     for (place, tree) in trees.iter().enumerate() {
-        let comma = add(state, comma_of(place > 0), out);
+        let comma = add_text(state, comma_of(place > 0), out);
         state = P::pour(comma, tree, out);
     }
     state
@@ -107,7 +111,7 @@ pub(crate) fn pour_listed<P: Poured, O: Out>(
 pub(crate) fn end_page(told: Pouring, mut out: TextOut) -> Result<Many<u8>, NoMemory>
     ensures { IfOk result (λ page. (told ≡ Going) × (page ≡ out.text.items ++ codes "]}")) }
 {
-    let ended = add(told, b"]}", &mut out);
+    let ended = add_text(told, "]}", &mut out);
     text_of(ended, out)
 }
 

@@ -1,4 +1,5 @@
-// The bodies of replies to questions about pages of children and of references to submodels, which are listed by their places.
+// The bodies of replies to questions about pages of children and
+// of references to submodels, which are listed by their places.
 ghost use Rattle.std.specs.Prelude.{◌≡◌, ◌⊎◌, List, codes, length, Ok, Err, IfOk};
 ghost use Rattle.std.specs.List.{join_by};
 ghost use Rattle.aas_command.specs.declared.refusal.Refusal.TheVariants as refused;
@@ -14,15 +15,14 @@ ghost use Rattle.aas_answer.specs.Listed.{child_text};
 
 use crate::forms::ChildForm;
 use crate::page_text::{end_of, end_page, place_cursor, pour_begin, pour_listed};
-use crate::pouring::show_at;
 use crate::stored_rows::StoredRows;
 use aas_command::{Absent, Refusal};
 use aas_form::{metadata, reference_of_child};
 use aas_members_text::{CanonicalMembers, Poured, comma_of};
 use aas_model::{Element, Many, NoMemory, Reference, Submodel, Text};
-use aas_out::{Out, Pouring, TextOut, add};
+use aas_out::{Out, Pouring, TextOut, add_text};
 use aas_page::Span;
-use aas_pour::{Rows, pour_element, pour_tree};
+use aas_pour::{Rows, pour_element, pour_tree, show_at};
 use aas_reference::References;
 use aas_step::valid_submodels_are_storable;
 use aas_store::{Store, Table};
@@ -129,7 +129,7 @@ fn pour_children<T: Table, O: Out>(
         let Some(rank) = rows.next_child(at) else {
             return Ok(state);
         };
-        let comma = add(state, comma_of(place > 0), out);
+        let comma = add_text(state, comma_of(place > 0), out);
         state = pour_child(alloc, comma, rows, head, rank, form, out)?;
         at = rank + 1;
     }

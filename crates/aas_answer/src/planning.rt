@@ -14,8 +14,8 @@ use aas_question::Question;
 use aas_store::Store;
 use std::alloc::Global;
 
-/// The plan of the answer to a question, if such answers are planned, which those are that tell whole documents: a page of
-/// any, one submodel, an environment.
+/// The plan of the answer to a question, if such answers are planned, which those are that tell whole documents: a page
+/// of any, one submodel, an environment.
 #[tactic(auto, unfolding(crate::specs::Answers::answer_of))]
 pub fn plan<S: Store>(
     alloc: Global,
@@ -78,7 +78,8 @@ fn plan_page<S: Store>(
     level: Level,
     extent: Extent,
 ) -> Result<Listing, NoMemory>
-    ensures { IfOk result (λ plan. page_shown collection level extent (S.documents store.now) selection.now ≡ Ok (listing_text (S.documents store.now) plan)) }
+    ensures { IfOk result (λ plan. page_shown collection level extent (S.documents store.now) selection.now
+        ≡ Ok (listing_text (S.documents store.now) plan)) }
 {
     let page = page(
         alloc,
@@ -107,7 +108,9 @@ fn plan_submodel<S: Store>(
     level: Level,
     extent: Extent,
 ) -> Result<Listing, Refusal>
-    ensures planned { IfOk result (λ plan. of_submodel (S.documents store.now) id.now (λ s. Ok (submodel_shown level extent s)) ≡ Ok (listing_text (S.documents store.now) plan)) }
+    ensures planned { IfOk result (λ plan.
+        of_submodel (S.documents store.now) id.now (λ s. Ok (submodel_shown level extent s))
+        ≡ Ok (listing_text (S.documents store.now) plan)) }
     ensures refused { IfErr result (λ refusal. (refusal ≡ refused.NoMemory)
         ⊎ (of_submodel (S.documents store.now) id.now (λ s. Ok (submodel_shown level extent s)) ≡ Err refusal)) }
 {

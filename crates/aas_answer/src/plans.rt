@@ -1,5 +1,6 @@
 // Plans of answers, and the texts that are poured by them.
-ghost use Rattle.std.specs.Prelude.{◌≡◌, ◌^◌, [], codes, is_some, length, nat_lt, slice_get, Some, None, if◌then◌else◌, IfOk};
+ghost use Rattle.std.specs.Prelude.{◌≡◌, ◌^◌, [], codes, is_some, length, nat_lt, slice_get, Some, None};
+ghost use Rattle.std.specs.Prelude.{if◌then◌else◌, IfOk};
 ghost use Rattle.std.specs.List.{join_by};
 ghost use Rattle.std.specs.Option.{option_map_or};
 ghost use Rattle.aas_out.specs.Adds.{Adds};
@@ -13,7 +14,7 @@ use crate::page_text::{pour_begin, text_of};
 use crate::pouring::pour_document;
 use aas_members_text::comma_of;
 use aas_model::{Collection, Extent, Level, Many, NoMemory, Text};
-use aas_out::{Failed, Out, Pour, Pouring, TextOut, add, measure};
+use aas_out::{Failed, Out, Pour, Pouring, TextOut, add_text, measure};
 use aas_serialization::Chosen;
 use aas_store::Store;
 use std::alloc::Global;
@@ -88,7 +89,8 @@ fn pour_entry<S: Store, O: Out>(
     out: &mut O,
 ) -> Pouring
     requires { AreValid (S.documents store.now) }
-    ensures { Adds so_far result (O.told out.old) (O.told out.new) (entry_text (S.documents store.now) listing.now id.now) }
+    ensures { Adds so_far result (O.told out.old) (O.told out.new)
+        (entry_text (S.documents store.now) listing.now id.now) }
 {
     pour_document(
         so_far,
@@ -127,11 +129,12 @@ fn pour_page<S: Store, O: Out>(
 ) -> Pouring
     requires { AreValid (S.documents store.now) }
     ensures { Adds so_far result (O.told out.old) (O.told out.new)
-        (page_text (entry_text (S.documents store.now) listing.now) listing.now.cursor (record { entries = listing.now.ids; more = is_some listing.now.cursor })) }
+        (page_text (entry_text (S.documents store.now) listing.now) listing.now.cursor
+        (record { entries = listing.now.ids; more = is_some listing.now.cursor })) }
 {
     let begun = pour_begin(so_far, &listing.cursor, out);
     let told = pour_entries(begun, store, listing, out);
-    add(told, b"]}", out)
+    add_text(told, "]}", out)
 }
 
 /// Puts the entries of the page, with commas between them.
@@ -147,7 +150,7 @@ fn pour_entries<S: Store, O: Out>(
 {
     let mut state = so_far;
     for (place, id) in listing.ids.as_slice().iter().enumerate() {
-        let comma = add(state, comma_of(place > 0), out);
+        let comma = add_text(state, comma_of(place > 0), out);
         state = pour_entry(comma, store, listing, id, out);
     }
     state
@@ -194,7 +197,8 @@ impl<'a, S: Store> Pour for PlanText<'a, S> {
 /// How many bytes the text of the plan has, or `None` where they are 2^64 or more.
 pub fn measure_plan<S: Store>(store: &S, plan: &Plan) -> Option<u64>
     requires { AreValid (S.documents store.now) }
-    ensures { let bytes = length (plan_text (S.documents store.now) plan.now) in result ≡ (if nat_lt bytes (2 ^ 64) then Some bytes else None) }
+    ensures { let bytes = length (plan_text (S.documents store.now) plan.now) in
+        result ≡ (if nat_lt bytes (2 ^ 64) then Some bytes else None) }
 {
     measure(&PlanText::new(store, plan))
 }

@@ -6,37 +6,21 @@ ghost use Rattle.aas_out.specs.Adds.{Adds};
 ghost use Rattle.aas_pour.specs.Poured.{AreLow, HasRow};
 ghost use Rattle.aas_step.specs.Valid.{AreValid};
 ghost use Rattle.aas_answer.specs.Answers.{submodel_shown};
-ghost use Rattle.aas_answer.specs.Shown.{document_shown, row_shown, show_at};
+ghost use Rattle.aas_answer.specs.Shown.{document_shown, row_shown};
 
 use crate::page_text::text_of;
 use crate::stored_rows::StoredRows;
-use aas_members_text::{CanonicalMembers, Show, pour_concept, pour_shell};
+use aas_members_text::{CanonicalMembers, pour_concept, pour_shell};
 use aas_model::{Collection, Extent, Level, Many, NoMemory};
-use aas_out::{Out, Pouring, TextOut};
-use aas_pour::{Rows, pour_element, pour_submodel};
+use aas_out::{Out, Pouring, TextEnd, TextOut};
+use aas_pour::{Rows, pour_element, pour_submodel, show_at};
 use aas_step::valid_submodels_are_storable;
 use aas_store::{Store, Table};
 use std::alloc::Global;
 
-/// A level at which no element stands, since none stands deeper than level 30.
-const PAST_ALL: u64 = 31;
-
-/// What is shown of what stands at a level in its document.
-pub(crate) fn show_at(at: u32, level: Level, extent: Extent) -> Show
-    ensures { result ≡ show_at at level extent }
-{
-    let cut = match level {
-        Level::Deep => PAST_ALL,
-        Level::Core => u64::from(at) + 1,
-    };
-    Show {
-        cut,
-        blobs: matches!(extent, Extent::WithBlobValue),
-    }
-}
-
-/// Puts the text of the document of the identifier, a submodel's at a level and to an extent; nothing where there is none.
-pub fn pour_document<S: Store, O: Out>(
+/// Puts the text of the document of the identifier, a submodel's
+/// at a level and to an extent; nothing where there is none.
+pub fn pour_document<S: Store, O: TextEnd>(
     so_far: Pouring,
     store: &S,
     collection: Collection,
@@ -46,7 +30,8 @@ pub fn pour_document<S: Store, O: Out>(
     out: &mut O,
 ) -> Pouring
     requires { AreValid (S.documents store.now) }
-    ensures { Adds so_far result (O.told out.old) (O.told out.new) (document_shown collection level extent id.now (S.documents store.now)) }
+    ensures { Adds so_far result (O.told out.old) (O.told out.new)
+        (document_shown collection level extent id.now (S.documents store.now)) }
 {
     match collection {
         Collection::Shells => match store.shell(id) {
@@ -62,7 +47,7 @@ pub fn pour_document<S: Store, O: Out>(
 }
 
 /// Puts the text of the submodel of the identifier, at a level and to an extent; nothing where there is none.
-fn pour_stored<S: Store, O: Out>(
+fn pour_stored<S: Store, O: TextEnd>(
     so_far: Pouring,
     store: &S,
     id: &str,
@@ -78,7 +63,7 @@ fn pour_stored<S: Store, O: Out>(
         Some(table) => {
             valid_submodels_are_storable();
             let rows = StoredRows::new(table);
-            pour_submodel(so_far, table.head(), &rows, show_at(0, level, extent), out)
+            pour_submodel(so_far, table.head(), &rows, level, extent, out)
         }
         None => so_far,
     }
@@ -95,7 +80,8 @@ pub(crate) fn pour_row<R: Rows, O: Out>(
 ) -> Pouring
     requires low { AreLow (R.Rows.lines rows.now) }
     requires there { HasRow (R.Rows.lines rows.now) rank }
-    ensures { Adds so_far result (O.told out.old) (O.told out.new) (row_shown level extent (R.Rows.lines rows.now) rank) }
+    ensures { Adds so_far result (O.told out.old) (O.told out.new)
+        (row_shown level extent (R.Rows.lines rows.now) rank) }
 {
     let Some(row) = rows.row(rank) else {
         unreachable!()

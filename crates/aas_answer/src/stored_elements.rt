@@ -20,8 +20,10 @@ pub(crate) fn stored_row<'a, S: Store>(
     id: &Text,
     path: &Path,
 ) -> Result<(u64, RowView<'a>), Refusal>
-    ensures ranked { IfOk result (λ it. Holds (S.documents store.now) (encode_utf8_all id.now) (λ s. rank_at s path.now.steps ≡ Some it.0)) }
-    ensures found { IfOk result (λ it. (e : trees.Element) × IsFound (S.documents store.now) id.now path.now.steps e × IsRowOf e it.1) }
+    ensures ranked { IfOk result (λ it.
+        Holds (S.documents store.now) (encode_utf8_all id.now) (λ s. rank_at s path.now.steps ≡ Some it.0)) }
+    ensures found { IfOk result (λ it.
+        (e : trees.Element) × IsFound (S.documents store.now) id.now path.now.steps e × IsRowOf e it.1) }
     ensures lost { IfErr result (λ refusal. IsLost (S.documents store.now) id.now path.now.steps refusal) }
 {
     match store.find_row(id.as_str(), path) {

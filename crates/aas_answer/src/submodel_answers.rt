@@ -26,7 +26,7 @@ use aas_value::value_of_submodel;
 use std::alloc::Global;
 
 /// A copy of the submodel of the identifier.
-pub(crate) fn stored<S: Store>(store: &S, id: &Text) -> Result<Submodel, Refusal>
+pub(crate) fn submodel_copy<S: Store>(store: &S, id: &Text) -> Result<Submodel, Refusal>
     ensures found { IfOk result (λ s. map.get (S.documents store.now).submodels (encode_utf8_all id.now) ≡ Some s) }
     ensures absent { IfErr result (λ refusal. (refusal ≡ refused.NoMemory)
         ⊎ ((refusal ≡ refused.NotFound absent.Submodel)
@@ -77,7 +77,7 @@ pub(crate) fn submodel_value_answer<S: Store>(
     ensures { (result ≡ Err refused.NoMemory) ⊎ (result ≡ of_submodel (S.documents store.now) id.now
         (λ s. Ok (submodel_valued level extent s))) }
 {
-    let submodel = stored(store, id)?;
+    let submodel = submodel_copy(store, id)?;
     let mut text = Vec::new(alloc);
     append_value(alloc, submodel, level, extent, &mut text)?;
     Ok(Many::from(text))
@@ -136,7 +136,7 @@ pub(crate) fn reference_answer<S: Store>(
     ensures { (result ≡ Err refused.NoMemory) ⊎ (result ≡ of_submodel (S.documents store.now) id.now
         (λ s. of_reference (reference_to s path.now.steps) (lost path.now.steps s))) }
 {
-    let submodel = stored(store, id)?;
+    let submodel = submodel_copy(store, id)?;
     reference_shown(alloc, &submodel, path)
 }
 
@@ -161,7 +161,7 @@ pub(crate) fn submodel_paths_answer<S: Store>(
     ensures { (result ≡ Err refused.NoMemory) ⊎ (result ≡ of_submodel (S.documents store.now) id.now
         (λ s. Ok (paths_text (submodel_paths (submodel_core level s))))) }
 {
-    let submodel = stored(store, id)?;
+    let submodel = submodel_copy(store, id)?;
     Ok(paths_shown(alloc, submodel, level)?)
 }
 

@@ -11,7 +11,7 @@ use aas_members_text::{Concepts, Poured, Shells};
 use aas_model::{
     AssetInformation, Concept, Element, Environment, NoMemory, Reference, Shell, Submodel,
 };
-use aas_out::{Pouring, TextOut};
+use aas_out::{Pouring, StringOut};
 use aas_pour::{Elements, Environments, Submodels};
 use aas_reference::References;
 use std::alloc::Global;
@@ -77,14 +77,9 @@ fn poured_text<P: Poured>(alloc: Global, tree: &P::Tree) -> Result<Vec<u8>, NoMe
     ensures text { IfOk result (λ text. text.items ≡ compact_text (P.spell tree.now)) }
     ensures utf8 { IfOk result (λ text. IsUtf8 text.items) }
 {
-    let mut out = TextOut::new(alloc);
-    let Pouring::Going = P::pour(Pouring::Going, tree, &mut out) else {
-        return Err(NoMemory);
-    };
-    let text = out.into_text();
-    match str::from_utf8(&text) {
-        Ok(_) => Ok(text),
-        // This never comes: the text is JSON, and UTF-8, which no contract of a pouring says.
-        Err(_) => Err(NoMemory),
+    let mut out = StringOut::new(alloc);
+    match P::pour(Pouring::Going, tree, &mut out) {
+        Pouring::Going => Ok(out.into_text().into_bytes()),
+        Pouring::Stopped => Err(NoMemory),
     }
 }

@@ -10,8 +10,8 @@ use crate::text::{
 use aas_model::{AssetInformation, Concept, Element, Environment, NoMemory, Shell, Submodel};
 use std::alloc::Global;
 
-/// Appends the canonical text of a shell to `out` (IDTA-01001-3-0, class AssetAdministrationShell). Where memory is refused,
-/// `out` is as it was.
+/// Appends the canonical text of a shell to `out` (IDTA-01001-3-0, class AssetAdministrationShell). Where memory is
+/// refused, `out` is as it was.
 pub fn write_shell(alloc: Global, shell: &Shell, out: &mut Vec<u8>) -> Result<(), NoMemory>
     ensures { Writes (canonical_text shells shell.now) result out.old.items out.new.items }
 {

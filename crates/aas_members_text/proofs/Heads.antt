@@ -7,7 +7,9 @@ use Rattle.aas_json_table.specs.Spelled.{attribute}
 use Rattle.aas_json_table.specs.Table.{Row, model_types, submodel}
 use Rattle.aas_model.specs.declared.documents.Submodel.{Submodel}
 use Rattle.aas_model.specs.declared.element.Element.{Element}
-use Rattle.aas_members_text.specs.Heads.{all_attributes, later_before, names_before, names_behind, submodel_fields, submodel_text, SubmodelsHaveTheCanonicalText, ShownSubmodelsHaveTheCanonicalText}
+use Rattle.aas_members_text.specs.Heads.{all_attributes, later_before, names_before, names_behind, submodel_fields}
+use Rattle.aas_members_text.specs.Heads.{submodel_text, SubmodelsHaveTheCanonicalText}
+use Rattle.aas_members_text.specs.Heads.{ShownSubmodelsHaveTheCanonicalText}
 use Rattle.aas_members_text.specs.Members.{Field, fields_text}
 use Rattle.aas_members_text.proofs.Fields.{fields_text-append, members_are_fields}
 use Rattle.aas_members_text.specs.Script.{Spoken}
@@ -29,12 +31,18 @@ texts_of [] = refl
 texts_of (e ∷ es) = ap (λ ts. compact_text (spell_element e) ∷ ts) (texts_of es)
 
 -- the elements stand between the members before and those behind
-script_is_fields : (s : Submodel) (ts : List (List ℕ)) → submodel_text s ts ≡ 123 ∷ (fields_text false (submodel_fields s names_before ++ elements_field s ts ∷ submodel_fields s names_behind) ++ 125 ∷ [])
+script_is_fields : (s : Submodel) (ts : List (List ℕ))
+    → submodel_text s ts
+    ≡ 123 ∷ (fields_text false (submodel_fields s names_before ++ elements_field s ts ∷ submodel_fields s names_behind)
+    ++ 125 ∷ [])
 script_is_fields s ts =
     let before = submodel_fields s names_before in
     let behind = submodel_fields s names_behind in
-    ap (λ t. 123 ∷ (fields_text false before ++ t)) (listed_is_field (later_before s) (codes "submodelElements") ts behind (λ b. fields_text b behind ++ 125 ∷ []) (λ b. refl))
-    ∙ ap (λ t. 123 ∷ t) (sym (append_assoc (fields_text false before) (fields_text (later_before s) (elements_field s ts ∷ behind)) (125 ∷ [])))
+    ap (λ t. 123 ∷ (fields_text false before ++ t))
+    (listed_is_field (later_before s) (codes "submodelElements") ts behind
+    (λ b. fields_text b behind ++ 125 ∷ []) (λ b. refl))
+    ∙ ap (λ t. 123 ∷ t) (sym
+    (append_assoc (fields_text false before) (fields_text (later_before s) (elements_field s ts ∷ behind)) (125 ∷ [])))
     ∙ ap (λ t. 123 ∷ (t ++ 125 ∷ [])) (sym (fields_text-append false before (elements_field s ts ∷ behind)))
 
 pub canonical : SubmodelsHaveTheCanonicalText
@@ -42,13 +50,16 @@ canonical s =
     let before = submodel_fields s names_before in
     let behind = submodel_fields s names_behind in
     script_is_fields s (map (λ e. compact_text (spell_element e)) s.kids)
-    ∙ ap (λ o. 123 ∷ (fields_text false (before ++ (codes "submodelElements", o) ∷ behind) ++ 125 ∷ [])) (ap array_of (texts_of s.kids) ∙ sym (array_text (map spell_element s.kids)))
+    ∙ ap (λ o. 123 ∷ (fields_text false (before ++ (codes "submodelElements", o) ∷ behind) ++ 125 ∷ []))
+    (ap array_of (texts_of s.kids) ∙ sym (array_text (map spell_element s.kids)))
     ∙ ap (λ t. 123 ∷ t) (sym (members_are_fields submodel_rows (attribute (all_attributes s)) false))
 
 -- the texts of the elements that are shown
-shown_texts : (w : Show) (es : List Element) → map (λ e. (spoken w e 1).text) es ≡ map (λ e. compact_text (spell_element e)) (map (λ e. shown w e 1) es)
+shown_texts : (w : Show) (es : List Element)
+    → map (λ e. (spoken w e 1).text) es ≡ map (λ e. compact_text (spell_element e)) (map (λ e. shown w e 1) es)
 shown_texts w [] = refl
 shown_texts w (e ∷ es) = ap₂ (λ t ts. t ∷ ts) (ap (λ (v : Spoken). v.text) (trees.canonical w e 1)) (shown_texts w es)
 
 pub shown_canonical : ShownSubmodelsHaveTheCanonicalText
-shown_canonical w s = ap (submodel_text s) (shown_texts w s.kids) ∙ canonical (record s { kids = map (λ e. shown w e 1) s.kids })
+shown_canonical w s =
+    ap (submodel_text s) (shown_texts w s.kids) ∙ canonical (record s { kids = map (λ e. shown w e 1) s.kids })

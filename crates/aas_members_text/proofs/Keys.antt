@@ -1,11 +1,11 @@
 -- Keys: a comma, a name in quotes, a colon.
-use Rattle.std.proofs.Common.{◌≡◌, ℕ, ◌-◌, true, List, [], ◌∷◌, ◌++◌, bytes_eq, drop, length, take, sym, ap, ◌∙◌, append_assoc}
+use Rattle.std.proofs.Common.{◌≡◌, ℕ, true, List, [], ◌∷◌, ◌++◌, bytes_eq, drop, sym, ap, ◌∙◌, append_assoc}
 use Rattle.std.proofs.lemmas.Slice.Eq.{bytes_eq-Decides}
 use Rattle.json.specs.Print.{escape, quoted}
 use Rattle.aas_lemmas.proofs.Truth.{and_left, and_right}
 use Rattle.aas_members_text.specs.Keys.{is_key, name_in}
 use Rattle.aas_members_text.specs.Members.{is_plain}
-use Rattle.aas_members_text.proofs.Quoting.{behind, plain_stands}
+use Rattle.aas_members_text.proofs.Quoting.{plain_stands}
 
 -- what stands behind the comma
 abbrev pub named : List ℕ → List ℕ
@@ -14,11 +14,12 @@ named key = quoted (name_in key) ++ 58 ∷ []
 pub key_parts : (key : List ℕ) → is_key key ≡ true → key ≡ 44 ∷ named key
 key_parts key is =
     (bytes_eq-Decides key (44 ∷ 34 ∷ (name ++ 34 ∷ 58 ∷ []))).0 (and_left _ (is_plain name) is)
-    ∙ ap (λ t. 44 ∷ 34 ∷ (t ++ 34 ∷ 58 ∷ [])) (sym (plain_stands name (and_right (bytes_eq key (44 ∷ 34 ∷ (name ++ 34 ∷ 58 ∷ []))) _ is)))
+    ∙ ap (λ t. 44 ∷ 34 ∷ (t ++ 34 ∷ 58 ∷ []))
+    (sym (plain_stands name (and_right (bytes_eq key (44 ∷ 34 ∷ (name ++ 34 ∷ 58 ∷ []))) _ is)))
     ∙ ap (λ t. 44 ∷ 34 ∷ t) (sym (append_assoc (escape name) (34 ∷ []) (58 ∷ [])))
   where
     name : List ℕ
     name = name_in key
 
-pub behind_comma : (key : List ℕ) → is_key key ≡ true → take (length key - 1) (drop 1 key) ≡ named key
-behind_comma key is = sym (behind 1 key) ∙ ap (drop 1) (key_parts key is)
+pub behind_comma : (key : List ℕ) → is_key key ≡ true → drop 1 key ≡ named key
+behind_comma key is = ap (drop 1) (key_parts key is)

@@ -44,7 +44,8 @@ pub supplemental_part : (w : Show) (r : Line) → element_fields r.common r.payl
 unfolding part
 supplemental_part w r = sym (alike w.blobs r.common r.payload).supplemental
 
-pub value_part : (w : Show) (r : Line) → element_fields r.common (shown_payload w.blobs r.payload) (names 0) ≡ part w r 0
+pub value_part : (w : Show) (r : Line)
+    → element_fields r.common (shown_payload w.blobs r.payload) (names 0) ≡ part w r 0
 unfolding part
 value_part w r = refl
 
@@ -61,11 +62,16 @@ empty_part w r (suc (suc (suc (suc (suc (suc zero)))))) high low even = refl
 empty_part w r (suc (suc (suc (suc (suc (suc (suc j))))))) high low even = absurd (omega arith)
 
 -- what puts the members of a part puts the part
-pub part_text : {K : Type 0} {q : Pen} {a b : Told K} {fs : List Field} (w : Show) (r : Line) (j i : ℕ) (s : Pouring) (later : Bool) → j ≡ i → fs ≡ part w r i → PutsFields (record { state = s; later = later }) q a b fs
+pub part_text : {K : Type 0} {q : Pen} {a b : Told K} {fs : List Field}
+    (w : Show) (r : Line) (j i : ℕ) (s : Pouring) (later : Bool)
+    → j ≡ i → fs ≡ part w r i → PutsFields (record { state = s; later = later }) q a b fs
     → Adds s q.state a b (fields_text later (part w r j))
-part_text {q = q} {a = a} {b = b} w r j i s later at same h = adds_same s q.state a b _ _ h.text (ap (fields_text later) (same ∙ ap (part w r) (sym at)))
+part_text {q = q} {a = a} {b = b} w r j i s later at same h =
+    adds_same s q.state a b _ _ h.text (ap (fields_text later) (same ∙ ap (part w r) (sym at)))
 
-pub part_later : {K : Type 0} {q : Pen} {a b : Told K} {fs : List Field} (w : Show) (r : Line) (j i : ℕ) (s : Pouring) (later : Bool) → j ≡ i → fs ≡ part w r i → PutsFields (record { state = s; later = later }) q a b fs
+pub part_later : {K : Type 0} {q : Pen} {a b : Told K} {fs : List Field}
+    (w : Show) (r : Line) (j i : ℕ) (s : Pouring) (later : Bool)
+    → j ≡ i → fs ≡ part w r i → PutsFields (record { state = s; later = later }) q a b fs
     → q.later ≡ later_after later (part w r j)
 part_later w r j i s later at same h = h.later ∙ ap (later_after later) (same ∙ ap (part w r) (sym at))
 

@@ -17,7 +17,9 @@ abbrev pub head_fields : Head → List (List ℕ) → List Field
 head_fields h ns = map (λ n. (n, option_map compact_text (attribute (head_attributes h) n text))) ns
 
 abbrev pub described_names : List (List ℕ)
-described_names = codes "description" ∷ codes "displayName" ∷ codes "embeddedDataSpecifications" ∷ codes "extensions" ∷ codes "id" ∷ codes "idShort" ∷ []
+described_names =
+    codes "description" ∷ codes "displayName" ∷ codes "embeddedDataSpecifications"
+    ∷ codes "extensions" ∷ codes "id" ∷ codes "idShort" ∷ []
 
 -- ---- submodels
 
@@ -30,7 +32,9 @@ submodel_fields s ns = map (λ n. (n, option_map compact_text (attribute (all_at
 
 -- the names of the members before the elements, and of those behind
 abbrev pub names_before : List (List ℕ)
-names_before = codes "administration" ∷ codes "category" ∷ (described_names ++ codes "kind" ∷ codes "modelType" ∷ codes "qualifiers" ∷ codes "semanticId" ∷ [])
+names_before =
+    codes "administration" ∷ codes "category"
+    ∷ (described_names ++ codes "kind" ∷ codes "modelType" ∷ codes "qualifiers" ∷ codes "semanticId" ∷ [])
 
 abbrev pub names_behind : List (List ℕ)
 names_behind = codes "supplementalSemanticIds" ∷ []
@@ -48,8 +52,11 @@ submodel_text s ts =
 
 -- The text of a submodel is the canonical one where those of its elements are.
 abbrev pub SubmodelsHaveTheCanonicalText : Type 0
-SubmodelsHaveTheCanonicalText = (s : Submodel) → submodel_text s (map (λ e. compact_text (spell_element e)) s.kids) ≡ compact_text (spell_submodel s)
+SubmodelsHaveTheCanonicalText = (s : Submodel)
+    → submodel_text s (map (λ e. compact_text (spell_element e)) s.kids) ≡ compact_text (spell_submodel s)
 
 -- It is the canonical one of what is shown of it, where the texts of the elements are those that are shown.
 abbrev pub ShownSubmodelsHaveTheCanonicalText : Type 0
-ShownSubmodelsHaveTheCanonicalText = (w : Show) (s : Submodel) → submodel_text s (map (λ e. (spoken w e 1).text) s.kids) ≡ compact_text (spell_submodel (record s { kids = map (λ e. shown w e 1) s.kids }))
+ShownSubmodelsHaveTheCanonicalText = (w : Show) (s : Submodel)
+    → submodel_text s (map (λ e. (spoken w e 1).text) s.kids)
+    ≡ compact_text (spell_submodel (record s { kids = map (λ e. shown w e 1) s.kids }))

@@ -1,5 +1,5 @@
--- The text before a member's value (RFC 8259, section 4), as this profile writes objects: behind another member, and with no
--- white space.
+-- The text before a member's value (RFC 8259, section 4), as this profile writes objects: behind another member, and
+-- with no white space.
 use Rattle.std.specs.Prelude.{ℕ, ◌-◌, ◌&&◌, List, [], ◌∷◌, ◌++◌, Bool, bytes_eq, drop, length, take}
 use Rattle.aas_members_text.specs.Members.{is_plain}
 

@@ -2,8 +2,10 @@
 -- children stand.
 --
 -- One list of names serves all kinds: of the members that any element has, in byte order. Children can stand at six
--- places in it, the stops 6 down to 1, which cut the list into the parts 6 down to 0. What a kind lacks is simply not there.
-use Rattle.std.specs.Prelude.{ℕ, not, ◌&&◌, ◌==◌, nat_lt, List, [], ◌∷◌, ◌++◌, Bool, true, false, codes, map, if◌then◌else◌, Option, Some, None, option_map}
+-- places in it, the stops 6 down to 1, which cut the list into the parts 6 down to 0.
+-- What a kind lacks is simply not there.
+use Rattle.std.specs.Prelude.{ℕ, not, ◌&&◌, ◌==◌, nat_lt, List, [], ◌∷◌, ◌++◌, Bool, true, false, codes, map}
+use Rattle.std.specs.Prelude.{if◌then◌else◌, Option, Some, None, option_map}
 use Rattle.json.specs.Print.{quoted}
 use Rattle.serde_json.specs.Written.{comma_if, compact_text}
 use Rattle.aas_json_mapping.specs.Elements.{is_input, is_output, is_inoutput, element_attributes}
@@ -53,10 +55,15 @@ later_after later ((n, Some v) ∷ fs) = true
 abbrev pub names : ℕ → List (List ℕ)
 names j =
     if j == 6 then []
-    else if j == 5 then codes "category" ∷ codes "contentType" ∷ codes "description" ∷ codes "direction" ∷ codes "displayName" ∷ codes "embeddedDataSpecifications" ∷ codes "entityType" ∷ codes "extensions" ∷ codes "first" ∷ codes "globalAssetId" ∷ codes "idShort" ∷ []
+    else if j == 5 then codes "category" ∷ codes "contentType" ∷ codes "description"
+    ∷ codes "direction" ∷ codes "displayName" ∷ codes "embeddedDataSpecifications" ∷ codes "entityType"
+    ∷ codes "extensions" ∷ codes "first" ∷ codes "globalAssetId" ∷ codes "idShort" ∷ []
     else if j == 4 then []
-    else if j == 3 then codes "lastUpdate" ∷ codes "max" ∷ codes "maxInterval" ∷ codes "messageBroker" ∷ codes "messageTopic" ∷ codes "min" ∷ codes "minInterval" ∷ codes "modelType" ∷ codes "observed" ∷ codes "orderRelevant" ∷ []
-    else if j == 2 then codes "qualifiers" ∷ codes "second" ∷ codes "semanticId" ∷ codes "semanticIdListElement" ∷ codes "specificAssetIds" ∷ codes "state" ∷ []
+    else if j == 3
+    then codes "lastUpdate" ∷ codes "max" ∷ codes "maxInterval" ∷ codes "messageBroker" ∷ codes "messageTopic"
+    ∷ codes "min" ∷ codes "minInterval" ∷ codes "modelType" ∷ codes "observed" ∷ codes "orderRelevant" ∷ []
+    else if j == 2 then codes "qualifiers" ∷ codes "second" ∷ codes "semanticId"
+    ∷ codes "semanticIdListElement" ∷ codes "specificAssetIds" ∷ codes "state" ∷ []
     else if j == 1 then codes "supplementalSemanticIds" ∷ codes "typeValueListElement" ∷ []
     else codes "value" ∷ codes "valueId" ∷ codes "valueType" ∷ codes "valueTypeListElement" ∷ []
 
@@ -67,7 +74,9 @@ shown_payload b p = p
 
 -- the members in a part, each as the table's attributes give it
 unfoldable pub part : Show → Line → ℕ → List Field
-part w r j = map (λ n. (n, option_map compact_text (attribute (element_attributes r.common (shown_payload w.blobs r.payload) []) n text))) (names j)
+part w r j = map (λ n.
+    (n, option_map compact_text (attribute (element_attributes r.common (shown_payload w.blobs r.payload) []) n text)))
+    (names j)
 
 -- ---- stops
 

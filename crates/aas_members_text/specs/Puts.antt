@@ -35,6 +35,7 @@ pub record PutsFields {Kept : Type 0} (old new : Pen) (told told_after : Told Ke
   pub later : new.later ≡ later_after old.later fields
 
 -- An object was begun, and those of some members that are there were put in it.
-pub record BeginsObject {Kept : Type 0} (so_far : Pouring) (new : Pen) (told told_after : Told Kept) (fields : List Field) : Type 0 where
+pub record BeginsObject {Kept : Type 0} (so_far : Pouring) (new : Pen)
+    (told told_after : Told Kept) (fields : List Field) : Type 0 where
   pub text : Adds so_far new.state told told_after (123 ∷ fields_text false fields)
   pub later : new.later ≡ later_after false fields

@@ -2,7 +2,8 @@
 use Rattle.std.specs.Prelude.{ℕ, suc, ◌&&◌, ◌||◌, nat_lt, List, [], ◌∷◌, ◌++◌, Bool, true, false, map, filter}
 use Rattle.aas_model.specs.declared.element.Role.{Role}
 use Rattle.aas_rows.specs.Rows.{Line}
-use Rattle.aas_members_text.specs.Members.{field_text, fields_text, later_after, part, stop_name, has_stop, role_fits, opening, closing}
+use Rattle.aas_members_text.specs.Members.{field_text, fields_text, later_after, part, stop_name, has_stop, role_fits}
+use Rattle.aas_members_text.specs.Members.{opening, closing}
 use Rattle.aas_members_text.specs.declared.members.Show.{Show}
 
 -- the texts of children, with commas before them and the bracket behind
@@ -26,7 +27,9 @@ pub record Spoken : Type 0 where
 
 -- the texts of the children that are shown at a stop
 abbrev pub at_stop : Show → Line → ℕ → List Spoken → List (List ℕ)
-at_stop w r j vs = map (λ v. opening j ++ (v.text ++ closing j)) (filter (λ v. nat_lt r.level w.cut && (has_stop j r.payload && role_fits j v.role)) vs)
+at_stop w r j vs =
+    map (λ v. opening j ++ (v.text ++ closing j))
+    (filter (λ v. nat_lt r.level w.cut && (has_stop j r.payload && role_fits j v.role)) vs)
 
 -- what is left of an element's text from its part j on: the parts j to 0, between them the children at the stops
 abbrev pub script : Show → Line → List Spoken → ℕ → Bool → List ℕ

@@ -1,4 +1,5 @@
--- That the text of an element, made of its members and of the texts of its children, is the canonical text of what the mapping spells.
+-- That the text of an element, made of its members and of the texts of its children,
+-- is the canonical text of what the mapping spells.
 use Rattle.std.specs.Prelude.{◌≡◌, ℕ, ◌+◌, nat_lt, List, [], map, if◌then◌else◌}
 use Rattle.serde_json.specs.Written.{compact_text}
 use Rattle.aas_json_table.specs.Spelled.{spelled}
@@ -20,10 +21,13 @@ said c = record { role = c.role; text = compact_text c.spelling }
 abbrev pub shown_kids : Show → ℕ → List Child → List Child
 shown_kids w k cs = if nat_lt k w.cut then cs else []
 
--- The text of an element is the canonical one of its attributes, those of its payload and its children as they are shown.
+-- The text of an element is the canonical one of its attributes,
+-- those of its payload and its children as they are shown.
 abbrev pub RowsGiveTheCanonicalText : Type 0
 RowsGiveTheCanonicalText = (w : Show) (r : Line) (cs : List Child)
-    → element_text w r (map said cs) ≡ compact_text (spelled (rows_for (model_type_of r.payload)) (element_attributes r.common (shown_payload w.blobs r.payload) (shown_kids w r.level cs)))
+    → element_text w r (map said cs)
+    ≡ compact_text (spelled (rows_for (model_type_of r.payload))
+    (element_attributes r.common (shown_payload w.blobs r.payload) (shown_kids w r.level cs)))
 
 -- ---- trees
 
@@ -31,16 +35,27 @@ abbrev pub Leveled : Type 0 → Type 0
 Leveled A = ℕ → A
 
 abbrev pub spoken_over : Show → Element-F (Leveled Spoken) → Leveled Spoken
-spoken_over w e k = record { role = e.role; text = element_text w (record { level = k; common = e.common; payload = e.payload; role = e.role }) (map (λ f. f (k + 1)) e.kids) }
+spoken_over w e k = record {
+  role = e.role;
+  text =
+      element_text w (record { level = k; common = e.common; payload = e.payload; role = e.role })
+      (map (λ f. f (k + 1)) e.kids);
+}
 
 -- an element that stands at a level: its role and text
 unfoldable pub spoken : Show → Element → ℕ → Spoken
 spoken w = fold-Element (Leveled Spoken) (spoken_over w)
 
 abbrev pub shown_over : Show → Element-F (Leveled Element) → Leveled Element
-shown_over w e k = roll-Element (record { common = e.common; payload = shown_payload w.blobs e.payload; role = e.role; kids = if nat_lt k w.cut then map (λ f. f (k + 1)) e.kids else [] })
+shown_over w e k = roll-Element (record {
+  common = e.common;
+  payload = shown_payload w.blobs e.payload;
+  role = e.role;
+  kids = if nat_lt k w.cut then map (λ f. f (k + 1)) e.kids else [];
+})
 
--- what is shown of an element that stands at a level: no child below the last level that has some, and Blobs with or without their values
+-- what is shown of an element that stands at a level: no child below the
+-- last level that has some, and Blobs with or without their values
 unfoldable pub shown : Show → Element → ℕ → Element
 shown w = fold-Element (Leveled Element) (shown_over w)
 

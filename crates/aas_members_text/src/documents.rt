@@ -3,7 +3,8 @@ ghost use Rattle.std.specs.Prelude.{◌∷◌, ◌++◌, []};
 ghost use Rattle.serde_json.specs.Written.{compact_text};
 ghost use Rattle.aas_json_mapping.specs.Documents.{spell_concept, spell_shell};
 ghost use Rattle.aas_json_mapping.specs.Parts.{spell_administration, spell_asset_information, spell_resource};
-ghost use Rattle.aas_members_text.specs.Heads.{described_names, head_fields, names_behind, names_before, submodel_fields};
+ghost use Rattle.aas_members_text.specs.Heads.{described_names, head_fields, names_behind};
+ghost use Rattle.aas_members_text.specs.Heads.{names_before, submodel_fields};
 ghost use Rattle.aas_members_text.specs.Members.{fields_text};
 ghost use Rattle.aas_members_text.specs.Puts.{BeginsObject, PutsFields};
 ghost use Rattle.aas_out.specs.Adds.{Adds};
@@ -21,7 +22,7 @@ use aas_json_parts::{
     SpecificAssetIds,
 };
 use aas_model::{Administration, AssetInformation, Concept, Head, Resource, Shell, Submodel};
-use aas_out::{Out, Pouring};
+use aas_out::{Pouring, TextEnd};
 use aas_reference::References;
 
 impl Poured for Administrations {
@@ -29,7 +30,7 @@ impl Poured for Administrations {
 
     ghost spell = { spell_administration };
 
-    fn pour<O: Out>(so_far: Pouring, administration: &Administration, out: &mut O) -> Pouring {
+    fn pour<O: TextEnd>(so_far: Pouring, administration: &Administration, out: &mut O) -> Pouring {
         let begun = begin_object(so_far, out);
         let creator = put_optional::<References, O>(
             begun,
@@ -66,7 +67,7 @@ impl Poured for Resources {
 
     ghost spell = { spell_resource };
 
-    fn pour<O: Out>(so_far: Pouring, resource: &Resource, out: &mut O) -> Pouring {
+    fn pour<O: TextEnd>(so_far: Pouring, resource: &Resource, out: &mut O) -> Pouring {
         let begun = begin_object(so_far, out);
         let typed = put_optional::<Texts, O>(begun, key::CONTENT_TYPE, &resource.content_type, out);
         let placed = put_one::<Texts, O>(typed, key::PATH, &resource.path, out);
@@ -79,7 +80,7 @@ impl Poured for AssetInformations {
 
     ghost spell = { spell_asset_information };
 
-    fn pour<O: Out>(so_far: Pouring, asset: &AssetInformation, out: &mut O) -> Pouring {
+    fn pour<O: TextEnd>(so_far: Pouring, asset: &AssetInformation, out: &mut O) -> Pouring {
         let begun = begin_object(so_far, out);
         let kind = put_word(begun, key::ASSET_KIND, asset.asset_kind, out);
         let typed = put_optional::<Texts, O>(kind, key::ASSET_TYPE, &asset.asset_type, out);
@@ -110,7 +111,7 @@ impl Poured for Shells {
 
     ghost spell = { spell_shell };
 
-    fn pour<O: Out>(so_far: Pouring, shell: &Shell, out: &mut O) -> Pouring {
+    fn pour<O: TextEnd>(so_far: Pouring, shell: &Shell, out: &mut O) -> Pouring {
         pour_shell(so_far, shell, out)
     }
 }
@@ -123,13 +124,13 @@ impl Poured for Concepts {
 
     ghost spell = { spell_concept };
 
-    fn pour<O: Out>(so_far: Pouring, concept: &Concept, out: &mut O) -> Pouring {
+    fn pour<O: TextEnd>(so_far: Pouring, concept: &Concept, out: &mut O) -> Pouring {
         pour_concept(so_far, concept, out)
     }
 }
 
 /// Puts the canonical text of a shell (IDTA-01001-3-0, class AssetAdministrationShell).
-pub fn pour_shell<O: Out>(so_far: Pouring, shell: &Shell, out: &mut O) -> Pouring
+pub fn pour_shell<O: TextEnd>(so_far: Pouring, shell: &Shell, out: &mut O) -> Pouring
     ensures { Adds so_far result (O.told out.old) (O.told out.new) (compact_text (spell_shell shell.now)) }
 {
     let begun = begin_object(so_far, out);
@@ -160,7 +161,7 @@ pub fn pour_shell<O: Out>(so_far: Pouring, shell: &Shell, out: &mut O) -> Pourin
 }
 
 /// Puts the canonical text of a concept description (IDTA-01001-3-0, class ConceptDescription).
-pub fn pour_concept<O: Out>(so_far: Pouring, concept: &Concept, out: &mut O) -> Pouring
+pub fn pour_concept<O: TextEnd>(so_far: Pouring, concept: &Concept, out: &mut O) -> Pouring
     ensures { Adds so_far result (O.told out.old) (O.told out.new) (compact_text (spell_concept concept.now)) }
 {
     let begun = begin_object(so_far, out);
@@ -184,7 +185,7 @@ pub fn pour_concept<O: Out>(so_far: Pouring, concept: &Concept, out: &mut O) -> 
 }
 
 /// Begins a submodel, and puts what stands before its elements (IDTA-01001-3-0, class Submodel).
-pub fn begin_submodel<O: Out>(so_far: Pouring, submodel: &Submodel, out: &mut O) -> Pen
+pub fn begin_submodel<O: TextEnd>(so_far: Pouring, submodel: &Submodel, out: &mut O) -> Pen
     ensures { BeginsObject so_far result (O.told out.old) (O.told out.new) (submodel_fields submodel.now names_before) }
 {
     let begun = begin_object(so_far, out);
@@ -210,8 +211,9 @@ pub fn begin_submodel<O: Out>(so_far: Pouring, submodel: &Submodel, out: &mut O)
 }
 
 /// Puts what stands behind the elements of a submodel, and ends it.
-pub fn end_submodel<O: Out>(pen: Pen, submodel: &Submodel, out: &mut O) -> Pouring
-    ensures { Adds pen.state result (O.told out.old) (O.told out.new) (fields_text pen.later (submodel_fields submodel.now names_behind) ++ 125 ∷ []) }
+pub fn end_submodel<O: TextEnd>(pen: Pen, submodel: &Submodel, out: &mut O) -> Pouring
+    ensures { Adds pen.state result (O.told out.old) (O.told out.new)
+        (fields_text pen.later (submodel_fields submodel.now names_behind) ++ 125 ∷ []) }
 {
     let supplemental = &submodel.semantics.supplemental_semantic_ids;
     let meant = put_list::<References, O>(pen, key::SUPPLEMENTAL_SEMANTIC_IDS, supplemental, out);
@@ -219,7 +221,7 @@ pub fn end_submodel<O: Out>(pen: Pen, submodel: &Submodel, out: &mut O) -> Pouri
 }
 
 /// Puts the members from `description` to `idShort` that all documents have.
-fn put_described<O: Out>(pen: Pen, head: &Head, out: &mut O) -> Pen
+fn put_described<O: TextEnd>(pen: Pen, head: &Head, out: &mut O) -> Pen
     ensures { PutsFields pen result (O.told out.old) (O.told out.new) (head_fields head.now described_names) }
 {
     let description = put_list::<LangTexts, O>(pen, key::DESCRIPTION, &head.description, out);

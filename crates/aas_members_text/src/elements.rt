@@ -18,7 +18,7 @@ use crate::pen::{put_list, put_optional, put_optional_str, put_word};
 use crate::poured::Texts;
 use aas_json_parts::{Extensions, LangTexts, Qualifiers};
 use aas_model::Payload;
-use aas_out::{Out, Pouring};
+use aas_out::{Pouring, TextEnd};
 use aas_reference::References;
 use aas_rows::RowView;
 
@@ -27,7 +27,7 @@ pub struct CanonicalMembers;
 
 impl Members for CanonicalMembers {
     #[inline(always)]
-    fn put_part<O: Out>(
+    fn put_part<O: TextEnd>(
         &self,
         so_far: Pouring,
         show: Show,
@@ -52,8 +52,9 @@ impl Members for CanonicalMembers {
 }
 
 /// Puts the members from `category` to `idShort`.
-fn put_described<O: Out>(pen: Pen, row: &RowView<'_>, out: &mut O) -> Pen
-    ensures { PutsFields pen result (O.told out.old) (O.told out.new) (element_fields (line_of row.now).common row.now.payload.now (names 5)) }
+fn put_described<O: TextEnd>(pen: Pen, row: &RowView<'_>, out: &mut O) -> Pen
+    ensures { PutsFields pen result (O.told out.old) (O.told out.new)
+        (element_fields (line_of row.now).common row.now.payload.now (names 5)) }
 {
     let common = row.common;
     let category = put_optional::<Texts, O>(pen, key::CATEGORY, &common.category, out);
@@ -75,23 +76,26 @@ fn put_described<O: Out>(pen: Pen, row: &RowView<'_>, out: &mut O) -> Pen
 }
 
 /// Puts the members from `lastUpdate` to `orderRelevant`.
-fn put_typed<O: Out>(pen: Pen, row: &RowView<'_>, out: &mut O) -> Pen
-    ensures { PutsFields pen result (O.told out.old) (O.told out.new) (element_fields (line_of row.now).common row.now.payload.now (names 3)) }
+fn put_typed<O: TextEnd>(pen: Pen, row: &RowView<'_>, out: &mut O) -> Pen
+    ensures { PutsFields pen result (O.told out.old) (O.told out.new)
+        (element_fields (line_of row.now).common row.now.payload.now (names 3)) }
 {
     let before = put_before_model_type(pen, row.payload, out);
     let typed = put_model_type(before, row.payload, out);
     put_before_qualifiers(typed, row.payload, out)
 }
 
-fn put_model_type<O: Out>(pen: Pen, payload: &Payload, out: &mut O) -> Pen
-    ensures { PutsFields pen result (O.told out.old) (O.told out.new) ((codes "modelType", Some (compact_text (string (model_type_of payload.now)))) ∷ []) }
+fn put_model_type<O: TextEnd>(pen: Pen, payload: &Payload, out: &mut O) -> Pen
+    ensures { PutsFields pen result (O.told out.old) (O.told out.new)
+        ((codes "modelType", Some (compact_text (string (model_type_of payload.now)))) ∷ []) }
 {
     put_word(pen, key::MODEL_TYPE, payload.kind(), out)
 }
 
 /// Puts the members from `qualifiers` to `state`.
-fn put_meant<O: Out>(pen: Pen, row: &RowView<'_>, out: &mut O) -> Pen
-    ensures { PutsFields pen result (O.told out.old) (O.told out.new) (element_fields (line_of row.now).common row.now.payload.now (names 2)) }
+fn put_meant<O: TextEnd>(pen: Pen, row: &RowView<'_>, out: &mut O) -> Pen
+    ensures { PutsFields pen result (O.told out.old) (O.told out.new)
+        (element_fields (line_of row.now).common row.now.payload.now (names 2)) }
 {
     let common = row.common;
     let qualified = put_list::<Qualifiers, O>(pen, key::QUALIFIERS, &common.qualifiers, out);
@@ -102,8 +106,9 @@ fn put_meant<O: Out>(pen: Pen, row: &RowView<'_>, out: &mut O) -> Pen
 }
 
 /// Puts the members from `supplementalSemanticIds` to `typeValueListElement`.
-fn put_supplemental<O: Out>(pen: Pen, row: &RowView<'_>, out: &mut O) -> Pen
-    ensures { PutsFields pen result (O.told out.old) (O.told out.new) (element_fields (line_of row.now).common row.now.payload.now (names 1)) }
+fn put_supplemental<O: TextEnd>(pen: Pen, row: &RowView<'_>, out: &mut O) -> Pen
+    ensures { PutsFields pen result (O.told out.old) (O.told out.new)
+        (element_fields (line_of row.now).common row.now.payload.now (names 1)) }
 {
     let supplemental = &row.common.semantics.supplemental_semantic_ids;
     let meant = put_list::<References, O>(pen, key::SUPPLEMENTAL_SEMANTIC_IDS, supplemental, out);

@@ -12,7 +12,7 @@ use crate::pen::{add_any_name, add_flag, end_object};
 use crate::poured::{Poured, comma_of};
 use crate::quoted::add_quoted;
 use aas_model::{Many, Plain, PlainPair};
-use aas_out::{Out, Pouring, add};
+use aas_out::{Pouring, TextEnd, add_text};
 
 /// Kept data: any JSON value without numbers.
 pub(crate) struct Plains;
@@ -22,25 +22,25 @@ impl Poured for Plains {
 
     ghost spell = { spell_plain };
 
-    fn pour<O: Out>(so_far: Pouring, plain: &Plain, out: &mut O) -> Pouring {
+    fn pour<O: TextEnd>(so_far: Pouring, plain: &Plain, out: &mut O) -> Pouring {
         pour_plain(so_far, plain, out)
     }
 }
 
 #[cycle(plain)]
-fn pour_plain<O: Out>(so_far: Pouring, plain: &Plain, out: &mut O) -> Pouring
+fn pour_plain<O: TextEnd>(so_far: Pouring, plain: &Plain, out: &mut O) -> Pouring
     ensures { Adds so_far result (O.told out.old) (O.told out.new) (compact_text (spell_plain plain.now)) }
 {
     match plain {
-        Plain::Null => add(so_far, b"null", out),
+        Plain::Null => add_text(so_far, "null", out),
         Plain::Bool(flag) => add_flag(so_far, *flag, out),
         Plain::Str(text) => add_quoted(so_far, text.as_str(), out),
         Plain::List(items) => {
-            let opened = add(so_far, b"[", out);
+            let opened = add_text(so_far, "[", out);
             pour_plains(opened, items, out)
         },
         Plain::Map(pairs) => {
-            let opened = add(so_far, b"{", out);
+            let opened = add_text(so_far, "{", out);
             pour_pairs(opened, pairs, out)
         },
     }
@@ -48,23 +48,25 @@ fn pour_plain<O: Out>(so_far: Pouring, plain: &Plain, out: &mut O) -> Pouring
 
 /// Puts the items of a list, with the bracket behind them.
 #[cycle(plain)]
-fn pour_plains<O: Out>(so_far: Pouring, plains: &Many<Plain>, out: &mut O) -> Pouring
-    ensures { Adds so_far result (O.told out.old) (O.told out.new) (items_text false (onto (map spell_plain plains.now) no_items)) }
+fn pour_plains<O: TextEnd>(so_far: Pouring, plains: &Many<Plain>, out: &mut O) -> Pouring
+    ensures { Adds so_far result (O.told out.old) (O.told out.new)
+        (items_text false (onto (map spell_plain plains.now) no_items)) }
 {
     let mut state = so_far;
     let mut later = false;
     for plain in plains.as_slice() {
-        let comma = add(state, comma_of(later), out);
+        let comma = add_text(state, comma_of(later), out);
         state = pour_plain(comma, plain, out);
         later = true;
     }
-    add(state, b"]", out)
+    add_text(state, "]", out)
 }
 
 /// Puts the pairs of a map, with the brace behind them.
 #[cycle(plain)]
-fn pour_pairs<O: Out>(so_far: Pouring, pairs: &Many<PlainPair>, out: &mut O) -> Pouring
-    ensures { Adds so_far result (O.told out.old) (O.told out.new) (members_text false (pairs_onto pairs.now no_members)) }
+fn pour_pairs<O: TextEnd>(so_far: Pouring, pairs: &Many<PlainPair>, out: &mut O) -> Pouring
+    ensures { Adds so_far result (O.told out.old) (O.told out.new)
+        (members_text false (pairs_onto pairs.now no_members)) }
 {
     let mut pen = Pen {
         state: so_far,

@@ -1,119 +1,119 @@
 // The names of the members of the JSON mapping, each spelled here as it stands in a text, so that it is put at once.
 
-pub const ADMINISTRATION: &[u8] = b",\"administration\":";
+pub const ADMINISTRATION: &str = ",\"administration\":";
 
-pub const ASSET_ADMINISTRATION_SHELLS: &[u8] = b",\"assetAdministrationShells\":";
+pub const ASSET_ADMINISTRATION_SHELLS: &str = ",\"assetAdministrationShells\":";
 
-pub const ASSET_INFORMATION: &[u8] = b",\"assetInformation\":";
+pub const ASSET_INFORMATION: &str = ",\"assetInformation\":";
 
-pub const ASSET_KIND: &[u8] = b",\"assetKind\":";
+pub const ASSET_KIND: &str = ",\"assetKind\":";
 
-pub const ASSET_TYPE: &[u8] = b",\"assetType\":";
+pub const ASSET_TYPE: &str = ",\"assetType\":";
 
-pub const CATEGORY: &[u8] = b",\"category\":";
+pub const CATEGORY: &str = ",\"category\":";
 
-pub const CONCEPT_DESCRIPTIONS: &[u8] = b",\"conceptDescriptions\":";
+pub const CONCEPT_DESCRIPTIONS: &str = ",\"conceptDescriptions\":";
 
-pub const CONTENT_TYPE: &[u8] = b",\"contentType\":";
+pub const CONTENT_TYPE: &str = ",\"contentType\":";
 
-pub const CREATOR: &[u8] = b",\"creator\":";
+pub const CREATOR: &str = ",\"creator\":";
 
-pub const DEFAULT_THUMBNAIL: &[u8] = b",\"defaultThumbnail\":";
+pub const DEFAULT_THUMBNAIL: &str = ",\"defaultThumbnail\":";
 
-pub const DERIVED_FROM: &[u8] = b",\"derivedFrom\":";
+pub const DERIVED_FROM: &str = ",\"derivedFrom\":";
 
-pub const DESCRIPTION: &[u8] = b",\"description\":";
+pub const DESCRIPTION: &str = ",\"description\":";
 
-pub const DIRECTION: &[u8] = b",\"direction\":";
+pub const DIRECTION: &str = ",\"direction\":";
 
-pub const DISPLAY_NAME: &[u8] = b",\"displayName\":";
+pub const DISPLAY_NAME: &str = ",\"displayName\":";
 
-pub const EMBEDDED_DATA_SPECIFICATIONS: &[u8] = b",\"embeddedDataSpecifications\":";
+pub const EMBEDDED_DATA_SPECIFICATIONS: &str = ",\"embeddedDataSpecifications\":";
 
-pub const ENTITY_TYPE: &[u8] = b",\"entityType\":";
+pub const ENTITY_TYPE: &str = ",\"entityType\":";
 
-pub const EXTENSIONS: &[u8] = b",\"extensions\":";
+pub const EXTENSIONS: &str = ",\"extensions\":";
 
-pub const EXTERNAL_SUBJECT_ID: &[u8] = b",\"externalSubjectId\":";
+pub const EXTERNAL_SUBJECT_ID: &str = ",\"externalSubjectId\":";
 
-pub const FIRST: &[u8] = b",\"first\":";
+pub const FIRST: &str = ",\"first\":";
 
-pub const GLOBAL_ASSET_ID: &[u8] = b",\"globalAssetId\":";
+pub const GLOBAL_ASSET_ID: &str = ",\"globalAssetId\":";
 
-pub const ID: &[u8] = b",\"id\":";
+pub const ID: &str = ",\"id\":";
 
-pub const ID_SHORT: &[u8] = b",\"idShort\":";
+pub const ID_SHORT: &str = ",\"idShort\":";
 
-pub const IS_CASE_OF: &[u8] = b",\"isCaseOf\":";
+pub const IS_CASE_OF: &str = ",\"isCaseOf\":";
 
-pub const KEYS: &[u8] = b",\"keys\":";
+pub const KEYS: &str = ",\"keys\":";
 
-pub const KIND: &[u8] = b",\"kind\":";
+pub const KIND: &str = ",\"kind\":";
 
-pub const LANGUAGE: &[u8] = b",\"language\":";
+pub const LANGUAGE: &str = ",\"language\":";
 
-pub const LAST_UPDATE: &[u8] = b",\"lastUpdate\":";
+pub const LAST_UPDATE: &str = ",\"lastUpdate\":";
 
-pub const MAX: &[u8] = b",\"max\":";
+pub const MAX: &str = ",\"max\":";
 
-pub const MAX_INTERVAL: &[u8] = b",\"maxInterval\":";
+pub const MAX_INTERVAL: &str = ",\"maxInterval\":";
 
-pub const MESSAGE_BROKER: &[u8] = b",\"messageBroker\":";
+pub const MESSAGE_BROKER: &str = ",\"messageBroker\":";
 
-pub const MESSAGE_TOPIC: &[u8] = b",\"messageTopic\":";
+pub const MESSAGE_TOPIC: &str = ",\"messageTopic\":";
 
-pub const MIN: &[u8] = b",\"min\":";
+pub const MIN: &str = ",\"min\":";
 
-pub const MIN_INTERVAL: &[u8] = b",\"minInterval\":";
+pub const MIN_INTERVAL: &str = ",\"minInterval\":";
 
-pub const MODEL_TYPE: &[u8] = b",\"modelType\":";
+pub const MODEL_TYPE: &str = ",\"modelType\":";
 
-pub const NAME: &[u8] = b",\"name\":";
+pub const NAME: &str = ",\"name\":";
 
-pub const OBSERVED: &[u8] = b",\"observed\":";
+pub const OBSERVED: &str = ",\"observed\":";
 
-pub const ORDER_RELEVANT: &[u8] = b",\"orderRelevant\":";
+pub const ORDER_RELEVANT: &str = ",\"orderRelevant\":";
 
-pub const PATH: &[u8] = b",\"path\":";
+pub const PATH: &str = ",\"path\":";
 
-pub const QUALIFIERS: &[u8] = b",\"qualifiers\":";
+pub const QUALIFIERS: &str = ",\"qualifiers\":";
 
-pub const REFERRED_SEMANTIC_ID: &[u8] = b",\"referredSemanticId\":";
+pub const REFERRED_SEMANTIC_ID: &str = ",\"referredSemanticId\":";
 
-pub const REFERS_TO: &[u8] = b",\"refersTo\":";
+pub const REFERS_TO: &str = ",\"refersTo\":";
 
-pub const REVISION: &[u8] = b",\"revision\":";
+pub const REVISION: &str = ",\"revision\":";
 
-pub const SECOND: &[u8] = b",\"second\":";
+pub const SECOND: &str = ",\"second\":";
 
-pub const SEMANTIC_ID: &[u8] = b",\"semanticId\":";
+pub const SEMANTIC_ID: &str = ",\"semanticId\":";
 
-pub const SEMANTIC_ID_LIST_ELEMENT: &[u8] = b",\"semanticIdListElement\":";
+pub const SEMANTIC_ID_LIST_ELEMENT: &str = ",\"semanticIdListElement\":";
 
-pub const SPECIFIC_ASSET_IDS: &[u8] = b",\"specificAssetIds\":";
+pub const SPECIFIC_ASSET_IDS: &str = ",\"specificAssetIds\":";
 
-pub const STATE: &[u8] = b",\"state\":";
+pub const STATE: &str = ",\"state\":";
 
-pub const SUBMODELS: &[u8] = b",\"submodels\":";
+pub const SUBMODELS: &str = ",\"submodels\":";
 
-pub const SUBMODEL_ELEMENTS: &[u8] = b",\"submodelElements\":";
+pub const SUBMODEL_ELEMENTS: &str = ",\"submodelElements\":";
 
-pub const SUPPLEMENTAL_SEMANTIC_IDS: &[u8] = b",\"supplementalSemanticIds\":";
+pub const SUPPLEMENTAL_SEMANTIC_IDS: &str = ",\"supplementalSemanticIds\":";
 
-pub const TEMPLATE_ID: &[u8] = b",\"templateId\":";
+pub const TEMPLATE_ID: &str = ",\"templateId\":";
 
-pub const TEXT: &[u8] = b",\"text\":";
+pub const TEXT: &str = ",\"text\":";
 
-pub const TYPE: &[u8] = b",\"type\":";
+pub const TYPE: &str = ",\"type\":";
 
-pub const TYPE_VALUE_LIST_ELEMENT: &[u8] = b",\"typeValueListElement\":";
+pub const TYPE_VALUE_LIST_ELEMENT: &str = ",\"typeValueListElement\":";
 
-pub const VALUE: &[u8] = b",\"value\":";
+pub const VALUE: &str = ",\"value\":";
 
-pub const VALUE_ID: &[u8] = b",\"valueId\":";
+pub const VALUE_ID: &str = ",\"valueId\":";
 
-pub const VALUE_TYPE: &[u8] = b",\"valueType\":";
+pub const VALUE_TYPE: &str = ",\"valueType\":";
 
-pub const VALUE_TYPE_LIST_ELEMENT: &[u8] = b",\"valueTypeListElement\":";
+pub const VALUE_TYPE_LIST_ELEMENT: &str = ",\"valueTypeListElement\":";
 
-pub const VERSION: &[u8] = b",\"version\":";
+pub const VERSION: &str = ",\"version\":";

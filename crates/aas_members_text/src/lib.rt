@@ -1,8 +1,8 @@
 //! The members of elements and documents as text (IDTA-01001-3-0, JSON), put into an end piece by piece.
 //!
-//! What is put is the compact text of what `aas_json_mapping` spells. Children aren't looked for here: what stands above
-//! puts them between the members. That a text made so is the canonical one is the contract of the functions of `laws`,
-//! which do nothing.
+//! What is put is the compact text of what `aas_json_mapping` spells. Children aren't looked for here: what stands
+//! above puts them between the members. That a text made so is the canonical one is the contract of the functions of
+//! `laws`, which do nothing.
 //!
 //! Proved: the members of an element, of a shell and of a concept description, and those before and behind a
 //! submodel's elements, are put into an end piece by piece and without memory, and a front of them where the end

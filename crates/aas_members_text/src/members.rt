@@ -4,7 +4,7 @@ ghost use Rattle.aas_out.specs.Adds.{Adds};
 ghost use Rattle.aas_rows.specs.Views.{line_of};
 ghost use Rattle.aas_members_text.specs.Members.{fields_text, later_after, part};
 
-use aas_out::{Out, Pouring};
+use aas_out::{Pouring, TextEnd};
 use aas_rows::RowView;
 
 /// What is shown: the children of elements above the level `cut` alone, and Blobs with or without their values.
@@ -24,7 +24,7 @@ pub struct Pen {
 /// What puts the members of an element that are no children.
 pub trait Members {
     /// Puts the members of the part `next` of a row's element, where a member stands before them if `later` says so.
-    fn put_part<O: Out>(
+    fn put_part<O: TextEnd>(
         &self,
         so_far: Pouring,
         show: Show,
@@ -34,6 +34,7 @@ pub trait Members {
         out: &mut O,
     ) -> Pen
         requires low { next ≤ 6 }
-        ensures text { Adds so_far result.state (O.told out.old) (O.told out.new) (fields_text later (part show (line_of row.now) next)) }
+        ensures text { Adds so_far result.state (O.told out.old)
+            (O.told out.new) (fields_text later (part show (line_of row.now) next)) }
         ensures later { result.later ≡ later_after later (part show (line_of row.now) next) };
 }

@@ -11,12 +11,13 @@ use crate::pen::{put_list, put_optional, put_optional_flag, put_optional_word, p
 use crate::poured::Texts;
 use aas_json_parts::{LangTexts, SpecificAssetIds};
 use aas_model::{Payload, Text};
-use aas_out::Out;
+use aas_out::TextEnd;
 use aas_reference::References;
 
 /// Puts what stands between `category` and `description`.
-pub(crate) fn put_content_type<O: Out>(pen: Pen, payload: &Payload, out: &mut O) -> Pen
-    ensures { PutsFields pen result (O.told out.old) (O.told out.new) (own_fields payload.now (codes "contentType" ∷ [])) }
+pub(crate) fn put_content_type<O: TextEnd>(pen: Pen, payload: &Payload, out: &mut O) -> Pen
+    ensures { PutsFields pen result (O.told out.old) (O.told out.new)
+        (own_fields payload.now (codes "contentType" ∷ [])) }
 {
     match payload {
         Payload::File { content_type, .. } => {
@@ -30,8 +31,9 @@ pub(crate) fn put_content_type<O: Out>(pen: Pen, payload: &Payload, out: &mut O)
 }
 
 /// Puts what stands between `description` and `displayName`.
-pub(crate) fn put_direction<O: Out>(pen: Pen, payload: &Payload, out: &mut O) -> Pen
-    ensures { PutsFields pen result (O.told out.old) (O.told out.new) (own_fields payload.now (codes "direction" ∷ [])) }
+pub(crate) fn put_direction<O: TextEnd>(pen: Pen, payload: &Payload, out: &mut O) -> Pen
+    ensures { PutsFields pen result (O.told out.old) (O.told out.new)
+        (own_fields payload.now (codes "direction" ∷ [])) }
 {
     match payload {
         Payload::BasicEventElement { direction, .. } => {
@@ -42,8 +44,9 @@ pub(crate) fn put_direction<O: Out>(pen: Pen, payload: &Payload, out: &mut O) ->
 }
 
 /// Puts what stands between `embeddedDataSpecifications` and `extensions`.
-pub(crate) fn put_entity_type<O: Out>(pen: Pen, payload: &Payload, out: &mut O) -> Pen
-    ensures { PutsFields pen result (O.told out.old) (O.told out.new) (own_fields payload.now (codes "entityType" ∷ [])) }
+pub(crate) fn put_entity_type<O: TextEnd>(pen: Pen, payload: &Payload, out: &mut O) -> Pen
+    ensures { PutsFields pen result (O.told out.old) (O.told out.new)
+        (own_fields payload.now (codes "entityType" ∷ [])) }
 {
     match payload {
         Payload::Entity { entity_type, .. } => {
@@ -54,8 +57,9 @@ pub(crate) fn put_entity_type<O: Out>(pen: Pen, payload: &Payload, out: &mut O) 
 }
 
 /// Puts what stands between `extensions` and `idShort`.
-pub(crate) fn put_first<O: Out>(pen: Pen, payload: &Payload, out: &mut O) -> Pen
-    ensures { PutsFields pen result (O.told out.old) (O.told out.new) (own_fields payload.now (codes "first" ∷ codes "globalAssetId" ∷ [])) }
+pub(crate) fn put_first<O: TextEnd>(pen: Pen, payload: &Payload, out: &mut O) -> Pen
+    ensures { PutsFields pen result (O.told out.old) (O.told out.new)
+        (own_fields payload.now (codes "first" ∷ codes "globalAssetId" ∷ [])) }
 {
     match payload {
         Payload::RelationshipElement { first, .. } => {
@@ -73,8 +77,10 @@ pub(crate) fn put_first<O: Out>(pen: Pen, payload: &Payload, out: &mut O) -> Pen
 }
 
 /// Puts what stands between `idShort` and `modelType`.
-pub(crate) fn put_before_model_type<O: Out>(pen: Pen, payload: &Payload, out: &mut O) -> Pen
-    ensures { PutsFields pen result (O.told out.old) (O.told out.new) (own_fields payload.now (codes "lastUpdate" ∷ codes "max" ∷ codes "maxInterval" ∷ codes "messageBroker" ∷ codes "messageTopic" ∷ codes "min" ∷ codes "minInterval" ∷ [])) }
+pub(crate) fn put_before_model_type<O: TextEnd>(pen: Pen, payload: &Payload, out: &mut O) -> Pen
+    ensures { PutsFields pen result (O.told out.old) (O.told out.new)
+        (own_fields payload.now (codes "lastUpdate" ∷ codes "max" ∷ codes "maxInterval"
+        ∷ codes "messageBroker" ∷ codes "messageTopic" ∷ codes "min" ∷ codes "minInterval" ∷ [])) }
 {
     match payload {
         Payload::BasicEventElement {
@@ -105,8 +111,9 @@ pub(crate) fn put_before_model_type<O: Out>(pen: Pen, payload: &Payload, out: &m
 }
 
 /// Puts what stands between `modelType` and `qualifiers`.
-pub(crate) fn put_before_qualifiers<O: Out>(pen: Pen, payload: &Payload, out: &mut O) -> Pen
-    ensures { PutsFields pen result (O.told out.old) (O.told out.new) (own_fields payload.now (codes "observed" ∷ codes "orderRelevant" ∷ [])) }
+pub(crate) fn put_before_qualifiers<O: TextEnd>(pen: Pen, payload: &Payload, out: &mut O) -> Pen
+    ensures { PutsFields pen result (O.told out.old) (O.told out.new)
+        (own_fields payload.now (codes "observed" ∷ codes "orderRelevant" ∷ [])) }
 {
     match payload {
         Payload::BasicEventElement { observed, .. } => {
@@ -120,7 +127,7 @@ pub(crate) fn put_before_qualifiers<O: Out>(pen: Pen, payload: &Payload, out: &m
 }
 
 /// Puts what stands between `qualifiers` and `semanticId`.
-pub(crate) fn put_second<O: Out>(pen: Pen, payload: &Payload, out: &mut O) -> Pen
+pub(crate) fn put_second<O: TextEnd>(pen: Pen, payload: &Payload, out: &mut O) -> Pen
     ensures { PutsFields pen result (O.told out.old) (O.told out.new) (own_fields payload.now (codes "second" ∷ [])) }
 {
     match payload {
@@ -135,8 +142,9 @@ pub(crate) fn put_second<O: Out>(pen: Pen, payload: &Payload, out: &mut O) -> Pe
 }
 
 /// Puts what stands between `semanticId` and `supplementalSemanticIds`.
-pub(crate) fn put_behind_semantic_id<O: Out>(pen: Pen, payload: &Payload, out: &mut O) -> Pen
-    ensures { PutsFields pen result (O.told out.old) (O.told out.new) (own_fields payload.now (codes "semanticIdListElement" ∷ codes "specificAssetIds" ∷ codes "state" ∷ [])) }
+pub(crate) fn put_behind_semantic_id<O: TextEnd>(pen: Pen, payload: &Payload, out: &mut O) -> Pen
+    ensures { PutsFields pen result (O.told out.old) (O.told out.new)
+        (own_fields payload.now (codes "semanticIdListElement" ∷ codes "specificAssetIds" ∷ codes "state" ∷ [])) }
 {
     match payload {
         Payload::SubmodelElementList {
@@ -162,8 +170,9 @@ pub(crate) fn put_behind_semantic_id<O: Out>(pen: Pen, payload: &Payload, out: &
 }
 
 /// Puts what stands right behind `supplementalSemanticIds`.
-pub(crate) fn put_list_type<O: Out>(pen: Pen, payload: &Payload, out: &mut O) -> Pen
-    ensures { PutsFields pen result (O.told out.old) (O.told out.new) (own_fields payload.now (codes "typeValueListElement" ∷ [])) }
+pub(crate) fn put_list_type<O: TextEnd>(pen: Pen, payload: &Payload, out: &mut O) -> Pen
+    ensures { PutsFields pen result (O.told out.old) (O.told out.new)
+        (own_fields payload.now (codes "typeValueListElement" ∷ [])) }
 {
     match payload {
         Payload::SubmodelElementList {
@@ -182,8 +191,10 @@ pub(crate) fn put_list_type<O: Out>(pen: Pen, payload: &Payload, out: &mut O) ->
 }
 
 /// Puts the value, with what stands behind it. A Blob's value is put if `blobs` says so.
-pub(crate) fn put_value<O: Out>(pen: Pen, blobs: bool, payload: &Payload, out: &mut O) -> Pen
-    ensures { PutsFields pen result (O.told out.old) (O.told out.new) (own_fields (shown_payload blobs payload.now) (codes "value" ∷ codes "valueId" ∷ codes "valueType" ∷ codes "valueTypeListElement" ∷ [])) }
+pub(crate) fn put_value<O: TextEnd>(pen: Pen, blobs: bool, payload: &Payload, out: &mut O) -> Pen
+    ensures { PutsFields pen result (O.told out.old) (O.told out.new)
+        (own_fields (shown_payload blobs payload.now)
+        (codes "value" ∷ codes "valueId" ∷ codes "valueType" ∷ codes "valueTypeListElement" ∷ [])) }
 {
     match payload {
         Payload::Property {
@@ -221,8 +232,9 @@ pub(crate) fn put_value<O: Out>(pen: Pen, blobs: bool, payload: &Payload, out: &
 }
 
 /// Puts the value of a Blob, if `blobs` says so.
-fn put_blob<O: Out>(pen: Pen, blobs: bool, value: &Option<Text>, out: &mut O) -> Pen
-    ensures { PutsFields pen result (O.told out.old) (O.told out.new) ((codes "value", option_map compact_text (option_map text_of (if blobs then value.now else None))) ∷ []) }
+fn put_blob<O: TextEnd>(pen: Pen, blobs: bool, value: &Option<Text>, out: &mut O) -> Pen
+    ensures { PutsFields pen result (O.told out.old) (O.told out.new)
+        ((codes "value", option_map compact_text (option_map text_of (if blobs then value.now else None))) ∷ []) }
 {
     if blobs {
         put_optional::<Texts, O>(pen, key::VALUE, value, out)

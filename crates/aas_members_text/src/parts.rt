@@ -1,5 +1,6 @@
 // The parts of documents and elements.
-ghost use Rattle.aas_json_mapping.specs.Parts.{spell_lang_text, spell_extension, spell_qualifier, spell_specific_asset_id, semantics_attributes};
+ghost use Rattle.aas_json_mapping.specs.Parts.{spell_lang_text, spell_extension, spell_qualifier};
+ghost use Rattle.aas_json_mapping.specs.Parts.{spell_specific_asset_id, semantics_attributes};
 ghost use Rattle.aas_json_table.specs.Spelled.{attribute};
 ghost use Rattle.aas_json_table.specs.Table.{has_semantics};
 ghost use Rattle.aas_members_text.specs.Puts.{PutsFields, fields_by};
@@ -12,7 +13,7 @@ use crate::pen::{
 use crate::poured::{Poured, Texts};
 use aas_json_parts::{Extensions, LangTexts, Qualifiers, SpecificAssetIds};
 use aas_model::{Extension, LangText, Qualifier, Semantics, SpecificAssetId};
-use aas_out::{Out, Pouring};
+use aas_out::{Pouring, TextEnd};
 use aas_reference::References;
 
 impl Poured for LangTexts {
@@ -20,7 +21,7 @@ impl Poured for LangTexts {
 
     ghost spell = { spell_lang_text };
 
-    fn pour<O: Out>(so_far: Pouring, lang_text: &LangText, out: &mut O) -> Pouring {
+    fn pour<O: TextEnd>(so_far: Pouring, lang_text: &LangText, out: &mut O) -> Pouring {
         let begun = begin_object(so_far, out);
         let language = put_one::<Texts, O>(begun, key::LANGUAGE, &lang_text.language, out);
         let text = put_one::<Texts, O>(language, key::TEXT, &lang_text.text, out);
@@ -33,7 +34,7 @@ impl Poured for Extensions {
 
     ghost spell = { spell_extension };
 
-    fn pour<O: Out>(so_far: Pouring, extension: &Extension, out: &mut O) -> Pouring {
+    fn pour<O: TextEnd>(so_far: Pouring, extension: &Extension, out: &mut O) -> Pouring {
         let begun = begin_object(so_far, out);
         let named = put_one::<Texts, O>(begun, key::NAME, &extension.name, out);
         let refers_to = &extension.refers_to;
@@ -50,7 +51,7 @@ impl Poured for Qualifiers {
 
     ghost spell = { spell_qualifier };
 
-    fn pour<O: Out>(so_far: Pouring, qualifier: &Qualifier, out: &mut O) -> Pouring {
+    fn pour<O: TextEnd>(so_far: Pouring, qualifier: &Qualifier, out: &mut O) -> Pouring {
         let begun = begin_object(so_far, out);
         let kind = put_optional_word(begun, key::KIND, qualifier.kind, out);
         let meant = put_semantics(kind, &qualifier.semantics, out);
@@ -68,7 +69,7 @@ impl Poured for SpecificAssetIds {
 
     ghost spell = { spell_specific_asset_id };
 
-    fn pour<O: Out>(so_far: Pouring, id: &SpecificAssetId, out: &mut O) -> Pouring {
+    fn pour<O: TextEnd>(so_far: Pouring, id: &SpecificAssetId, out: &mut O) -> Pouring {
         let begun = begin_object(so_far, out);
         let subject = &id.external_subject_id;
         let referring = put_optional::<References, O>(
@@ -85,8 +86,9 @@ impl Poured for SpecificAssetIds {
 }
 
 /// Puts the members of HasSemantics.
-fn put_semantics<O: Out>(pen: Pen, semantics: &Semantics, out: &mut O) -> Pen
-    ensures { PutsFields pen result (O.told out.old) (O.told out.new) (fields_by has_semantics (attribute (semantics_attributes semantics.now))) }
+fn put_semantics<O: TextEnd>(pen: Pen, semantics: &Semantics, out: &mut O) -> Pen
+    ensures { PutsFields pen result (O.told out.old) (O.told out.new)
+        (fields_by has_semantics (attribute (semantics_attributes semantics.now))) }
 {
     let semantic_id = &semantics.semantic_id;
     let supplemental = &semantics.supplemental_semantic_ids;

@@ -14,28 +14,28 @@ use crate::poured::{Poured, pour_items};
 use crate::quoted::{add_escaped, add_quoted};
 use aas_model::Many;
 use aas_model_names::Named;
-use aas_out::{Out, Pouring, add};
+use aas_out::{Pouring, TextEnd, add_text};
 
 /// Begins an object.
-pub fn begin_object<O: Out>(so_far: Pouring, out: &mut O) -> Pen
+pub fn begin_object<O: TextEnd>(so_far: Pouring, out: &mut O) -> Pen
     ensures { BeginsObject so_far result (O.told out.old) (O.told out.new) [] }
 {
     Pen {
-        state: add(so_far, b"{", out),
+        state: add_text(so_far, "{", out),
         later: false,
     }
 }
 
 /// Ends an object.
-pub fn end_object<O: Out>(pen: Pen, out: &mut O) -> Pouring
+pub fn end_object<O: TextEnd>(pen: Pen, out: &mut O) -> Pouring
     ensures { Adds pen.state result (O.told out.old) (O.told out.new) (125 ∷ []) }
 {
-    add(pen.state, b"}", out)
+    add_text(pen.state, "}", out)
 }
 
 /// A key as it stands in an object: with its comma where a member stands before it.
 #[inline]
-fn text_of_key(key: &[u8], later: bool) -> &[u8]
+fn text_of_key(key: &str, later: bool) -> &str
     requires { is_key key.now ≡ true }
     ensures { result.now ≡ comma_if later ++ (quoted (name_in key.now) ++ 58 ∷ []) }
 {
@@ -44,53 +44,58 @@ fn text_of_key(key: &[u8], later: bool) -> &[u8]
 
 /// Puts the name of a member, with a comma where a member stands before it.
 #[inline]
-pub(crate) fn add_key<O: Out>(pen: Pen, key: &[u8], out: &mut O) -> Pouring
+pub(crate) fn add_key<O: TextEnd>(pen: Pen, key: &str, out: &mut O) -> Pouring
     requires { is_key key.now ≡ true }
-    ensures { Adds pen.state result (O.told out.old) (O.told out.new) (comma_if pen.later ++ (quoted (name_in key.now) ++ 58 ∷ [])) }
+    ensures { Adds pen.state result (O.told out.old) (O.told out.new)
+        (comma_if pen.later ++ (quoted (name_in key.now) ++ 58 ∷ [])) }
 {
-    add(pen.state, text_of_key(key, pen.later), out)
+    add_text(pen.state, text_of_key(key, pen.later), out)
 }
 
-fn before_name(later: bool) -> &'static [u8]
+fn before_name(later: bool) -> &'static str
     ensures { result.now ≡ comma_if later ++ 34 ∷ [] }
 {
-    if later { b",\"" } else { b"\"" }
+    if later { ",\"" } else { "\"" }
 }
 
 /// Puts a name that may have any characters, with a comma where a member stands before it.
-pub(crate) fn add_any_name<O: Out>(pen: Pen, name: &str, out: &mut O) -> Pouring
-    ensures { Adds pen.state result (O.told out.old) (O.told out.new) (comma_if pen.later ++ (quoted name.now ++ 58 ∷ [])) }
+pub(crate) fn add_any_name<O: TextEnd>(pen: Pen, name: &str, out: &mut O) -> Pouring
+    ensures { Adds pen.state result (O.told out.old) (O.told out.new)
+        (comma_if pen.later ++ (quoted name.now ++ 58 ∷ [])) }
 {
-    let opened = add(pen.state, before_name(pen.later), out);
-    let escaped = add_escaped(opened, name.as_bytes(), out);
-    add(escaped, b"\":", out)
+    let opened = add_text(pen.state, before_name(pen.later), out);
+    let escaped = add_escaped(opened, name, out);
+    add_text(escaped, "\":", out)
 }
 
 /// Puts a member whose value is a string.
 #[inline]
-pub(crate) fn put_string<O: Out>(pen: Pen, key: &[u8], value: &str, out: &mut O) -> Pen
+pub(crate) fn put_string<O: TextEnd>(pen: Pen, key: &str, value: &str, out: &mut O) -> Pen
     requires { is_key key.now ≡ true }
-    ensures { PutsFields pen result (O.told out.old) (O.told out.new) ((name_in key.now, Some (compact_text (string value.now))) ∷ []) }
+    ensures { PutsFields pen result (O.told out.old) (O.told out.new)
+        ((name_in key.now, Some (compact_text (string value.now))) ∷ []) }
 {
     let named = add_key(pen, key, out);
-    let opened = add(named, b"\"", out);
-    let valued = add_escaped(opened, value.as_bytes(), out);
+    let opened = add_text(named, "\"", out);
+    let valued = add_escaped(opened, value, out);
     Pen {
-        state: add(valued, b"\"", out),
+        state: add_text(valued, "\"", out),
         later: true,
     }
 }
 
 /// Puts a member whose value is a text, where there is one.
 #[inline]
-pub(crate) fn put_optional_str<O: Out>(
+pub(crate) fn put_optional_str<O: TextEnd>(
     pen: Pen,
-    key: &[u8],
+    key: &str,
     value: Option<&str>,
     out: &mut O,
 ) -> Pen
     requires { is_key key.now ≡ true }
-    ensures { PutsFields pen result (O.told out.old) (O.told out.new) ((name_in key.now, option_map compact_text (option_map text_of (option_map (λ s. chars s.now) value.entry))) ∷ []) }
+    ensures { PutsFields pen result (O.told out.old) (O.told out.new)
+        ((name_in key.now, option_map compact_text (option_map text_of (option_map (λ s. chars s.now) value.entry)))
+        ∷ []) }
 {
     match value {
         Some(text) => put_characters(pen, key, text, out),
@@ -99,32 +104,35 @@ pub(crate) fn put_optional_str<O: Out>(
 }
 
 #[inline]
-fn put_characters<O: Out>(pen: Pen, key: &[u8], text: &str, out: &mut O) -> Pen
+fn put_characters<O: TextEnd>(pen: Pen, key: &str, text: &str, out: &mut O) -> Pen
     requires { is_key key.now ≡ true }
-    ensures { PutsFields pen result (O.told out.old) (O.told out.new) ((name_in key.now, Some (compact_text (text_of (chars text.now)))) ∷ []) }
+    ensures { PutsFields pen result (O.told out.old) (O.told out.new)
+        ((name_in key.now, Some (compact_text (text_of (chars text.now)))) ∷ []) }
 {
     put_string(pen, key, text, out)
 }
 
 /// Puts a member whose value is the name of a value of an enumeration.
 #[inline(always)]
-pub(crate) fn put_word<V: Named, O: Out>(pen: Pen, key: &[u8], value: V, out: &mut O) -> Pen
+pub(crate) fn put_word<V: Named, O: TextEnd>(pen: Pen, key: &str, value: V, out: &mut O) -> Pen
     requires { is_key key.now ≡ true }
-    ensures { PutsFields pen result (O.told out.old) (O.told out.new) ((name_in key.now, Some (compact_text (string (V.name_of value)))) ∷ []) }
+    ensures { PutsFields pen result (O.told out.old) (O.told out.new)
+        ((name_in key.now, Some (compact_text (string (V.name_of value)))) ∷ []) }
 {
     put_string(pen, key, value.name(), out)
 }
 
 /// The same, where there may be none.
 #[inline]
-pub(crate) fn put_optional_word<V: Named, O: Out>(
+pub(crate) fn put_optional_word<V: Named, O: TextEnd>(
     pen: Pen,
-    key: &[u8],
+    key: &str,
     value: Option<V>,
     out: &mut O,
 ) -> Pen
     requires { is_key key.now ≡ true }
-    ensures { PutsFields pen result (O.told out.old) (O.told out.new) ((name_in key.now, option_map compact_text (option_map (λ v. string (V.name_of v)) value)) ∷ []) }
+    ensures { PutsFields pen result (O.told out.old) (O.told out.new)
+        ((name_in key.now, option_map compact_text (option_map (λ v. string (V.name_of v)) value)) ∷ []) }
 {
     match value {
         Some(value) => put_word(pen, key, value, out),
@@ -134,14 +142,15 @@ pub(crate) fn put_optional_word<V: Named, O: Out>(
 
 /// Puts a member whose value is a truth value, where there is one.
 #[inline]
-pub(crate) fn put_optional_flag<O: Out>(
+pub(crate) fn put_optional_flag<O: TextEnd>(
     pen: Pen,
-    key: &[u8],
+    key: &str,
     value: Option<bool>,
     out: &mut O,
 ) -> Pen
     requires { is_key key.now ≡ true }
-    ensures { PutsFields pen result (O.told out.old) (O.told out.new) ((name_in key.now, option_map compact_text (option_map boolean value)) ∷ []) }
+    ensures { PutsFields pen result (O.told out.old) (O.told out.new)
+        ((name_in key.now, option_map compact_text (option_map boolean value)) ∷ []) }
 {
     match value {
         Some(flag) => {
@@ -156,21 +165,27 @@ pub(crate) fn put_optional_flag<O: Out>(
 }
 
 /// Puts a truth value.
-pub(crate) fn add_flag<O: Out>(so_far: Pouring, flag: bool, out: &mut O) -> Pouring
+pub(crate) fn add_flag<O: TextEnd>(so_far: Pouring, flag: bool, out: &mut O) -> Pouring
     ensures { Adds so_far result (O.told out.old) (O.told out.new) (compact_text (boolean flag)) }
 {
     if flag {
-        add(so_far, b"true", out)
+        add_text(so_far, "true", out)
     } else {
-        add(so_far, b"false", out)
+        add_text(so_far, "false", out)
     }
 }
 
 /// Puts a member whose value is of a sort.
 #[inline(always)]
-pub(crate) fn put_one<P: Poured, O: Out>(pen: Pen, key: &[u8], value: &P::Tree, out: &mut O) -> Pen
+pub(crate) fn put_one<P: Poured, O: TextEnd>(
+    pen: Pen,
+    key: &str,
+    value: &P::Tree,
+    out: &mut O,
+) -> Pen
     requires { is_key key.now ≡ true }
-    ensures { PutsFields pen result (O.told out.old) (O.told out.new) ((name_in key.now, Some (compact_text (P.spell value.now))) ∷ []) }
+    ensures { PutsFields pen result (O.told out.old) (O.told out.new)
+        ((name_in key.now, Some (compact_text (P.spell value.now))) ∷ []) }
 {
     let named = add_key(pen, key, out);
     Pen {
@@ -181,14 +196,15 @@ pub(crate) fn put_one<P: Poured, O: Out>(pen: Pen, key: &[u8], value: &P::Tree, 
 
 /// The same, where there may be none.
 #[inline(always)]
-pub(crate) fn put_optional<P: Poured, O: Out>(
+pub(crate) fn put_optional<P: Poured, O: TextEnd>(
     pen: Pen,
-    key: &[u8],
+    key: &str,
     value: &Option<P::Tree>,
     out: &mut O,
 ) -> Pen
     requires { is_key key.now ≡ true }
-    ensures { PutsFields pen result (O.told out.old) (O.told out.new) ((name_in key.now, option_map compact_text (option_map P.spell value.now)) ∷ []) }
+    ensures { PutsFields pen result (O.told out.old) (O.told out.new)
+        ((name_in key.now, option_map compact_text (option_map P.spell value.now)) ∷ []) }
 {
     match value {
         Some(value) => put_one::<P, O>(pen, key, value, out),
@@ -198,12 +214,13 @@ pub(crate) fn put_optional<P: Poured, O: Out>(
 
 /// Puts a member whose value is an array of these items.
 #[inline(never)]
-fn put_items<P: Poured, O: Out>(pen: Pen, key: &[u8], items: &[P::Tree], out: &mut O) -> Pen
+fn put_items<P: Poured, O: TextEnd>(pen: Pen, key: &str, items: &[P::Tree], out: &mut O) -> Pen
     requires { is_key key.now ≡ true }
-    ensures { PutsFields pen result (O.told out.old) (O.told out.new) ((name_in key.now, Some (91 ∷ items_text false (onto (map P.spell items.now) no_items))) ∷ []) }
+    ensures { PutsFields pen result (O.told out.old) (O.told out.new)
+        ((name_in key.now, Some (91 ∷ items_text false (onto (map P.spell items.now) no_items))) ∷ []) }
 {
     let named = add_key(pen, key, out);
-    let opened = add(named, b"[", out);
+    let opened = add_text(named, "[", out);
     Pen {
         state: pour_items::<P, O>(opened, items, out),
         later: true,
@@ -212,9 +229,15 @@ fn put_items<P: Poured, O: Out>(pen: Pen, key: &[u8], items: &[P::Tree], out: &m
 
 /// Puts a member whose value is an array, unless it has no items.
 #[inline(always)]
-pub fn put_list<P: Poured, O: Out>(pen: Pen, key: &[u8], values: &Many<P::Tree>, out: &mut O) -> Pen
+pub fn put_list<P: Poured, O: TextEnd>(
+    pen: Pen,
+    key: &str,
+    values: &Many<P::Tree>,
+    out: &mut O,
+) -> Pen
     requires { is_key key.now ≡ true }
-    ensures { PutsFields pen result (O.told out.old) (O.told out.new) ((name_in key.now, option_map compact_text (list_of P.spell values.now)) ∷ []) }
+    ensures { PutsFields pen result (O.told out.old) (O.told out.new)
+        ((name_in key.now, option_map compact_text (list_of P.spell values.now)) ∷ []) }
 {
     if values.is_empty() {
         return pen;

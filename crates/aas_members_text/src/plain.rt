@@ -1,8 +1,9 @@
 // Bytes that stand for themselves in a JSON string. Most texts are short: two loads that overlap tell all of one.
-ghost use Rattle.std.specs.Prelude.{◌≡◌, ◌+◌, ◌≤◌, ◌∷◌, [], false, take, length};
+ghost use Rattle.std.specs.Prelude.{◌≡◌, ◌+◌, ◌<◌, ◌≤◌, ◌∷◌, [], false, true, length, slice_index, take};
 ghost use Rattle.std.specs.Bool.{OnTrue};
 ghost use Rattle.json.specs.Print.{escape, escape_byte};
 ghost use Rattle.json.specs.Written.{PlainBetween};
+ghost use Rattle.aas_members_text.specs.Members.{is_unescaped};
 
 use std::simd::prelude::*;
 
@@ -92,6 +93,7 @@ fn plain_16(text: &[u8], at: usize) -> bool
 pub(crate) fn count_plain(bytes: &[u8]) -> usize
     ensures within { result ≤ length bytes.now }
     ensures plain { escape (take result bytes.now) ≡ take result bytes.now }
+    ensures behind { result < length bytes.now → is_unescaped (slice_index bytes.now result) ≡ false }
 {
     for (i, byte) in bytes.iter().enumerate() {
         if is_escaped(*byte) {
@@ -104,7 +106,8 @@ pub(crate) fn count_plain(bytes: &[u8]) -> usize
 /// Whether a byte doesn't stand for itself. Small letters, which are most, are told by one comparison.
 #[tactic(auto, unfolding(json::specs::Print::escape_byte))]
 fn is_escaped(byte: u8) -> bool
-    ensures { result ≡ false → escape_byte byte ≡ byte ∷ [] }
+    ensures plain { result ≡ false → escape_byte byte ≡ byte ∷ [] }
+    ensures escaped { result ≡ true → is_unescaped byte ≡ false }
 {
     byte <= b'\\' && (byte < 32 || byte == b'"' || byte == b'\\')
 }

@@ -6,7 +6,7 @@ ghost use Rattle.aas_out.specs.Adds.{Adds};
 
 use crate::quoted::add_quoted;
 use aas_model::Text;
-use aas_out::{Out, Pouring, add};
+use aas_out::{Pouring, TextEnd, add_text};
 
 /// A sort of things that are each put as one JSON value.
 pub trait Poured {
@@ -16,7 +16,7 @@ pub trait Poured {
     ghost spell: { Self.Tree → Data };
 
     /// Puts the text of `tree`.
-    fn pour<O: Out>(so_far: Pouring, tree: &Self::Tree, out: &mut O) -> Pouring
+    fn pour<O: TextEnd>(so_far: Pouring, tree: &Self::Tree, out: &mut O) -> Pouring
         ensures { Adds so_far result (O.told out.old) (O.told out.new) (compact_text (spell tree.now)) };
 }
 
@@ -28,32 +28,33 @@ impl Poured for Texts {
 
     ghost spell = { text_of };
 
-    fn pour<O: Out>(so_far: Pouring, text: &Text, out: &mut O) -> Pouring {
+    fn pour<O: TextEnd>(so_far: Pouring, text: &Text, out: &mut O) -> Pouring {
         add_quoted(so_far, text.as_str(), out)
     }
 }
 
 /// A comma, where something stands before.
-pub fn comma_of(later: bool) -> &'static [u8]
+pub fn comma_of(later: bool) -> &'static str
     ensures { result.now ≡ comma_if later }
 {
-    if later { b"," } else { b"" }
+    if later { "," } else { "" }
 }
 
 /// Puts the items of an array, with the bracket behind them.
-pub(crate) fn pour_items<P: Poured, O: Out>(
+pub(crate) fn pour_items<P: Poured, O: TextEnd>(
     so_far: Pouring,
     trees: &[P::Tree],
     out: &mut O,
 ) -> Pouring
-    ensures { Adds so_far result (O.told out.old) (O.told out.new) (items_text false (onto (map P.spell trees.now) no_items)) }
+    ensures { Adds so_far result (O.told out.old) (O.told out.new)
+        (items_text false (onto (map P.spell trees.now) no_items)) }
 {
     let mut state = so_far;
     let mut later = false;
     for tree in trees {
-        let comma = add(state, comma_of(later), out);
+        let comma = add_text(state, comma_of(later), out);
         state = P::pour(comma, tree, out);
         later = true;
     }
-    add(state, b"]", out)
+    add_text(state, "]", out)
 }

@@ -10,7 +10,7 @@ use crate::members::Pen;
 use crate::pen::{add_key, begin_object, end_object, put_list, put_one, put_word};
 use crate::poured::{Poured, Texts};
 use aas_model::{Boxed, Key, Reference};
-use aas_out::{Out, Pouring};
+use aas_out::{Pouring, TextEnd};
 use aas_reference::{Keys, References};
 
 impl Poured for Keys {
@@ -18,7 +18,7 @@ impl Poured for Keys {
 
     ghost spell = { spell_key };
 
-    fn pour<O: Out>(so_far: Pouring, key: &Key, out: &mut O) -> Pouring {
+    fn pour<O: TextEnd>(so_far: Pouring, key: &Key, out: &mut O) -> Pouring {
         let begun = begin_object(so_far, out);
         let typed = put_word(begun, key::TYPE, key.key_type, out);
         let valued = put_one::<Texts, O>(typed, key::VALUE, &key.value, out);
@@ -31,13 +31,13 @@ impl Poured for References {
 
     ghost spell = { spell_reference };
 
-    fn pour<O: Out>(so_far: Pouring, reference: &Reference, out: &mut O) -> Pouring {
+    fn pour<O: TextEnd>(so_far: Pouring, reference: &Reference, out: &mut O) -> Pouring {
         pour_reference(so_far, reference, out)
     }
 }
 
 #[cycle(reference)]
-fn pour_reference<O: Out>(so_far: Pouring, reference: &Reference, out: &mut O) -> Pouring
+fn pour_reference<O: TextEnd>(so_far: Pouring, reference: &Reference, out: &mut O) -> Pouring
     ensures { Adds so_far result (O.told out.old) (O.told out.new) (compact_text (spell_reference reference.now)) }
 {
     let begun = begin_object(so_far, out);
@@ -48,8 +48,9 @@ fn pour_reference<O: Out>(so_far: Pouring, reference: &Reference, out: &mut O) -
 }
 
 #[cycle(reference)]
-fn put_referred<O: Out>(pen: Pen, referred: &Option<Boxed<Reference>>, out: &mut O) -> Pen
-    ensures { PutsFields pen result (O.told out.old) (O.told out.new) ((codes "referredSemanticId", option_map compact_text (option_map spell_reference referred.now)) ∷ []) }
+fn put_referred<O: TextEnd>(pen: Pen, referred: &Option<Boxed<Reference>>, out: &mut O) -> Pen
+    ensures { PutsFields pen result (O.told out.old) (O.told out.new)
+        ((codes "referredSemanticId", option_map compact_text (option_map spell_reference referred.now)) ∷ []) }
 {
     match referred {
         Some(boxed) => {

@@ -1,4 +1,5 @@
--- What a call of a pouring adds to what was put, where a pouring that has stopped puts no more. This profile's own rule.
+-- What a call of a pouring adds to what was put, where a pouring that has stopped puts no more.
+-- This profile's own rule.
 use Rattle.std.specs.Prelude.{Result, Ok, Err, ◌≡◌, ℕ, List}
 use Rattle.aas_outside.specs.declared.link.Failed.{Failed}
 use Rattle.aas_out.specs.declared.pouring.Pouring.{Pouring}

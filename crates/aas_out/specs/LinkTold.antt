@@ -23,8 +23,12 @@ link_told sent faults kept = record { sent = sent; gone = sent; count = None; fa
 
 -- The same, where bytes are held that the link wasn't given yet.
 abbrev pub holding_told : Option (List ℕ) → List ℕ → ℕ → LinkKept → Told LinkKept
-holding_told sent held faults kept = record { sent = append_known sent held; gone = sent; count = None; faults = faults; kept = kept }
+holding_told sent held faults kept =
+    record { sent = append_known sent held; gone = sent; count = None; faults = faults; kept = kept }
 
 -- What an end tells that gathers what is put for a link, by what the link tells.
-abbrev pub told_by : {L : Type 0} → (L → Option (List ℕ)) → (L → ℕ) → (L → Option (List ℕ)) → (L → Surroundings) → BufferOut L → Told LinkKept
-told_by sent faults left around out = holding_told (sent out.link.now) (held_by out) (faults out.link.now) (link_kept out.link.ghost_name (left out.link.now) (around out.link.now))
+abbrev pub told_by : {L : Type 0}
+    → (L → Option (List ℕ)) → (L → ℕ) → (L → Option (List ℕ)) → (L → Surroundings) → BufferOut L → Told LinkKept
+told_by sent faults left around out =
+    holding_told (sent out.link.now) (held_by out) (faults out.link.now)
+    (link_kept out.link.ghost_name (left out.link.now) (around out.link.now))

@@ -31,8 +31,8 @@ impl PieceBuffer {
 /// What is put is given to the link in pieces of some KiB: it is held in a buffer until there is no room for more.
 ///
 /// What is told is what the link was given, and behind it what is held, so that a put means here what it means at every
-/// end. [`BufferOut::flush`] gives the link what is held: then all that was put is sent. Where the link fails nothing is
-/// lost, and what it wasn't given is held.
+/// end. [`BufferOut::flush`] gives the link what is held: then all that was put is sent. Where the link fails nothing
+/// is lost, and what it wasn't given is held.
 #[derive(Drop)]
 pub struct BufferOut<'a, L: Link> {
     pub link: &'a mut L,
@@ -63,7 +63,8 @@ impl<'a, L: Link> BufferOut<'a, L> {
     pub fn flush(&mut self) -> Result<(), Failed>
         ensures same_reference { self.new.link.ghost_name ≡ self.old.link.ghost_name }
         ensures empty { OnOk result (HoldsNothing self.new) }
-        ensures sent { append_known (L.sent self.new.link.now) (held_by self.new) ≡ append_known (L.sent self.old.link.now) (held_by self.old) }
+        ensures sent { append_known (L.sent self.new.link.now) (held_by self.new)
+            ≡ append_known (L.sent self.old.link.now) (held_by self.old) }
         ensures more { Grows (L.sent self.old.link.now) (L.sent self.new.link.now) }
         ensures surroundings { L.surroundings self.new.link.now ≡ L.surroundings self.old.link.now }
         ensures left { L.left self.new.link.now ≡ L.left self.old.link.now }
@@ -82,7 +83,8 @@ impl<'a, L: Link> BufferOut<'a, L> {
     fn hold(&mut self, bytes: &[u8]) -> bool
         ensures link { self.new.link ≡ self.old.link }
         ensures held { held_by self.new ≡ (if result then held_by self.old ++ bytes.now else held_by self.old) }
-        ensures room { self.old.given ≡ 0 → length self.old.held.now.items + length bytes.now ≤ PIECE_SIZE → result ≡ true }
+        ensures room { self.old.given ≡ 0
+            → length self.old.held.now.items + length bytes.now ≤ PIECE_SIZE → result ≡ true }
     {
         if self.given != 0 {
             return false;
@@ -94,7 +96,8 @@ impl<'a, L: Link> BufferOut<'a, L> {
     #[cold]
     #[inline(never)]
     fn put_past(&mut self, bytes: &[u8]) -> Result<(), Failed>
-        ensures { Puts (told_by L.sent L.faults L.left L.surroundings self.old) (told_by L.sent L.faults L.left L.surroundings self.new) result bytes.now }
+        ensures { Puts (told_by L.sent L.faults L.left L.surroundings self.old)
+            (told_by L.sent L.faults L.left L.surroundings self.new) result bytes.now }
     {
         self.flush()?;
         if self.hold(bytes) {

@@ -1,14 +1,15 @@
-//! Ends that bytes are put into piece by piece, and pourings: what puts a text into such an end, part by part.
+//! Ends that bytes or texts are put into piece by piece, and pourings: what puts a text into such an end, part by part.
 //!
-//! No text is made here. Nothing takes memory but the end that keeps a text in it.
+//! No text is made here. Nothing takes memory but the ends that keep a text in it. What puts texts alone asks for a
+//! `TextEnd`, so that it can put into a `String` what is UTF-8 by its type; every end that bytes are put into is one.
 //!
-//! Proved, by the contract of `Out`, `CountOut`, `TextOut`, `LinkOut`, `BufferOut`, `add`, `measure`,
-//! `give_poured`:
+//! Proved, by the contract of `Out`, `TextEnd`, `CountOut`, `TextOut`, `StringOut`, `LinkOut`, `BufferOut`, `add`,
+//! `add_text`, `measure`, `give_poured`:
 //!
 //! - What is put into an end is put behind the rest, and where it fails a front of it is, and the count of faults
 //!   has risen.
 //! - The end that counts knows the length, up to 2^64.
-//! - The end that keeps a text in memory fails exactly where memory is refused.
+//! - The ends that keep a text in memory fail exactly where memory is refused.
 //! - A link is given all of a text that is put, in pieces of some KiB, or a front of it where the link fails.
 #![tactic(auto)]
 
@@ -17,6 +18,8 @@ mod counting;
 mod linked;
 mod out;
 mod pouring;
+mod string_out;
+mod text_end;
 mod text_out;
 mod texts;
 
@@ -26,5 +29,7 @@ pub use counting::CountOut;
 pub use linked::LinkOut;
 pub use out::Out;
 pub use pouring::{Pouring, add};
+pub use string_out::StringOut;
+pub use text_end::{TextEnd, add_text};
 pub use text_out::TextOut;
 pub use texts::{Pour, give_poured, measure};

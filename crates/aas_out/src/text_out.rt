@@ -36,7 +36,8 @@ impl TextOut {
     #[cold]
     #[inline(never)]
     fn put_past(&mut self, bytes: &[u8]) -> Result<(), Failed>
-        ensures { Puts (text_told self.old.text.items self.old.faults) (text_told self.new.text.items self.new.faults) result bytes.now }
+        ensures { Puts (text_told self.old.text.items self.old.faults)
+            (text_told self.new.text.items self.new.faults) result bytes.now }
     {
         // Where so much is refused, less may be given.
         let _ = self.text.try_reserve(bytes.len().max(LEAST_ROOM));
@@ -64,7 +65,8 @@ impl Out for TextOut {
 
     #[inline(always)]
     fn put(&mut self, bytes: &[u8]) -> Result<(), Failed>
-        ensures put { Puts (text_told self.old.text.items self.old.faults) (text_told self.new.text.items self.new.faults) result bytes.now }
+        ensures put { Puts (text_told self.old.text.items self.old.faults)
+            (text_told self.new.text.items self.new.faults) result bytes.now }
         ensures refused { OnErr result (vec_capacity self.old.text < vec_len self.old.text + length bytes.now) }
     {
         if self.text.capacity() - self.text.len() < bytes.len() {

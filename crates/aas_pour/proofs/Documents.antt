@@ -17,7 +17,8 @@ use Rattle.aas_pour.specs.Submodels.{RowsGiveTheSubmodel}
 use Rattle.aas_pour.proofs.FromTrees.{rows_give_texts}
 
 -- what stands before the elements, they, and what stands behind
-pub submodel_put : {K : Type 0} (s : Submodel) (ts : List (List ℕ)) (so_far a b after : Pouring) (t u v z : Told K) (later then_later : Bool)
+pub submodel_put : {K : Type 0} (s : Submodel) (ts : List (List ℕ))
+    (so_far a b after : Pouring) (t u v z : Told K) (later then_later : Bool)
     → Adds so_far a t u (123 ∷ fields_text false (submodel_fields s names_before)) → later ≡ later_before s
     → Adds a b u v (listed_text later (codes "submodelElements") ts) → then_later ≡ (later || is_any ts)
     → Adds b after v z (fields_text then_later (submodel_fields s names_behind) ++ 125 ∷ [])
@@ -29,11 +30,15 @@ submodel_put s ts so_far a b after t u v z later then_later begun is elements th
     adds_both so_far a after t u z (123 ∷ fields_text false (submodel_fields s names_before)) (listed ++ behind) begun
     (adds_both a b after u v z listed behind
     (subst (λ l. Adds a b u v (listed_text l name ts)) is elements)
-    (subst (λ l. Adds b after v z (fields_text l (submodel_fields s names_behind) ++ 125 ∷ [])) (then_is ∙ ap (λ l. l || is_any ts) is) ended))
+    (subst (λ l. Adds b after v z (fields_text l (submodel_fields s names_behind) ++ 125 ∷ []))
+    (then_is ∙ ap (λ l. l || is_any ts) is) ended))
 
-texts_of : (w : Show) (es : List Element) → map (λ (v : Spoken). v.text) (map (λ e. spoken w e 1) es) ≡ map (λ e. (spoken w e 1).text) es
+texts_of : (w : Show) (es : List Element)
+    → map (λ (v : Spoken). v.text) (map (λ e. spoken w e 1) es) ≡ map (λ e. (spoken w e 1).text) es
 texts_of w [] = refl
 texts_of w (e ∷ es) = ap (λ ts. (spoken w e 1).text ∷ ts) (texts_of w es)
 
 pub rows_give_submodel : RowsGiveTheSubmodel
-rows_give_submodel w s es = ap (submodel_text s) (ap (map (λ (v : Spoken). v.text)) (rows_give_texts w es 0) ∙ texts_of w es) ∙ shown_canonical w (record s { kids = es })
+rows_give_submodel w s es =
+    ap (submodel_text s) (ap (map (λ (v : Spoken). v.text)) (rows_give_texts w es 0) ∙ texts_of w es)
+    ∙ shown_canonical w (record s { kids = es })

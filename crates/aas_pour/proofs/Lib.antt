@@ -5,4 +5,5 @@ pub mod FromTrees
 pub mod Going
 pub mod Looking
 pub mod Open
+pub mod Shown
 pub mod Whole

@@ -14,4 +14,5 @@ elements_from w rows n = elements_of w (drop n rows)
 -- the first element of a document from a rank on
 unfoldable pub IsNextElement : Show → List Line → ℕ → Option ℕ → Type 0
 IsNextElement w rows from None = elements_from w rows from ≡ []
-IsNextElement w rows from (Some m) = HasRow rows m × (from ≤ m) × (elements_from w rows from ≡ text_at w rows m ∷ elements_from w rows (m + 1))
+IsNextElement w rows from (Some m) =
+    HasRow rows m × (from ≤ m) × (elements_from w rows from ≡ text_at w rows m ∷ elements_from w rows (m + 1))

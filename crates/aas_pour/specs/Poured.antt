@@ -1,5 +1,6 @@
 -- The text of the elements that rows in preorder list. What a row's children say stands in the rows behind it.
-use Rattle.std.specs.Prelude.{◌≡◌, ℕ, ◌+◌, ◌<◌, ◌≤◌, nat_lt, List, [], ◌∷◌, drop, map, slice_get, if◌then◌else◌, Option, Some, None}
+use Rattle.std.specs.Prelude.{◌≡◌, ℕ, ◌+◌, ◌<◌, ◌≤◌, nat_lt, List, [], ◌∷◌, drop, map, slice_get, if◌then◌else◌, Option}
+use Rattle.std.specs.Prelude.{Some, None}
 use Rattle.aas_model.specs.declared.element.Element.{Element}
 use Rattle.aas_rows.specs.Rows.{Line, rows_of_all}
 use Rattle.aas_members_text.specs.Script.{Spoken, element_text}
@@ -37,4 +38,5 @@ HasRow rows n = (r : Line) × (slice_get rows n ≡ Some r) × (0 < r.level)
 
 -- The rows of trees give the texts of the trees.
 abbrev pub RowsGiveTheTexts : Type 0
-RowsGiveTheTexts = (w : Show) (es : List Element) (k : ℕ) → voices w k (rows_of_all es (k + 1)) ≡ map (λ e. spoken w e (k + 1)) es
+RowsGiveTheTexts =
+    (w : Show) (es : List Element) (k : ℕ) → voices w k (rows_of_all es (k + 1)) ≡ map (λ e. spoken w e (k + 1)) es

@@ -10,10 +10,15 @@ use Rattle.aas_members_text.specs.Texts.{shown}
 use Rattle.aas_members_text.specs.declared.members.Show.{Show}
 use Rattle.aas_pour.specs.Elements.{elements_of}
 
--- the submodel with this head, and with what is shown of these elements
+-- the submodel with this head, and with these elements
+abbrev pub with_elements : Submodel → List Element → Submodel
+with_elements s es = record s { kids = es }
+
+-- the same with what is shown of these elements
 abbrev pub shown_submodel : Show → Submodel → List Element → Submodel
 shown_submodel w s es = record s { kids = map (λ e. shown w e 1) es }
 
 -- A head and the rows of trees give the canonical text of what is shown of the submodel with these trees.
 abbrev pub RowsGiveTheSubmodel : Type 0
-RowsGiveTheSubmodel = (w : Show) (s : Submodel) (es : List Element) → submodel_text s (elements_of w (rows_of_all es 1)) ≡ compact_text (spell_submodel (shown_submodel w s es))
+RowsGiveTheSubmodel = (w : Show) (s : Submodel) (es : List Element)
+    → submodel_text s (elements_of w (rows_of_all es 1)) ≡ compact_text (spell_submodel (shown_submodel w s es))

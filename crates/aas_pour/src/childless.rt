@@ -8,7 +8,7 @@ ghost use Rattle.aas_rows.specs.Views.{line_of};
 use crate::stops::has_stop;
 use aas_members_text::{Members, Show};
 use aas_model::Payload;
-use aas_out::{Out, Pouring, add};
+use aas_out::{Pouring, TextEnd, add_text};
 use aas_rows::RowView;
 
 /// Whether nothing is shown below the element of this row, whatever stands there.
@@ -28,7 +28,7 @@ fn has_any_stop(payload: &Payload) -> bool
 }
 
 /// Puts all parts of an element below which nothing is shown, and the brace.
-pub(crate) fn put_childless<M: Members, O: Out>(
+pub(crate) fn put_childless<M: Members, O: TextEnd>(
     so_far: Pouring,
     members: &M,
     show: Show,
@@ -37,7 +37,8 @@ pub(crate) fn put_childless<M: Members, O: Out>(
     out: &mut O,
 ) -> Pouring
     requires childless { is_childless show (line_of row.now) ≡ true }
-    ensures { (children : List Spoken) → Adds so_far result (O.told out.old) (O.told out.new) (script show (line_of row.now) children 6 later) }
+    ensures { (children : List Spoken)
+        → Adds so_far result (O.told out.old) (O.told out.new) (script show (line_of row.now) children 6 later) }
 {
     let pen = members.put_part(so_far, show, row, 6, later, out);
     let pen = members.put_part(pen.state, show, row, 5, pen.later, out);
@@ -46,5 +47,5 @@ pub(crate) fn put_childless<M: Members, O: Out>(
     let pen = members.put_part(pen.state, show, row, 2, pen.later, out);
     let pen = members.put_part(pen.state, show, row, 1, pen.later, out);
     let pen = members.put_part(pen.state, show, row, 0, pen.later, out);
-    add(pen.state, b"}", out)
+    add_text(pen.state, "}", out)
 }

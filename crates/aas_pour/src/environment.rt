@@ -6,7 +6,7 @@ ghost use Rattle.aas_out.specs.Adds.{Adds};
 use crate::tree::Submodels;
 use aas_members_text::{Concepts, Poured, Shells, begin_object, end_object, key, put_list};
 use aas_model::Environment;
-use aas_out::{Out, Pouring};
+use aas_out::{Pouring, TextEnd};
 
 /// Environments, as they are put.
 pub struct Environments;
@@ -16,13 +16,13 @@ impl Poured for Environments {
 
     ghost spell = { spell_environment };
 
-    fn pour<O: Out>(so_far: Pouring, environment: &Environment, out: &mut O) -> Pouring {
+    fn pour<O: TextEnd>(so_far: Pouring, environment: &Environment, out: &mut O) -> Pouring {
         pour_environment_tree(so_far, environment, out)
     }
 }
 
 /// Puts the canonical text of an environment (IDTA-01001-3-0, class Environment).
-pub fn pour_environment_tree<O: Out>(
+pub fn pour_environment_tree<O: TextEnd>(
     so_far: Pouring,
     environment: &Environment,
     out: &mut O,

@@ -6,7 +6,7 @@ ghost use Rattle.aas_members_text.specs.Members.{closing, field_text, has_stop, 
 
 use aas_members_text::comma_of;
 use aas_model::{Payload, Role};
-use aas_out::{Out, Pouring, add};
+use aas_out::{Pouring, TextEnd, add_text};
 
 /// Whether an element of this kind has children at a stop.
 #[inline]
@@ -40,54 +40,54 @@ pub(crate) fn role_fits(stop: u8, role: Role) -> bool
 
 /// The text before a child at a stop.
 #[tactic(auto, unfolding(aas_members_text::specs::Members::opening))]
-pub(crate) fn opening_of(stop: u8) -> &'static [u8]
+pub(crate) fn opening_of(stop: u8) -> &'static str
     ensures { result.now ≡ opening stop }
 {
     if 2 < stop && stop < 6 {
-        b"{\"value\":"
+        "{\"value\":"
     } else {
-        b""
+        ""
     }
 }
 
 /// The text behind a child at a stop.
 #[tactic(auto, unfolding(aas_members_text::specs::Members::closing))]
-pub(crate) fn closing_of(stop: u8) -> &'static [u8]
+pub(crate) fn closing_of(stop: u8) -> &'static str
     ensures { result.now ≡ closing stop }
 {
-    if 2 < stop && stop < 6 { b"}" } else { b"" }
+    if 2 < stop && stop < 6 { "}" } else { "" }
 }
 
 /// The name of the member whose items stand at a stop, and the bracket.
-fn name_of(stop: u8) -> &'static [u8]
+fn name_of(stop: u8) -> &'static str
     requires some { 0 < stop }
     requires low { stop ≤ 6 }
     ensures { result.now ≡ quoted (stop_name stop) ++ 58 ∷ 91 ∷ [] }
 {
     match stop {
-        6 => b"\"annotations\":[",
-        5 => b"\"inoutputVariables\":[",
-        4 => b"\"inputVariables\":[",
-        3 => b"\"outputVariables\":[",
-        2 => b"\"statements\":[",
-        _ => b"\"value\":[",
+        6 => "\"annotations\":[",
+        5 => "\"inoutputVariables\":[",
+        4 => "\"inputVariables\":[",
+        3 => "\"outputVariables\":[",
+        2 => "\"statements\":[",
+        _ => "\"value\":[",
     }
 }
 
 /// Puts what stands before the first child at a stop.
-pub(crate) fn put_name<O: Out>(so_far: Pouring, stop: u8, later: bool, out: &mut O) -> Pouring
+pub(crate) fn put_name<O: TextEnd>(so_far: Pouring, stop: u8, later: bool, out: &mut O) -> Pouring
     requires some { 0 < stop }
     requires low { stop ≤ 6 }
     ensures { Adds so_far result (O.told out.old) (O.told out.new) (field_text later (stop_name stop) (91 ∷ [])) }
 {
-    let comma = add(so_far, comma_of(later), out);
-    add(comma, name_of(stop), out)
+    let comma = add_text(so_far, comma_of(later), out);
+    add_text(comma, name_of(stop), out)
 }
 
 /// Goes into a child at a stop.
-pub(crate) fn put_open<O: Out>(so_far: Pouring, stop: u8, out: &mut O) -> Pouring
+pub(crate) fn put_open<O: TextEnd>(so_far: Pouring, stop: u8, out: &mut O) -> Pouring
     ensures { Adds so_far result (O.told out.old) (O.told out.new) (opening stop ++ 123 ∷ []) }
 {
-    let before = add(so_far, opening_of(stop), out);
-    add(before, b"{", out)
+    let before = add_text(so_far, opening_of(stop), out);
+    add_text(before, "{", out)
 }

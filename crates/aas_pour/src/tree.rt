@@ -14,7 +14,7 @@ use aas_members_text::{
     CanonicalMembers, Members, Pen, Poured, Show, begin_submodel, end_submodel, key, put_list,
 };
 use aas_model::{Element, Many, Submodel};
-use aas_out::{Out, Pouring, add};
+use aas_out::{Pouring, TextEnd, add_text};
 use aas_rows::RowView;
 
 /// All of an element that stands at the level 0 is shown.
@@ -31,7 +31,7 @@ impl Poured for Elements {
 
     ghost spell = { spell_element };
 
-    fn pour<O: Out>(so_far: Pouring, element: &Element, out: &mut O) -> Pouring {
+    fn pour<O: TextEnd>(so_far: Pouring, element: &Element, out: &mut O) -> Pouring {
         pour_tree(so_far, element, out)
     }
 }
@@ -44,13 +44,13 @@ impl Poured for Submodels {
 
     ghost spell = { spell_submodel };
 
-    fn pour<O: Out>(so_far: Pouring, submodel: &Submodel, out: &mut O) -> Pouring {
+    fn pour<O: TextEnd>(so_far: Pouring, submodel: &Submodel, out: &mut O) -> Pouring {
         pour_submodel_tree(so_far, submodel, out)
     }
 }
 
 /// Puts the canonical text of a submodel (IDTA-01001-3-0, class Submodel).
-pub fn pour_submodel_tree<O: Out>(so_far: Pouring, submodel: &Submodel, out: &mut O) -> Pouring
+pub fn pour_submodel_tree<O: TextEnd>(so_far: Pouring, submodel: &Submodel, out: &mut O) -> Pouring
     ensures { Adds so_far result (O.told out.old) (O.told out.new) (compact_text (spell_submodel submodel.now)) }
 {
     let before = begin_submodel(so_far, submodel, out);
@@ -60,12 +60,12 @@ pub fn pour_submodel_tree<O: Out>(so_far: Pouring, submodel: &Submodel, out: &mu
 
 /// Puts the canonical text of an element and of all below it (IDTA-01001-3-0, class SubmodelElement).
 #[cycle(tree)]
-pub fn pour_tree<O: Out>(so_far: Pouring, element: &Element, out: &mut O) -> Pouring
+pub fn pour_tree<O: TextEnd>(so_far: Pouring, element: &Element, out: &mut O) -> Pouring
     ensures { Adds so_far result (O.told out.old) (O.told out.new) (compact_text (spell_element element.now)) }
 {
     let row = RowView::of_element(element, 0);
     let mut pen = Pen {
-        state: add(so_far, b"{", out),
+        state: add_text(so_far, "{", out),
         later: false,
     };
     let mut next = 6;
@@ -74,12 +74,12 @@ pub fn pour_tree<O: Out>(so_far: Pouring, element: &Element, out: &mut O) -> Pou
         next -= 1;
     }
     let last = CanonicalMembers.put_part(pen.state, ALL_SHOWN, &row, 0, pen.later, out);
-    add(last.state, b"}", out)
+    add_text(last.state, "}", out)
 }
 
 /// Puts a part of an element, and the children at the stop behind it.
 #[cycle(tree)]
-fn put_to_stop<O: Out>(
+fn put_to_stop<O: TextEnd>(
     pen: Pen,
     row: &RowView<'_>,
     kids: &Many<Element>,
@@ -88,9 +88,13 @@ fn put_to_stop<O: Out>(
 ) -> Pen
     requires some { 0 < stop }
     requires low { stop ≤ 6 }
-    ensures text { Adds pen.state result.state (O.told out.old) (O.told out.new) (fields_text pen.later (part all_shown (line_of row.now) stop)
-        ++ listed_text (later_after pen.later (part all_shown (line_of row.now) stop)) (stop_name stop) (if has_stop stop row.now.payload.now then texts_at stop kids.now else [])) }
-    ensures later { result.later ≡ (later_after pen.later (part all_shown (line_of row.now) stop) || is_any (if has_stop stop row.now.payload.now then texts_at stop kids.now else [])) }
+    ensures text { Adds pen.state result.state (O.told out.old) (O.told out.new)
+        (fields_text pen.later (part all_shown (line_of row.now) stop)
+        ++ listed_text (later_after pen.later (part all_shown (line_of row.now) stop))
+        (stop_name stop) (if has_stop stop row.now.payload.now then texts_at stop kids.now else [])) }
+    ensures later { result.later
+        ≡ (later_after pen.later (part all_shown (line_of row.now) stop)
+        || is_any (if has_stop stop row.now.payload.now then texts_at stop kids.now else [])) }
 {
     let part = CanonicalMembers.put_part(pen.state, ALL_SHOWN, row, stop, pen.later, out);
     if has_stop(stop, row.payload) {
@@ -102,10 +106,11 @@ fn put_to_stop<O: Out>(
 
 /// Puts the children at a stop, where there are any.
 #[cycle(tree)]
-fn put_children<O: Out>(pen: Pen, kids: &Many<Element>, stop: u8, out: &mut O) -> Pen
+fn put_children<O: TextEnd>(pen: Pen, kids: &Many<Element>, stop: u8, out: &mut O) -> Pen
     requires some { 0 < stop }
     requires low { stop ≤ 6 }
-    ensures text { Adds pen.state result.state (O.told out.old) (O.told out.new) (listed_text pen.later (stop_name stop) (texts_at stop kids.now)) }
+    ensures text { Adds pen.state result.state (O.told out.old) (O.told out.new)
+        (listed_text pen.later (stop_name stop) (texts_at stop kids.now)) }
     ensures later { result.later ≡ (pen.later || is_any (texts_at stop kids.now)) }
 {
     let mut state = pen.state;
@@ -119,7 +124,7 @@ fn put_children<O: Out>(pen: Pen, kids: &Many<Element>, stop: u8, out: &mut O) -
     }
     if any {
         return Pen {
-            state: add(state, b"]", out),
+            state: add_text(state, "]", out),
             later: true,
         };
     }
@@ -131,22 +136,23 @@ fn put_children<O: Out>(pen: Pen, kids: &Many<Element>, stop: u8, out: &mut O) -
 
 /// Puts a child as it stands at a stop.
 #[cycle(tree)]
-fn put_child<O: Out>(so_far: Pouring, kid: &Element, stop: u8, out: &mut O) -> Pouring
+fn put_child<O: TextEnd>(so_far: Pouring, kid: &Element, stop: u8, out: &mut O) -> Pouring
     ensures { Adds so_far result (O.told out.old) (O.told out.new) (child_text stop kid.now) }
 {
-    let opened = add(so_far, opening_of(stop), out);
+    let opened = add_text(so_far, opening_of(stop), out);
     let inner = pour_tree(opened, kid, out);
-    add(inner, closing_of(stop), out)
+    add_text(inner, closing_of(stop), out)
 }
 
 /// Puts what stands between a child at a stop and those before it, or what stands before the first one.
-fn put_before<O: Out>(so_far: Pouring, stop: u8, later: bool, any: bool, out: &mut O) -> Pouring
+fn put_before<O: TextEnd>(so_far: Pouring, stop: u8, later: bool, any: bool, out: &mut O) -> Pouring
     requires some { 0 < stop }
     requires low { stop ≤ 6 }
-    ensures { Adds so_far result (O.told out.old) (O.told out.new) (if any then 44 ∷ [] else field_text later (stop_name stop) (91 ∷ [])) }
+    ensures { Adds so_far result (O.told out.old) (O.told out.new)
+        (if any then 44 ∷ [] else field_text later (stop_name stop) (91 ∷ [])) }
 {
     if any {
-        add(so_far, b",", out)
+        add_text(so_far, ",", out)
     } else {
         put_name(so_far, stop, later, out)
     }

@@ -10,13 +10,13 @@ use crate::children::{Sought, first_child};
 use crate::rows::Rows;
 use crate::stops::{closing_of, put_name, put_open};
 use aas_members_text::{Members, Show};
-use aas_out::{Out, Pouring, add};
+use aas_out::{Pouring, TextEnd, add_text};
 use aas_rows::RowView;
 use arrayvec::ArrayVec;
 
 /// An element whose children are being put.
 #[derive(Clone, Copy, Default)]
-pub(crate) struct Frame {
+pub(crate) struct OpenElement {
     rank: u64,
     /// The part that follows the children.
     next: u8,
@@ -25,7 +25,7 @@ pub(crate) struct Frame {
 /// The open elements, and the current one with the part of it that comes next.
 #[derive(Drop)]
 pub(crate) struct Walk {
-    open: ArrayVec<Frame, 30>,
+    open: ArrayVec<OpenElement, 30>,
     rank: u64,
     next: u8,
     /// A member of it was put.
@@ -43,7 +43,7 @@ fn passed_to(walk: &Walk, start: u64) -> u64
 }
 
 /// Leaves an element, whose brace was put: goes to its next sibling, or back to its parent.
-fn leave<R: Rows, O: Out>(
+fn leave<R: Rows, O: TextEnd>(
     so_far: Pouring,
     rows: &R,
     show: Show,
@@ -55,21 +55,23 @@ fn leave<R: Rows, O: Out>(
     requires there { HasRow (R.Rows.lines rows.now) walk.old.rank }
     requires last { walk.old.next ≡ 0 }
     requires going { walk.old.done ≡ false }
-    ensures { Poured show (R.Rows.lines rows.now) (up show (R.Rows.lines rows.now) (λ m. []) walk.old.open.items walk.old.rank) walk.new so_far result (O.told out.old) (O.told out.new) }
+    ensures { Poured show (R.Rows.lines rows.now)
+        (up show (R.Rows.lines rows.now) (λ m. []) walk.old.open.items walk.old.rank) walk.new so_far result
+        (O.told out.old) (O.told out.new) }
 {
     let Some(frame) = walk.open.pop() else {
         walk.done = true;
-        return add(so_far, b"", out);
+        return add_text(so_far, "", out);
     };
     let Some(parent) = rows.row(frame.rank) else {
         walk.done = true;
-        return add(so_far, b"", out);
+        return add_text(so_far, "", out);
     };
     let stop = frame.next + 1;
-    let closed = add(so_far, closing_of(stop), out);
+    let closed = add_text(so_far, closing_of(stop), out);
     match first_child(rows, show, &parent, stop, walk.after, walk.after) {
         Sought::Child(child) => {
-            let comma = add(closed, b",", out);
+            let comma = add_text(closed, ",", out);
             walk.open.push(frame);
             walk.rank = child;
             walk.next = 6;
@@ -81,14 +83,14 @@ fn leave<R: Rows, O: Out>(
             walk.next = frame.next;
             walk.later = true;
             walk.after = end;
-            add(closed, b"]", out)
+            add_text(closed, "]", out)
         }
     }
 }
 
-/// One step of the walk: a part of the current element and what stands behind it, or all of an element below which nothing is
-/// shown.
-fn step<R: Rows, M: Members, O: Out>(
+/// One step of the walk: a part of the current element and what stands behind it, or all of an element below which
+/// nothing is shown.
+fn step<R: Rows, M: Members, O: TextEnd>(
     so_far: Pouring,
     rows: &R,
     members: &M,
@@ -99,12 +101,14 @@ fn step<R: Rows, M: Members, O: Out>(
     requires low { AreLow (R.Rows.lines rows.now) }
     requires walk { IsWalk (R.Rows.lines rows.now) walk.old }
     requires going { walk.old.done ≡ false }
-    ensures poured { Poured show (R.Rows.lines rows.now) (walk_left show (R.Rows.lines rows.now) walk.old) walk.new so_far result (O.told out.old) (O.told out.new) }
-    ensures less { walk.new.done ≡ false → work show (R.Rows.lines rows.now) walk.new < work show (R.Rows.lines rows.now) walk.old }
+    ensures poured { Poured show (R.Rows.lines rows.now)
+        (walk_left show (R.Rows.lines rows.now) walk.old) walk.new so_far result (O.told out.old) (O.told out.new) }
+    ensures less { walk.new.done ≡ false
+        → work show (R.Rows.lines rows.now) walk.new < work show (R.Rows.lines rows.now) walk.old }
 {
     let Some(row) = rows.row(walk.rank) else {
         walk.done = true;
-        return add(so_far, b"", out);
+        return add_text(so_far, "", out);
     };
     let stop = walk.next;
     if stop == 6 && is_childless(show, &row) {
@@ -115,7 +119,7 @@ fn step<R: Rows, M: Members, O: Out>(
     }
     let pen = members.put_part(so_far, show, &row, stop, walk.later, out);
     if stop == 0 {
-        let closed = add(pen.state, b"}", out);
+        let closed = add_text(pen.state, "}", out);
         return leave(closed, rows, show, walk, out);
     }
     let start = walk.rank + 1;
@@ -123,7 +127,7 @@ fn step<R: Rows, M: Members, O: Out>(
     match first_child(rows, show, &row, stop, start, after) {
         Sought::Child(child) => {
             let named = put_name(pen.state, stop, pen.later, out);
-            let frame = Frame {
+            let frame = OpenElement {
                 rank: walk.rank,
                 next: stop - 1,
             };
@@ -143,7 +147,7 @@ fn step<R: Rows, M: Members, O: Out>(
 }
 
 /// Puts the text of the element of this rank and of all below it.
-pub fn pour_element<R: Rows, M: Members, O: Out>(
+pub fn pour_element<R: Rows, M: Members, O: TextEnd>(
     so_far: Pouring,
     rows: &R,
     members: &M,
@@ -162,7 +166,7 @@ pub fn pour_element<R: Rows, M: Members, O: Out>(
 }
 
 /// The same, where the row of this rank was looked up.
-pub(crate) fn pour_found<R: Rows, M: Members, O: Out>(
+pub(crate) fn pour_found<R: Rows, M: Members, O: TextEnd>(
     so_far: Pouring,
     rows: &R,
     members: &M,
@@ -176,7 +180,7 @@ pub(crate) fn pour_found<R: Rows, M: Members, O: Out>(
     requires found { slice_get (R.Rows.lines rows.now) rank ≡ Some (line_of row.now) }
     ensures { Adds so_far result (O.told out.old) (O.told out.new) (text_at show (R.Rows.lines rows.now) rank) }
 {
-    let opened = add(so_far, b"{", out);
+    let opened = add_text(so_far, "{", out);
     if is_childless(show, row) {
         return put_childless(opened, members, show, row, false, out);
     }
@@ -185,7 +189,7 @@ pub(crate) fn pour_found<R: Rows, M: Members, O: Out>(
 
 /// Puts what follows the opening brace of the element of this rank, with all below it.
 #[inline(never)]
-fn walk_element<R: Rows, M: Members, O: Out>(
+fn walk_element<R: Rows, M: Members, O: TextEnd>(
     so_far: Pouring,
     rows: &R,
     members: &M,
@@ -195,7 +199,8 @@ fn walk_element<R: Rows, M: Members, O: Out>(
 ) -> Pouring
     requires low { AreLow (R.Rows.lines rows.now) }
     requires there { HasRow (R.Rows.lines rows.now) rank }
-    ensures { Adds so_far result (O.told out.old) (O.told out.new) (remaining show (R.Rows.lines rows.now) [] rank 6 false) }
+    ensures { Adds so_far result (O.told out.old) (O.told out.new)
+        (remaining show (R.Rows.lines rows.now) [] rank 6 false) }
 {
     let mut state = so_far;
     let mut walk = Walk {

@@ -19,8 +19,10 @@ returns g c =
     IfOk-weaker c.end_page.result _ _
     (λ text ended s shown. sym
     (documents_told c.args.form d s page.ids page.more cursor new.text.items text shown c.in_ok-cursor.ensures
-    (put_behind old.text.items mid.text.items new.text.items old.faults mid.faults new.faults c.pour_begin-begun.result c.in_ok-told.told
-    (page_begin cursor) (told c.as_slice.result.now) c.new-out.ensures c.pour_begin-begun.ensures c.in_ok-told.ensures ended.0
+    (put_behind old.text.items mid.text.items new.text.items old.faults
+    mid.faults new.faults c.pour_begin-begun.result c.in_ok-told.told
+    (page_begin cursor) (told c.as_slice.result.now) c.new-out.ensures
+    c.pour_begin-begun.ensures c.in_ok-told.ensures ended.0
     ∙ ap (λ ids. page_begin cursor ++ told ids) c.as_slice.ensures)
     ended.1))
     c.end_page.ensures

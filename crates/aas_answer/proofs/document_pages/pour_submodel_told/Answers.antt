@@ -15,7 +15,8 @@ use Rattle.aas_answer.proofs.document_pages.pour_submodel_told.Goals as goal
 pub returns-in-None : goal.returns-in-None
 returns-in-None g c =
     let found = map.get (g.S.Store.documents c.args.store.now).submodels c.args.id.now in
-    adds_none (submodel_text c.args.form) found c.args.so_far (g.O.Out.told c.args.out.now) (sym c.in_ok-submodel-in-Value.ensures ∙ c.in-None.is)
+    adds_none (submodel_text c.args.form) found c.args.so_far
+    (g.O.Out.told c.args.out.now) (sym c.in_ok-submodel-in-Value.ensures ∙ c.in-None.is)
 
 pub returns-in-Some-submodel_head : goal.returns-in-Some-submodel_head
 returns-in-Some-submodel_head g c =
@@ -24,16 +25,19 @@ returns-in-Some-submodel_head g c =
     let u = g.O.Out.told c.pour_metadata.new.out in
     IfOk-weaker c.pour_metadata.result _ _
     (λ state told. adds_same c.args.so_far state t u _ _ told
-    (told_of_head (λ s. canonical_text submodels (submodel_metadata s)) [] found c.in-Some-submodel_head.head.now c.in-Some-submodel_head.ensures
+    (told_of_head (λ s. canonical_text submodels (submodel_metadata s))
+    [] found c.in-Some-submodel_head.head.now c.in-Some-submodel_head.ensures
     ∙ ap (λ form. option_map_or (submodel_text form) found []) (sym c.in-Metadata.is)))
     c.pour_metadata.ensures
 
 pub returns-in-None-submodel_head : goal.returns-in-None-submodel_head
 returns-in-None-submodel_head g c =
     let found = map.get (g.S.Store.documents c.args.store.now).submodels c.args.id.now in
-    adds_none (submodel_text c.args.form) found c.args.so_far (g.O.Out.told c.args.out.now) (no_head found c.in-None-submodel_head.ensures)
+    adds_none (submodel_text c.args.form) found c.args.so_far
+    (g.O.Out.told c.args.out.now) (no_head found c.in-None-submodel_head.ensures)
 
 pub returns-in-None-submodel_head-2 : goal.returns-in-None-submodel_head-2
 returns-in-None-submodel_head-2 g c =
     let found = map.get (g.S.Store.documents c.args.store.now).submodels c.args.id.now in
-    adds_none (submodel_text c.args.form) found c.args.so_far (g.O.Out.told c.args.out.now) (no_head found c.in-None-submodel_head-2.ensures)
+    adds_none (submodel_text c.args.form) found c.args.so_far
+    (g.O.Out.told c.args.out.now) (no_head found c.in-None-submodel_head-2.ensures)

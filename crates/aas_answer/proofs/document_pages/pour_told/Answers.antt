@@ -11,5 +11,7 @@ pub returns-in-None : goal.returns-in-None
 returns-in-None g c =
     let d = g.S.Store.documents c.args.store.now in
     let t = g.O.Out.told c.args.out.now in
-    adds_same c.args.so_far c.args.so_far t t _ _ (adds_none (λ s. reference_text (shell_reference s)) (map.get d.shells c.args.id.now) c.args.so_far t (sym c.in-None.ensures))
+    adds_same c.args.so_far c.args.so_far t t _ _
+    (adds_none (λ s. reference_text (shell_reference s))
+    (map.get d.shells c.args.id.now) c.args.so_far t (sym c.in-None.ensures))
     (ap (λ form. document_text form c.args.id.now d) (sym c.in-ShellReference.is))

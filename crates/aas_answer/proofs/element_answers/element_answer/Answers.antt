@@ -18,15 +18,20 @@ row_in_memory-requires-clause-there g c =
     let found = map.get (g.S.Store.documents c.args.store.now).submodels c.as_str.result.now in
     row_there found c.new-rows.result c.args.path.now.steps c.in_ok-rank.rank
     (has_lines found (g.S.Table.Table.kept c.in-Some.table.now) c.new-rows.result c.in-Some.ensures c.new-rows.ensures)
-    (subst (λ (b : List ℕ). Holds (g.S.Store.documents c.args.store.now) b (λ s. rank_at s c.args.path.now.steps ≡ Some c.in_ok-rank.rank)) (sym c.as_str.ensures.bytes) c.in_ok-rank.ensures.ranked)
+    (subst (λ (b : List ℕ).
+    Holds (g.S.Store.documents c.args.store.now) b (λ s. rank_at s c.args.path.now.steps ≡ Some c.in_ok-rank.rank))
+    (sym c.as_str.ensures.bytes) c.in_ok-rank.ensures.ranked)
 
 pub returns : goal.returns
 returns g c =
     let d = g.S.Store.documents c.args.store.now in
     let found = map.get d.submodels c.as_str.result.now in
-    let has = has_lines found (g.S.Table.Table.kept c.in-Some.table.now) c.new-rows.result c.in-Some.ensures c.new-rows.ensures in
+    let has =
+    has_lines found (g.S.Table.Table.kept c.in-Some.table.now) c.new-rows.result c.in-Some.ensures c.new-rows.ensures in
     inr
     (ap Ok c.in_ok-row_in_memory.ensures
     ∙ sym (row_told d c.args.id.now c.args.path.now.steps c.in_ok-rank.rank c.new-rows.result c.args.level c.args.extent
-    (low_lines found c.new-rows.result (storable d c.as_str.result.now c.valid_submodels_are_storable.ensures c.requires) has)
-    (subst (λ (b : List ℕ). HasLines (map.get d.submodels b) c.new-rows.result) c.as_str.ensures.bytes has) c.in_ok-rank.ensures.ranked))
+    (low_lines found c.new-rows.result
+    (storable d c.as_str.result.now c.valid_submodels_are_storable.ensures c.requires) has)
+    (subst (λ (b : List ℕ). HasLines (map.get d.submodels b) c.new-rows.result) c.as_str.ensures.bytes has)
+    c.in_ok-rank.ensures.ranked))

@@ -8,7 +8,8 @@ use Rattle.aas_answer.proofs.environments.plan_environment.Goals as goal
 
 pub returns-in-Ok-clause-planned : goal.returns-in-Ok-clause-planned
 returns-in-Ok-clause-planned g c =
-    environment_planned (g.S.Store.documents c.args.store.now) c.args.shells.now c.args.submodels.now c.args.concepts c.in-Ok.chosen c.in-Ok.ensures
+    environment_planned (g.S.Store.documents c.args.store.now) c.args.shells.now
+    c.args.submodels.now c.args.concepts c.in-Ok.chosen c.in-Ok.ensures
 
 pub returns-in-Err-clause-refused : goal.returns-in-Err-clause-refused
 returns-in-Err-clause-refused g c =

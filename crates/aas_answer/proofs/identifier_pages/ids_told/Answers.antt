@@ -18,8 +18,10 @@ returns c =
     IfOk-weaker c.end_page.result _ _
     (λ text ended. sym
     (ids_told page.ids page.more cursor new.text.items text c.in_ok-cursor.ensures
-    (put_behind old.text.items mid.text.items new.text.items old.faults mid.faults new.faults c.pour_begin-begun.result c.pour_listed-told.result
-    (page_begin cursor) (told c.as_slice.result.now) c.new-out.ensures c.pour_begin-begun.ensures c.pour_listed-told.ensures ended.0
+    (put_behind old.text.items mid.text.items new.text.items old.faults
+    mid.faults new.faults c.pour_begin-begun.result c.pour_listed-told.result
+    (page_begin cursor) (told c.as_slice.result.now) c.new-out.ensures
+    c.pour_begin-begun.ensures c.pour_listed-told.ensures ended.0
     ∙ ap (λ ids. page_begin cursor ++ told ids) c.as_slice.ensures)
     ended.1))
     c.end_page.ensures

@@ -24,6 +24,10 @@ returns g c =
     let none = Err (NotFound absent.Submodel) in
     let there = c.in-Some in
     inr
-    (children_told c.args.form c.head.result.now (g.S.Table.Table.kept there.table.now) c.args.span c.in_ok-children_page.field-0 none found
-    c.new-rows.result c.child_count.result there.ensures c.head.ensures c.child_count.ensures c.new-rows.ensures c.in_ok-children_page.ensures
-    ∙ ap (λ (id : List ℕ). option_map_or (λ s. places_page (child_text c.args.form s) c.args.span s.kids) (map.get m id) none) c.as_str.ensures.bytes)
+    (children_told c.args.form c.head.result.now
+    (g.S.Table.Table.kept there.table.now) c.args.span c.in_ok-children_page.field-0 none found
+    c.new-rows.result c.child_count.result there.ensures c.head.ensures
+    c.child_count.ensures c.new-rows.ensures c.in_ok-children_page.ensures
+    ∙ ap (λ (id : List ℕ).
+    option_map_or (λ s. places_page (child_text c.args.form s) c.args.span s.kids) (map.get m id) none)
+    c.as_str.ensures.bytes)

@@ -18,8 +18,11 @@ returns g c =
     IfOk-weaker c.end_page.result _ _
     (λ page ended kids are many. sym
     (places_told text kids span end cursor new.text.items page
-    (c.end_of.ensures ∙ ap (min (span.from + span.limit)) many) (c.in_ok-cursor.ensures ∙ ap (λ (n : ℕ). if nat_lt end n then Some (decimal end) else None) many)
-    (put_behind old.text.items mid.text.items new.text.items old.faults mid.faults new.faults c.pour_begin-begun.result c.in_ok-told.told
-    (page_begin cursor) (joined text (take span.limit (drop span.from kids))) c.new-out.ensures c.pour_begin-begun.ensures (c.in_ok-told.ensures kids are) ended.0)
+    (c.end_of.ensures ∙ ap (min (span.from + span.limit)) many)
+    (c.in_ok-cursor.ensures ∙ ap (λ (n : ℕ). if nat_lt end n then Some (decimal end) else None) many)
+    (put_behind old.text.items mid.text.items new.text.items old.faults
+    mid.faults new.faults c.pour_begin-begun.result c.in_ok-told.told
+    (page_begin cursor) (joined text (take span.limit (drop span.from kids)))
+    c.new-out.ensures c.pour_begin-begun.ensures (c.in_ok-told.ensures kids are) ended.0)
     ended.1))
     c.end_page.ensures

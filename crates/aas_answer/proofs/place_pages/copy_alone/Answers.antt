@@ -8,5 +8,6 @@ pub returns : goal.returns
 returns g c =
     let row = c.in-Some.row in
     IfOk-weaker c.copy.result _ _
-    (λ copied line e at. same_line c.args.rows.now c.args.rank row.level (line_of row) copied e (sym c.in-Some.ensures.row) line at)
+    (λ copied line e at.
+    same_line c.args.rows.now c.args.rank row.level (line_of row) copied e (sym c.in-Some.ensures.row) line at)
     c.copy.ensures.line

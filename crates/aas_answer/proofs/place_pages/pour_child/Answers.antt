@@ -9,6 +9,8 @@ pub returns-in-Whole : goal.returns-in-Whole
 returns-in-Whole g c = λ e at.
     let lines = c.args.rows.now in
     let rank = c.args.rank in
-    adds_same c.args.so_far c.pour_element.result (g.O.Out.told c.args.out.now) (g.O.Out.told c.pour_element.new.out) (text_at c.show_at-show.result lines rank) (child_text c.args.form c.args.head.now e) c.pour_element.ensures
-    (ap (λ w. text_at w lines rank) c.show_at-show.ensures ∙ child_shown c.in-Whole.level c.in-Whole.extent lines rank e at c.requires.low
+    adds_same c.args.so_far c.pour_element.result (g.O.Out.told c.args.out.now) (g.O.Out.told c.pour_element.new.out)
+    (text_at c.show_at-show.result lines rank) (child_text c.args.form c.args.head.now e) c.pour_element.ensures
+    (ap (λ w. text_at w lines rank) c.show_at-show.ensures
+    ∙ child_shown c.in-Whole.level c.in-Whole.extent lines rank e at c.requires.low
     ∙ ap (λ form. child_text form c.args.head.now e) (sym c.in-Whole.is))

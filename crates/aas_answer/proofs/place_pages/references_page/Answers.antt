@@ -17,9 +17,13 @@ returns c =
     let new = c.pour_listed-told.new.out in
     IfOk-weaker c.end_page.result _ _
     (λ page ended. sym
-    (places_told reference_text references span end cursor new.text.items page c.end_of-end.ensures c.in_ok-cursor.ensures
-    (put_behind old.text.items mid.text.items new.text.items old.faults mid.faults new.faults c.pour_begin-begun.result c.pour_listed-told.result
-    (page_begin cursor) (joined reference_text (take (end - first) (drop first references))) c.new-out.ensures c.pour_begin-begun.ensures c.pour_listed-told.ensures ended.0
-    ∙ ap (λ rs. page_begin cursor ++ joined reference_text rs) (entries_shown references span.from span.limit end first c.end_of-end.ensures c.min.ensures))
+    (places_told reference_text references span end cursor
+    new.text.items page c.end_of-end.ensures c.in_ok-cursor.ensures
+    (put_behind old.text.items mid.text.items new.text.items old.faults
+    mid.faults new.faults c.pour_begin-begun.result c.pour_listed-told.result
+    (page_begin cursor) (joined reference_text (take (end - first) (drop first references)))
+    c.new-out.ensures c.pour_begin-begun.ensures c.pour_listed-told.ensures ended.0
+    ∙ ap (λ rs. page_begin cursor ++ joined reference_text rs)
+    (entries_shown references span.from span.limit end first c.end_of-end.ensures c.min.ensures))
     ended.1))
     c.end_page.ensures

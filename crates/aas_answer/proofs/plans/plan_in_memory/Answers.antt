@@ -10,5 +10,6 @@ returns g c =
     let new = c.pour_text-state.new.out in
     IfOk-weaker c.text_of.result _ _
     (λ text whole. whole.1 ∙ text_poured old.text.items new.text.items old.faults new.faults c.pour_text-state.result
-    (plan_text (g.S.Store.documents c.args.store.now) c.args.plan.now) c.pour_text-state.ensures c.new-out.ensures whole.0)
+    (plan_text (g.S.Store.documents c.args.store.now) c.args.plan.now) c.pour_text-state.ensures
+    c.new-out.ensures whole.0)
     c.text_of.ensures

@@ -7,4 +7,5 @@ use Rattle.aas_answer.proofs.plans.pour_entries.Given as goal
 -- so far as the loop has come
 abbrev pub invariant-loop-place : goal.invariant-loop-place
 invariant-loop-place g l =
-    Adds l.fn.so_far l.state (g.O.Out.told l.fn.out) (g.O.Out.told l.out) (joined (entry_text (g.S.Store.documents l.store) l.listing) (take l.place l.id-items))
+    Adds l.fn.so_far l.state (g.O.Out.told l.fn.out) (g.O.Out.told l.out)
+    (joined (entry_text (g.S.Store.documents l.store) l.listing) (take l.place l.id-items))

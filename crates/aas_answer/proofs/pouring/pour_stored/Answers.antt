@@ -1,9 +1,7 @@
-use Rattle.std.proofs.Common.{sym, ◌∙◌, ap}
+use Rattle.std.proofs.Common.{sym}
 use Rattle.std.specs.FinMap as map
-use Rattle.serde_json.specs.Written.{compact_text}
-use Rattle.aas_json_mapping.specs.Documents.{spell_submodel}
 use Rattle.aas_out.proofs.Adding.{adds_same}
-use Rattle.aas_pour.specs.Submodels.{shown_submodel}
+use Rattle.aas_pour.specs.Submodels.{with_elements}
 use Rattle.aas_answer.specs.Answers.{submodel_shown}
 use Rattle.aas_answer.proofs.Entries.{adds_none}
 use Rattle.aas_answer.proofs.Stored.{has_lines, low_lines, shown_by_head, storable}
@@ -20,17 +18,17 @@ pub returns-in-Some : goal.returns-in-Some
 returns-in-Some g c =
     let d = g.S.Store.documents c.args.store.now in
     let found = map.get d.submodels c.args.id.now in
-    let t = g.O.Out.told c.args.out.now in
-    let u = g.O.Out.told c.pour_submodel.new.out in
+    let t = g.O.TextEnd.told c.args.out.now in
+    let u = g.O.TextEnd.told c.pour_submodel.new.out in
     let s = g.S.Table.Table.kept c.in-Some.table.now in
     let h = c.head.result.now in
-    adds_same c.args.so_far c.pour_submodel.result t u (compact_text (spell_submodel (shown_submodel c.show_at.result h s.kids))) _
+    adds_same c.args.so_far c.pour_submodel.result t u
+    (submodel_shown c.args.level c.args.extent (with_elements h s.kids)) _
     (c.pour_submodel.ensures.canonical s.kids c.new-rows.ensures)
-    (ap (λ w. compact_text (spell_submodel (shown_submodel w h s.kids))) c.show_at.ensures
-    ∙ shown_by_head c.args.level c.args.extent found h s (storable d c.args.id.now c.valid_submodels_are_storable.ensures c.requires)
-    c.in-Some.ensures c.head.ensures)
+    (shown_by_head c.args.level c.args.extent found h s c.in-Some.ensures c.head.ensures)
 
 pub returns-in-None : goal.returns-in-None
 returns-in-None g c =
     let found = map.get (g.S.Store.documents c.args.store.now).submodels c.args.id.now in
-    adds_none (submodel_shown c.args.level c.args.extent) found c.args.so_far (g.O.Out.told c.args.out.now) (sym c.in-None.ensures)
+    adds_none (submodel_shown c.args.level c.args.extent) found c.args.so_far
+    (g.O.TextEnd.told c.args.out.now) (sym c.in-None.ensures)

@@ -12,9 +12,12 @@ returns-in-Ok-clause-ranked g c =
 
 pub returns-in-Ok-clause-found : goal.returns-in-Ok-clause-found
 returns-in-Ok-clause-found g c =
-    row_found (g.S.Store.documents c.args.store.now) c.args.id.now c.as_str.result.now c.args.path.now.steps c.in-Ok.found.1 c.as_str.ensures.bytes c.in-Ok.ensures.found
+    row_found (g.S.Store.documents c.args.store.now) c.args.id.now c.as_str.result.now
+    c.args.path.now.steps c.in-Ok.found.1 c.as_str.ensures.bytes c.in-Ok.ensures.found
 
 pub returns-in-Err-clause-lost : goal.returns-in-Err-clause-lost
 returns-in-Err-clause-lost g c =
-    lack_told (g.S.Store.documents c.args.store.now) c.args.id.now c.as_str.result.now c.args.path.now.steps c.in-Err.lack c.refusal_of.result c.as_str.ensures.bytes
-    (λ is. c.in-Err.ensures.no_submodel.0 (ap Err is)) (λ m is. (c.in-Err.ensures.no_element m).0 (ap Err is)) c.refusal_of.ensures
+    lack_told (g.S.Store.documents c.args.store.now) c.args.id.now c.as_str.result.now
+    c.args.path.now.steps c.in-Err.lack c.refusal_of.result c.as_str.ensures.bytes
+    (λ is. c.in-Err.ensures.no_submodel.0 (ap Err is))
+    (λ m is. (c.in-Err.ensures.no_element m).0 (ap Err is)) c.refusal_of.ensures

@@ -8,5 +8,6 @@ returns-in-Err-Missing c =
     ⊎_elim
     (λ memory. inl (ap Err memory))
     (λ is. inr
-    (sym (reference_lost c.args.submodel.now c.args.path.now.steps c.in-Err-Missing.missing _ (no_reference c.args.submodel.now c.args.path.now.steps m.0 m.1) m.2 is)))
+    (sym (reference_lost c.args.submodel.now c.args.path.now.steps c.in-Err-Missing.missing _
+    (no_reference c.args.submodel.now c.args.path.now.steps m.0 m.1) m.2 is)))
     c.not_found.ensures

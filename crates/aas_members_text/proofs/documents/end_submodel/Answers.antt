@@ -6,5 +6,7 @@ use Rattle.aas_members_text.proofs.documents.end_submodel.Goals as goal
 
 pub returns : goal.returns
 returns g c =
-    adds_both c.args.pen.state c.put_list-meant.result.state c.end_object.result (g.O.Out.told c.args.out.now) (g.O.Out.told c.put_list-meant.new.out) (g.O.Out.told c.end_object.new.out)
-    (fields_text c.args.pen.later (submodel_fields c.args.submodel.now names_behind)) (125 ∷ []) c.put_list-meant.ensures.text c.end_object.ensures
+    adds_both c.args.pen.state c.put_list-meant.result.state c.end_object.result (g.O.TextEnd.told c.args.out.now)
+    (g.O.TextEnd.told c.put_list-meant.new.out) (g.O.TextEnd.told c.end_object.new.out)
+    (fields_text c.args.pen.later (submodel_fields c.args.submodel.now names_behind)) (125 ∷ [])
+    c.put_list-meant.ensures.text c.end_object.ensures

@@ -7,5 +7,13 @@ use Rattle.aas_members_text.proofs.documents.pour_concept.Goals as goal
 
 pub returns : goal.returns
 returns g c =
-    object_ended (unwrap_or (find (codes "ConceptDescription") (model_types concept)) []) (typed (codes "ConceptDescription") (head_attributes c.args.concept.now.head ++ concept_attributes c.args.concept.now)) c.end_object.result (g.O.Out.told c.end_object.new.out)
-    (object_more (object_more (object_more (object_more (object_more c.begin_object-begun.ensures c.put_optional-administered.ensures) c.put_optional-category.ensures) c.put_described-described.ensures) c.put_list-cases.ensures) c.put_string-typed.ensures) c.end_object.ensures
+    object_ended (unwrap_or (find (codes "ConceptDescription") (model_types concept)) [])
+    (typed (codes "ConceptDescription")
+    (head_attributes c.args.concept.now.head ++ concept_attributes c.args.concept.now))
+    c.end_object.result (g.O.TextEnd.told c.end_object.new.out)
+    (object_more (object_more (object_more (object_more
+    (object_more c.begin_object-begun.ensures c.put_optional-administered.ensures) c.put_optional-category.ensures)
+    c.put_described-described.ensures)
+    c.put_list-cases.ensures)
+    c.put_string-typed.ensures)
+    c.end_object.ensures

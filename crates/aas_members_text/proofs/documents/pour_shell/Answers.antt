@@ -7,5 +7,15 @@ use Rattle.aas_members_text.proofs.documents.pour_shell.Goals as goal
 
 pub returns : goal.returns
 returns g c =
-    object_ended (unwrap_or (find (codes "AssetAdministrationShell") (model_types shell)) []) (typed (codes "AssetAdministrationShell") (head_attributes c.args.shell.now.head ++ shell_attributes c.args.shell.now)) c.end_object.result (g.O.Out.told c.end_object.new.out)
-    (object_more (object_more (object_more (object_more (object_more (object_more (object_more c.begin_object-begun.ensures c.put_optional-administered.ensures) c.put_one-asset.ensures) c.put_optional-category.ensures) c.put_optional-derived.ensures) c.put_described-described.ensures) c.put_string-typed.ensures) c.put_list-submodels.ensures) c.end_object.ensures
+    object_ended (unwrap_or (find (codes "AssetAdministrationShell") (model_types shell)) [])
+    (typed (codes "AssetAdministrationShell")
+    (head_attributes c.args.shell.now.head ++ shell_attributes c.args.shell.now))
+    c.end_object.result (g.O.TextEnd.told c.end_object.new.out)
+    (object_more (object_more (object_more (object_more (object_more
+    (object_more (object_more c.begin_object-begun.ensures c.put_optional-administered.ensures) c.put_one-asset.ensures)
+    c.put_optional-category.ensures)
+    c.put_optional-derived.ensures)
+    c.put_described-described.ensures)
+    c.put_string-typed.ensures)
+    c.put_list-submodels.ensures)
+    c.end_object.ensures

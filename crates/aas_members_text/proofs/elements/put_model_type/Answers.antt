@@ -7,4 +7,7 @@ use Rattle.aas_members_text.specs.Puts.{PutsFields}
 use Rattle.aas_members_text.proofs.elements.put_model_type.Goals as goal
 
 pub returns : goal.returns
-returns g c = subst (λ (k : Kind). PutsFields c.args.pen c.put_word.result (g.O.Out.told c.args.out.now) (g.O.Out.told c.put_word.new.out) ((codes "modelType", Some (compact_text (string (kind.name_of k)))) ∷ [])) c.kind.ensures c.put_word.ensures
+returns g c =
+    subst (λ (k : Kind). PutsFields c.args.pen c.put_word.result (g.O.TextEnd.told c.args.out.now)
+    (g.O.TextEnd.told c.put_word.new.out) ((codes "modelType", Some (compact_text (string (kind.name_of k)))) ∷ []))
+    c.kind.ensures c.put_word.ensures

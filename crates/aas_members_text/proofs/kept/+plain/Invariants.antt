@@ -6,8 +6,10 @@ use Rattle.aas_members_text.proofs.kept.+plain.Given as goal
 -- what is left is still to put
 abbrev pub invariant-pour_plains-loop-plain : goal.invariant-pour_plains-loop-plain
 invariant-pour_plains-loop-plain g l =
-    Front l.fn.so_far l.state (g.O.Out.told l.fn.out) (g.O.Out.told l.out) (items_left spell_plain false l.plain-items) (items_left spell_plain l.later (drop l.plain-index l.plain-items))
+    Front l.fn.so_far l.state (g.O.TextEnd.told l.fn.out) (g.O.TextEnd.told l.out)
+    (items_left spell_plain false l.plain-items) (items_left spell_plain l.later (drop l.plain-index l.plain-items))
 
 abbrev pub invariant-pour_pairs-loop-pair : goal.invariant-pour_pairs-loop-pair
 invariant-pour_pairs-loop-pair g l =
-    Front l.fn.so_far l.pen.state (g.O.Out.told l.fn.out) (g.O.Out.told l.out) (pairs_left false l.pair-items) (pairs_left l.pen.later (drop l.pair-index l.pair-items))
+    Front l.fn.so_far l.pen.state (g.O.TextEnd.told l.fn.out) (g.O.TextEnd.told l.out)
+    (pairs_left false l.pair-items) (pairs_left l.pen.later (drop l.pair-index l.pair-items))

@@ -7,10 +7,14 @@ use Rattle.aas_members_text.proofs.own.put_blob.Goals as goal
 
 pub returns-then-blobs : goal.returns-then-blobs
 returns-then-blobs g c =
-    subst (λ (b : Bool). PutsFields c.args.pen c.put_optional.result (g.O.Out.told c.args.out.now) (g.O.Out.told c.put_optional.new.out) ((codes "value", option_map compact_text (option_map text_of (if b then c.args.value.now else None))) ∷ []))
+    subst (λ (b : Bool). PutsFields c.args.pen c.put_optional.result
+    (g.O.TextEnd.told c.args.out.now) (g.O.TextEnd.told c.put_optional.new.out)
+    ((codes "value", option_map compact_text (option_map text_of (if b then c.args.value.now else None))) ∷ []))
     (sym c.if-blobs.true) c.put_optional.ensures
 
 pub returns-else-blobs : goal.returns-else-blobs
 returns-else-blobs g c =
-    subst (λ (b : Bool). PutsFields c.args.pen c.args.pen (g.O.Out.told c.args.out.now) (g.O.Out.told c.args.out.now) ((codes "value", option_map compact_text (option_map text_of (if b then c.args.value.now else None))) ∷ []))
-    (sym c.if-blobs.false) (put_none c.args.pen (g.O.Out.told c.args.out.now) (codes "value"))
+    subst (λ (b : Bool).
+    PutsFields c.args.pen c.args.pen (g.O.TextEnd.told c.args.out.now) (g.O.TextEnd.told c.args.out.now)
+    ((codes "value", option_map compact_text (option_map text_of (if b then c.args.value.now else None))) ∷ []))
+    (sym c.if-blobs.false) (put_none c.args.pen (g.O.TextEnd.told c.args.out.now) (codes "value"))

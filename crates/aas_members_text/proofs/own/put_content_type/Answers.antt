@@ -12,4 +12,5 @@ returns-in-Blob g c = put_own c.args.payload.now (codes "contentType" ∷ []) c.
 
 pub returns-in_default : goal.returns-in_default
 returns-in_default g c =
-    put_lacking c.args.pen (g.O.Out.told c.args.out.now) (own_fields c.args.payload.now (codes "contentType" ∷ [])) (codes "contentType" ∷ []) (no_content_type c.args.payload.now c.in_default.not-File c.in_default.not-Blob)
+    put_lacking c.args.pen (g.O.TextEnd.told c.args.out.now) (own_fields c.args.payload.now (codes "contentType" ∷ []))
+    (codes "contentType" ∷ []) (no_content_type c.args.payload.now c.in_default.not-File c.in_default.not-Blob)

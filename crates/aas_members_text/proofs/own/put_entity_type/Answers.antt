@@ -9,4 +9,5 @@ returns-in-Entity g c = put_own c.args.payload.now (codes "entityType" ∷ []) c
 
 pub returns-in_default : goal.returns-in_default
 returns-in_default g c =
-    put_lacking c.args.pen (g.O.Out.told c.args.out.now) (own_fields c.args.payload.now (codes "entityType" ∷ [])) (codes "entityType" ∷ []) (no_entity_type c.args.payload.now c.in_default.not-Entity)
+    put_lacking c.args.pen (g.O.TextEnd.told c.args.out.now) (own_fields c.args.payload.now (codes "entityType" ∷ []))
+    (codes "entityType" ∷ []) (no_entity_type c.args.payload.now c.in_default.not-Entity)

@@ -5,8 +5,11 @@ use Rattle.aas_members_text.proofs.Putting.{put_lacking, put_own}
 use Rattle.aas_members_text.proofs.own.put_list_type.Goals as goal
 
 pub returns-in-SubmodelElementList : goal.returns-in-SubmodelElementList
-returns-in-SubmodelElementList g c = put_own c.args.payload.now (codes "typeValueListElement" ∷ []) c.in-SubmodelElementList.is c.put_word.ensures
+returns-in-SubmodelElementList g c =
+    put_own c.args.payload.now (codes "typeValueListElement" ∷ []) c.in-SubmodelElementList.is c.put_word.ensures
 
 pub returns-in_default : goal.returns-in_default
 returns-in_default g c =
-    put_lacking c.args.pen (g.O.Out.told c.args.out.now) (own_fields c.args.payload.now (codes "typeValueListElement" ∷ [])) (codes "typeValueListElement" ∷ []) (no_list_type c.args.payload.now c.in_default.not-SubmodelElementList)
+    put_lacking c.args.pen (g.O.TextEnd.told c.args.out.now)
+    (own_fields c.args.payload.now (codes "typeValueListElement" ∷ [])) (codes "typeValueListElement" ∷ [])
+    (no_list_type c.args.payload.now c.in_default.not-SubmodelElementList)

@@ -8,4 +8,6 @@ use Rattle.aas_members_text.proofs.pen.put_characters.Goals as goal
 
 pub returns : goal.returns
 returns g c =
-    subst (λ (t : List ℕ). PutsFields c.args.pen c.put_string.result (g.O.Out.told c.args.out.now) (g.O.Out.told c.put_string.new.out) ((name_in c.args.key.now, Some (compact_text (string t))) ∷ [])) (sym (encodes-chars c.args.text.now c.utf8.text)) c.put_string.ensures
+    subst (λ (t : List ℕ). PutsFields c.args.pen c.put_string.result (g.O.TextEnd.told c.args.out.now)
+    (g.O.TextEnd.told c.put_string.new.out) ((name_in c.args.key.now, Some (compact_text (string t))) ∷ []))
+    (sym (encodes-chars c.args.text.now c.utf8.text)) c.put_string.ensures

@@ -7,5 +7,9 @@ use Rattle.aas_members_text.proofs.pen.put_items.Goals as goal
 pub returns : goal.returns
 returns g c =
     let items = items_left g.P.Poured.spell false c.args.items.now in
-    put_value c.args.pen.later c.args.pen.state c.add_key-named.result c.pour_items.result (g.O.Out.told c.args.out.now) (g.O.Out.told c.add_key-named.new.out) (g.O.Out.told c.pour_items.new.out) (name_in c.args.key.now) (91 ∷ items) c.add_key-named.ensures
-    (adds_both c.add_key-named.result c.add-opened.result c.pour_items.result (g.O.Out.told c.add_key-named.new.out) (g.O.Out.told c.add-opened.new.out) (g.O.Out.told c.pour_items.new.out) (91 ∷ []) items c.add-opened.ensures c.pour_items.ensures)
+    put_value c.args.pen.later c.args.pen.state c.add_key-named.result c.pour_items.result
+    (g.O.TextEnd.told c.args.out.now) (g.O.TextEnd.told c.add_key-named.new.out)
+    (g.O.TextEnd.told c.pour_items.new.out) (name_in c.args.key.now) (91 ∷ items) c.add_key-named.ensures
+    (adds_both c.add_key-named.result c.add_text-opened.result c.pour_items.result
+    (g.O.TextEnd.told c.add_key-named.new.out) (g.O.TextEnd.told c.add_text-opened.new.out)
+    (g.O.TextEnd.told c.pour_items.new.out) (91 ∷ []) items c.add_text-opened.ensures c.pour_items.ensures)

@@ -7,7 +7,10 @@ use Rattle.aas_members_text.proofs.pen.put_optional_flag.Goals as goal
 pub returns-in-Some : goal.returns-in-Some
 returns-in-Some g c =
     put_present boolean c.args.value c.in-Some.flag c.in-Some.is
-    (put_value c.args.pen.later c.args.pen.state c.add_key-named.result c.add_flag.result (g.O.Out.told c.args.out.now) (g.O.Out.told c.add_key-named.new.out) (g.O.Out.told c.add_flag.new.out) (name_in c.args.key.now) (compact_text (boolean c.in-Some.flag)) c.add_key-named.ensures c.add_flag.ensures)
+    (put_value c.args.pen.later c.args.pen.state c.add_key-named.result c.add_flag.result
+    (g.O.TextEnd.told c.args.out.now) (g.O.TextEnd.told c.add_key-named.new.out) (g.O.TextEnd.told c.add_flag.new.out)
+    (name_in c.args.key.now) (compact_text (boolean c.in-Some.flag)) c.add_key-named.ensures c.add_flag.ensures)
 
 pub returns-in-None : goal.returns-in-None
-returns-in-None g c = put_missing boolean c.args.pen (g.O.Out.told c.args.out.now) (name_in c.args.key.now) c.args.value c.in-None.is
+returns-in-None g c =
+    put_missing boolean c.args.pen (g.O.TextEnd.told c.args.out.now) (name_in c.args.key.now) c.args.value c.in-None.is

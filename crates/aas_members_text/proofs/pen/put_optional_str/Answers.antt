@@ -6,4 +6,6 @@ use Rattle.aas_members_text.proofs.Putting.{put_missing}
 use Rattle.aas_members_text.proofs.pen.put_optional_str.Goals as goal
 
 pub returns-in-None : goal.returns-in-None
-returns-in-None g c = put_missing text_of c.args.pen (g.O.Out.told c.args.out.now) (name_in c.args.key.now) (option_map (λ s. chars s.now) c.args.value) (ap (option_map (λ s. chars s.now)) c.in-None.is)
+returns-in-None g c =
+    put_missing text_of c.args.pen (g.O.TextEnd.told c.args.out.now) (name_in c.args.key.now)
+    (option_map (λ s. chars s.now) c.args.value) (ap (option_map (λ s. chars s.now)) c.in-None.is)

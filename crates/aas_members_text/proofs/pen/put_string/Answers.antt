@@ -1,3 +1,4 @@
+use Rattle.std.proofs.Common.{refl}
 use Rattle.json.specs.Print.{quoted}
 use Rattle.aas_members_text.specs.Keys.{name_in}
 use Rattle.aas_members_text.proofs.Putting.{put_value, quoted_put}
@@ -5,10 +6,10 @@ use Rattle.aas_members_text.proofs.pen.put_string.Goals as goal
 
 pub returns : goal.returns
 returns g c =
-    put_value c.args.pen.later c.args.pen.state c.add_key-named.result c.add.result
-    (g.O.Out.told c.args.out.now) (g.O.Out.told c.add_key-named.new.out) (g.O.Out.told c.add.new.out)
+    put_value c.args.pen.later c.args.pen.state c.add_key-named.result c.add_text.result
+    (g.O.TextEnd.told c.args.out.now) (g.O.TextEnd.told c.add_key-named.new.out) (g.O.TextEnd.told c.add_text.new.out)
     (name_in c.args.key.now) (quoted c.args.value.now) c.add_key-named.ensures
-    (quoted_put c.add_key-named.result c.add-opened.result c.add_escaped-valued.result c.add.result
-    (g.O.Out.told c.add_key-named.new.out) (g.O.Out.told c.add-opened.new.out)
-    (g.O.Out.told c.add_escaped-valued.new.out) (g.O.Out.told c.add.new.out)
-    c.args.value.now _ c.as_bytes.ensures.value c.add-opened.ensures c.add_escaped-valued.ensures c.add.ensures)
+    (quoted_put c.add_key-named.result c.add_text-opened.result c.add_escaped-valued.result c.add_text.result
+    (g.O.TextEnd.told c.add_key-named.new.out) (g.O.TextEnd.told c.add_text-opened.new.out)
+    (g.O.TextEnd.told c.add_escaped-valued.new.out) (g.O.TextEnd.told c.add_text.new.out)
+    c.args.value.now _ refl c.add_text-opened.ensures c.add_escaped-valued.ensures c.add_text.ensures)

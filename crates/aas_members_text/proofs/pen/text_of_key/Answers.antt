@@ -4,7 +4,10 @@ use Rattle.aas_members_text.proofs.Keys.{behind_comma, key_parts, named}
 use Rattle.aas_members_text.proofs.pen.text_of_key.Goals as goal
 
 pub returns-then-later : goal.returns-then-later
-returns-then-later c = key_parts c.args.key.now c.requires ∙ ap (λ later. comma_if later ++ named c.args.key.now) (sym c.if-later.true)
+returns-then-later c =
+    key_parts c.args.key.now c.requires ∙ ap (λ later. comma_if later ++ named c.args.key.now) (sym c.if-later.true)
 
 pub returns-else-later : goal.returns-else-later
-returns-else-later c = behind_comma c.args.key.now c.requires ∙ ap (λ later. comma_if later ++ named c.args.key.now) (sym c.if-later.false)
+returns-else-later c =
+    c.range_from.ensures.value ∙ behind_comma c.args.key.now c.requires
+    ∙ ap (λ later. comma_if later ++ named c.args.key.now) (sym c.if-later.false)

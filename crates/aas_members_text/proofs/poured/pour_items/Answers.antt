@@ -7,7 +7,8 @@ use Rattle.aas_members_text.proofs.Putting.{front_more, front_none, front_rest, 
 use Rattle.aas_members_text.proofs.poured.pour_items.Goals as goal
 
 pub loop-tree-init : goal.loop-tree-init
-loop-tree-init g c = front_none c.args.so_far (g.O.Out.told c.args.out.now) (items_left g.P.Poured.spell false c.args.trees.now)
+loop-tree-init g c =
+    front_none c.args.so_far (g.O.TextEnd.told c.args.out.now) (items_left g.P.Poured.spell false c.args.trees.now)
 
 pub loop-tree-preserved : goal.loop-tree-preserved
 loop-tree-preserved g c =
@@ -17,9 +18,14 @@ loop-tree-preserved g c =
     let tree = c.tree-item.result in
     let value = compact_text (g.P.Poured.spell tree) in
     let below : i < length trees = omega arith in
-    front_more c.pour-state.result (g.O.Out.told c.pour-state.new.out) (comma_if later ++ value) (items_left g.P.Poured.spell true (drop (i + 1) trees)) c.loop-tree.invariant
-    (adds_both c.loop-tree.state c.add-comma.result c.pour-state.result (g.O.Out.told c.loop-tree.out) (g.O.Out.told c.add-comma.new.out) (g.O.Out.told c.pour-state.new.out) (comma_if later) value
-    (subst (λ (t : List ℕ). Adds c.loop-tree.state c.add-comma.result (g.O.Out.told c.loop-tree.out) (g.O.Out.told c.add-comma.new.out) t) c.comma_of.ensures c.add-comma.ensures) c.pour-state.ensures)
+    front_more c.pour-state.result (g.O.TextEnd.told c.pour-state.new.out) (comma_if later ++ value)
+    (items_left g.P.Poured.spell true (drop (i + 1) trees)) c.loop-tree.invariant
+    (adds_both c.loop-tree.state c.add_text-comma.result c.pour-state.result (g.O.TextEnd.told c.loop-tree.out)
+    (g.O.TextEnd.told c.add_text-comma.new.out) (g.O.TextEnd.told c.pour-state.new.out) (comma_if later) value
+    (subst (λ (t : List ℕ). Adds c.loop-tree.state c.add_text-comma.result
+    (g.O.TextEnd.told c.loop-tree.out) (g.O.TextEnd.told c.add_text-comma.new.out) t)
+    c.comma_of.ensures c.add_text-comma.ensures)
+    c.pour-state.ensures)
     (item_first g.P.Poured.spell later trees i tree below c.tree-item.is)
 
 pub returns : goal.returns
@@ -27,5 +33,7 @@ returns g c =
     let trees = c.args.trees.now in
     let i = c.loop-tree.tree-index in
     let over : length trees ≤ i = omega arith in
-    front_rest c.add.result (g.O.Out.told c.add.new.out) c.loop-tree.invariant
-    (adds_same c.loop-tree.state c.add.result (g.O.Out.told c.loop-tree.out) (g.O.Out.told c.add.new.out) _ _ c.add.ensures (sym (at_drop_all (items_left g.P.Poured.spell c.loop-tree.later) trees i over)))
+    front_rest c.add_text.result (g.O.TextEnd.told c.add_text.new.out) c.loop-tree.invariant
+    (adds_same c.loop-tree.state c.add_text.result (g.O.TextEnd.told c.loop-tree.out)
+    (g.O.TextEnd.told c.add_text.new.out) _ _ c.add_text.ensures
+    (sym (at_drop_all (items_left g.P.Poured.spell c.loop-tree.later) trees i over)))

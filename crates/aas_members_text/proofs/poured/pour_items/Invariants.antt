@@ -4,4 +4,5 @@ use Rattle.aas_members_text.proofs.poured.pour_items.Given as goal
 
 abbrev pub invariant-loop-tree : goal.invariant-loop-tree
 invariant-loop-tree g l =
-    Front l.fn.so_far l.state (g.O.Out.told l.fn.out) (g.O.Out.told l.out) (items_left g.P.Poured.spell false l.trees) (items_left g.P.Poured.spell l.later (drop l.tree-index l.trees))
+    Front l.fn.so_far l.state (g.O.TextEnd.told l.fn.out) (g.O.TextEnd.told l.out)
+    (items_left g.P.Poured.spell false l.trees) (items_left g.P.Poured.spell l.later (drop l.tree-index l.trees))

@@ -4,7 +4,7 @@ use Rattle.aas_pour.proofs.childless.put_childless.Goals as goal
 
 pub returns : goal.returns
 returns g c vs =
-    let told = g.O.Out.told in
+    let told = g.O.TextEnd.told in
     let bare = c.requires.childless in
     let six = c.put_part-pen in
     let five = c.put_part-pen-2 in
@@ -20,4 +20,5 @@ returns g c vs =
     let begun = begun_more 2 three.result (told three.new.out) bare begun three.ensures.text three.ensures.later in
     let begun = begun_more 1 two.result (told two.new.out) bare begun two.ensures.text two.ensures.later in
     let begun = begun_more 0 one.result (told one.new.out) bare begun one.ensures.text one.ensures.later in
-    begun_last last.result.state c.add.result (told last.new.out) (told c.add.new.out) vs begun last.ensures.text c.add.ensures
+    begun_last last.result.state c.add_text.result (told last.new.out)
+    (told c.add_text.new.out) vs begun last.ensures.text c.add_text.ensures

@@ -3,7 +3,9 @@ use Rattle.aas_pour.proofs.Ahead.{Next, next_there, further_start, further_more,
 use Rattle.aas_pour.proofs.elements.pour_further.Goals as goal
 
 pub loop-next-init : goal.loop-next-init
-loop-next-init g c = further_start c.args.show (g.R.Rows.lines c.args.rows.now) c.args.from c.args.so_far (g.O.Out.told c.args.out.now)
+loop-next-init g c =
+    further_start c.args.show (g.R.Rows.lines c.args.rows.now) c.args.from c.args.so_far
+    (g.O.TextEnd.told c.args.out.now)
 
 pub pour_found-state-requires-clause-there : goal.pour_found-state-requires-clause-there
 pour_found-state-requires-clause-there g c =
@@ -20,14 +22,17 @@ loop-next-smaller g c =
 pub loop-next-preserved : goal.loop-next-preserved
 loop-next-preserved g c =
     let rows = g.R.Rows.lines c.args.rows.now in
-    let told = g.O.Out.told in
-    let comma = c.add-comma in
+    let told = g.O.TextEnd.told in
+    let comma = c.add_text-comma in
     let element = c.pour_found-state in
-    further_more c.args.show rows c.args.from c.loop-next.at c.in-Some.next.rank c.args.so_far c.loop-next.state comma.result element.result
+    further_more c.args.show rows c.args.from c.loop-next.at c.in-Some.next.rank
+    c.args.so_far c.loop-next.state comma.result element.result
     (told c.args.out.now) (told c.loop-next.out) (told comma.new.out) (told element.new.out)
     c.loop-next.invariant (c.in-Some.ensures.next c.args.show) comma.ensures element.ensures
 
 pub returns : goal.returns
 returns g c =
-    further_end c.args.show (g.R.Rows.lines c.args.rows.now) c.args.from c.loop-next.at c.args.so_far c.loop-next.state c.add.result
-    (g.O.Out.told c.args.out.now) (g.O.Out.told c.loop-next.out) (g.O.Out.told c.add.new.out) c.loop-next.invariant (c.in_default.ensures.next c.args.show) c.add.ensures
+    further_end c.args.show
+    (g.R.Rows.lines c.args.rows.now) c.args.from c.loop-next.at c.args.so_far c.loop-next.state c.add_text.result
+    (g.O.TextEnd.told c.args.out.now) (g.O.TextEnd.told c.loop-next.out) (g.O.TextEnd.told c.add_text.new.out)
+    c.loop-next.invariant (c.in_default.ensures.next c.args.show) c.add_text.ensures

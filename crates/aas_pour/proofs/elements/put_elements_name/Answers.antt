@@ -8,5 +8,10 @@ use Rattle.aas_pour.proofs.elements.put_elements_name.Goals as goal
 pub returns : goal.returns
 unfolding escape_byte
 returns g c =
-    adds_both c.args.pen.state c.add-comma.result c.add.result (g.O.Out.told c.args.out.now) (g.O.Out.told c.add-comma.new.out) (g.O.Out.told c.add.new.out) (comma_if c.args.pen.later) (quoted (codes "submodelElements") ++ 58 ∷ 91 ∷ [])
-    (adds_same c.args.pen.state c.add-comma.result (g.O.Out.told c.args.out.now) (g.O.Out.told c.add-comma.new.out) c.comma_of.result.now (comma_if c.args.pen.later) c.add-comma.ensures c.comma_of.ensures) c.add.ensures
+    adds_both c.args.pen.state c.add_text-comma.result c.add_text.result (g.O.TextEnd.told c.args.out.now)
+    (g.O.TextEnd.told c.add_text-comma.new.out) (g.O.TextEnd.told c.add_text.new.out)
+    (comma_if c.args.pen.later) (quoted (codes "submodelElements") ++ 58 ∷ 91 ∷ [])
+    (adds_same c.args.pen.state c.add_text-comma.result (g.O.TextEnd.told c.args.out.now)
+    (g.O.TextEnd.told c.add_text-comma.new.out) c.comma_of.result.now
+    (comma_if c.args.pen.later) c.add_text-comma.ensures c.comma_of.ensures)
+    c.add_text.ensures

@@ -8,5 +8,12 @@ use Rattle.aas_pour.proofs.environment.pour_environment_tree.Goals as goal
 pub returns : goal.returns
 returns g c =
     let e = c.args.environment.now in
-    object_ended (parts environment) ((codes "assetAdministrationShells", list_of spell_shell e.shells) ∷ (codes "submodels", list_of spell_submodel e.submodels) ∷ (codes "conceptDescriptions", list_of spell_concept e.concepts) ∷ []) c.end_object.result (g.O.Out.told c.end_object.new.out)
-    (object_more (object_more (object_more c.begin_object-begun.ensures c.put_list-listed.ensures) c.put_list-meant.ensures) c.put_list-whole.ensures) c.end_object.ensures
+    object_ended (parts environment)
+    ((codes "assetAdministrationShells", list_of spell_shell e.shells)
+    ∷ (codes "submodels", list_of spell_submodel e.submodels)
+    ∷ (codes "conceptDescriptions", list_of spell_concept e.concepts) ∷ [])
+    c.end_object.result (g.O.TextEnd.told c.end_object.new.out)
+    (object_more
+    (object_more (object_more c.begin_object-begun.ensures c.put_list-listed.ensures) c.put_list-meant.ensures)
+    c.put_list-whole.ensures)
+    c.end_object.ensures

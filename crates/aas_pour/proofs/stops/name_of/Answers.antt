@@ -25,4 +25,6 @@ returns-in-2 c = ap (λ j. quoted (stop_name j) ++ 58 ∷ 91 ∷ []) (sym c.in-2
 
 pub returns-in_default : goal.returns-in_default
 unfolding escape_byte
-returns-in_default c = let is : c.args.stop ≡ 1 = omega (arith, c.in_default, c.requires.low, c.requires.some) in ap (λ j. quoted (stop_name j) ++ 58 ∷ 91 ∷ []) (sym is)
+returns-in_default c =
+    let is : c.args.stop ≡ 1 = omega (arith, c.in_default, c.requires.low, c.requires.some) in
+    ap (λ j. quoted (stop_name j) ++ 58 ∷ 91 ∷ []) (sym is)

@@ -8,5 +8,12 @@ use Rattle.aas_pour.proofs.stops.put_name.Goals as goal
 
 pub returns : goal.returns
 returns g c =
-    adds_both c.args.so_far c.add-comma.result c.add.result (g.O.Out.told c.args.out.now) (g.O.Out.told c.add-comma.new.out) (g.O.Out.told c.add.new.out) (comma_if c.args.later) (quoted (stop_name c.args.stop) ++ 58 ∷ 91 ∷ [])
-    (subst (λ (t : List ℕ). Adds c.args.so_far c.add-comma.result (g.O.Out.told c.args.out.now) (g.O.Out.told c.add-comma.new.out) t) c.comma_of.ensures c.add-comma.ensures) (subst (λ (t : List ℕ). Adds c.add-comma.result c.add.result (g.O.Out.told c.add-comma.new.out) (g.O.Out.told c.add.new.out) t) c.name_of.ensures c.add.ensures)
+    adds_both c.args.so_far c.add_text-comma.result c.add_text.result (g.O.TextEnd.told c.args.out.now)
+    (g.O.TextEnd.told c.add_text-comma.new.out) (g.O.TextEnd.told c.add_text.new.out)
+    (comma_if c.args.later) (quoted (stop_name c.args.stop) ++ 58 ∷ 91 ∷ [])
+    (subst (λ (t : List ℕ). Adds c.args.so_far c.add_text-comma.result
+    (g.O.TextEnd.told c.args.out.now) (g.O.TextEnd.told c.add_text-comma.new.out) t)
+    c.comma_of.ensures c.add_text-comma.ensures)
+    (subst (λ (t : List ℕ). Adds c.add_text-comma.result c.add_text.result
+    (g.O.TextEnd.told c.add_text-comma.new.out) (g.O.TextEnd.told c.add_text.new.out) t)
+    c.name_of.ensures c.add_text.ensures)

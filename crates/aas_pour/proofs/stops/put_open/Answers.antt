@@ -6,5 +6,9 @@ use Rattle.aas_pour.proofs.stops.put_open.Goals as goal
 
 pub returns : goal.returns
 returns g c =
-    adds_both c.args.so_far c.add-before.result c.add.result (g.O.Out.told c.args.out.now) (g.O.Out.told c.add-before.new.out) (g.O.Out.told c.add.new.out) (opening c.args.stop) (123 ∷ [])
-    (subst (λ (t : List ℕ). Adds c.args.so_far c.add-before.result (g.O.Out.told c.args.out.now) (g.O.Out.told c.add-before.new.out) t) c.opening_of.ensures c.add-before.ensures) c.add.ensures
+    adds_both c.args.so_far c.add_text-before.result c.add_text.result (g.O.TextEnd.told c.args.out.now)
+    (g.O.TextEnd.told c.add_text-before.new.out) (g.O.TextEnd.told c.add_text.new.out) (opening c.args.stop) (123 ∷ [])
+    (subst (λ (t : List ℕ). Adds c.args.so_far c.add_text-before.result
+    (g.O.TextEnd.told c.args.out.now) (g.O.TextEnd.told c.add_text-before.new.out) t)
+    c.opening_of.ensures c.add_text-before.ensures)
+    c.add_text.ensures

@@ -5,10 +5,13 @@ use Rattle.aas_pour.proofs.tree.+tree.Given as goal
 
 abbrev pub invariant-pour_tree-loop-next : goal.invariant-pour_tree-loop-next
 invariant-pour_tree-loop-next g l =
-    Parts l.fn.so_far l.pen.state (g.O.Out.told l.fn.out) (g.O.Out.told l.out) (line_of l.row) (out-Element l.element).kids l.next l.pen.later
+    Parts l.fn.so_far l.pen.state (g.O.TextEnd.told l.fn.out) (g.O.TextEnd.told l.out)
+    (line_of l.row) (out-Element l.element).kids l.next l.pen.later
 
 abbrev pub decreases-pour_tree-loop-next : goal.decreases-pour_tree-loop-next
 decreases-pour_tree-loop-next g l = l.next
 
 abbrev pub invariant-put_children-loop-kid : goal.invariant-put_children-loop-kid
-invariant-put_children-loop-kid g l = Kids l.fn.pen.state l.state (g.O.Out.told l.fn.out) (g.O.Out.told l.out) l.fn.pen.later l.stop l.kid-items l.any l.kid-index
+invariant-put_children-loop-kid g l =
+    Kids l.fn.pen.state l.state (g.O.TextEnd.told l.fn.out)
+    (g.O.TextEnd.told l.out) l.fn.pen.later l.stop l.kid-items l.any l.kid-index

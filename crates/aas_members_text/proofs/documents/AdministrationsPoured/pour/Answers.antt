@@ -5,5 +5,11 @@ use Rattle.aas_members_text.proofs.documents.AdministrationsPoured.pour.Goals as
 
 pub returns : goal.returns
 returns g c =
-    object_ended (parts administration) (administration_attributes c.args.administration.now) c.end_object.result (g.O.Out.told c.end_object.new.out)
-    (object_more (object_more (object_more (object_more (object_more c.begin_object-begun.ensures c.put_optional-creator.ensures) c.put_list-kept.ensures) c.put_optional-revision.ensures) c.put_optional-template.ensures) c.put_optional-version.ensures) c.end_object.ensures
+    object_ended (parts administration) (administration_attributes c.args.administration.now) c.end_object.result
+    (g.O.TextEnd.told c.end_object.new.out)
+    (object_more (object_more (object_more
+    (object_more (object_more c.begin_object-begun.ensures c.put_optional-creator.ensures) c.put_list-kept.ensures)
+    c.put_optional-revision.ensures)
+    c.put_optional-template.ensures)
+    c.put_optional-version.ensures)
+    c.end_object.ensures

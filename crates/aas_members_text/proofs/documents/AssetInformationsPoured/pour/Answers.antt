@@ -5,5 +5,11 @@ use Rattle.aas_members_text.proofs.documents.AssetInformationsPoured.pour.Goals 
 
 pub returns : goal.returns
 returns g c =
-    object_ended (parts asset_information) (asset_information_attributes c.args.asset.now) c.end_object.result (g.O.Out.told c.end_object.new.out)
-    (object_more (object_more (object_more (object_more (object_more c.begin_object-begun.ensures c.put_word-kind.ensures) c.put_optional-typed.ensures) c.put_optional-shown.ensures) c.put_optional-global.ensures) c.put_list-specific.ensures) c.end_object.ensures
+    object_ended (parts asset_information) (asset_information_attributes c.args.asset.now) c.end_object.result
+    (g.O.TextEnd.told c.end_object.new.out)
+    (object_more (object_more (object_more
+    (object_more (object_more c.begin_object-begun.ensures c.put_word-kind.ensures) c.put_optional-typed.ensures)
+    c.put_optional-shown.ensures)
+    c.put_optional-global.ensures)
+    c.put_list-specific.ensures)
+    c.end_object.ensures

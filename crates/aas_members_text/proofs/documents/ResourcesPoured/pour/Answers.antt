@@ -5,5 +5,7 @@ use Rattle.aas_members_text.proofs.documents.ResourcesPoured.pour.Goals as goal
 
 pub returns : goal.returns
 returns g c =
-    object_ended (parts resource) (resource_attributes c.args.resource.now) c.end_object.result (g.O.Out.told c.end_object.new.out)
-    (object_more (object_more c.begin_object-begun.ensures c.put_optional-typed.ensures) c.put_one-placed.ensures) c.end_object.ensures
+    object_ended (parts resource) (resource_attributes c.args.resource.now) c.end_object.result
+    (g.O.TextEnd.told c.end_object.new.out)
+    (object_more (object_more c.begin_object-begun.ensures c.put_optional-typed.ensures) c.put_one-placed.ensures)
+    c.end_object.ensures

@@ -5,5 +5,11 @@ use Rattle.aas_members_text.proofs.parts.ExtensionsPoured.pour.Goals as goal
 
 pub returns : goal.returns
 returns g c =
-    object_ended (parts extension) (extension_attributes c.args.extension.now) c.end_object.result (g.O.Out.told c.end_object.new.out)
-    (object_more (object_more (object_more (object_more (object_more c.begin_object-begun.ensures c.put_one-named.ensures) c.put_list-referring.ensures) c.put_semantics-meant.ensures) c.put_optional-valued.ensures) c.put_optional_word-typed.ensures) c.end_object.ensures
+    object_ended (parts extension) (extension_attributes c.args.extension.now) c.end_object.result
+    (g.O.TextEnd.told c.end_object.new.out)
+    (object_more (object_more (object_more
+    (object_more (object_more c.begin_object-begun.ensures c.put_one-named.ensures) c.put_list-referring.ensures)
+    c.put_semantics-meant.ensures)
+    c.put_optional-valued.ensures)
+    c.put_optional_word-typed.ensures)
+    c.end_object.ensures

@@ -5,5 +5,7 @@ use Rattle.aas_members_text.proofs.parts.LangTextsPoured.pour.Goals as goal
 
 pub returns : goal.returns
 returns g c =
-    object_ended (parts lang_text) (lang_text_attributes c.args.lang_text.now) c.end_object.result (g.O.Out.told c.end_object.new.out)
-    (object_more (object_more c.begin_object-begun.ensures c.put_one-language.ensures) c.put_one-text.ensures) c.end_object.ensures
+    object_ended (parts lang_text) (lang_text_attributes c.args.lang_text.now) c.end_object.result
+    (g.O.TextEnd.told c.end_object.new.out)
+    (object_more (object_more c.begin_object-begun.ensures c.put_one-language.ensures) c.put_one-text.ensures)
+    c.end_object.ensures

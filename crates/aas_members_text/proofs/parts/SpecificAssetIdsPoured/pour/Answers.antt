@@ -5,5 +5,10 @@ use Rattle.aas_members_text.proofs.parts.SpecificAssetIdsPoured.pour.Goals as go
 
 pub returns : goal.returns
 returns g c =
-    object_ended (parts specific_asset_id) (specific_asset_id_attributes c.args.id.now) c.end_object.result (g.O.Out.told c.end_object.new.out)
-    (object_more (object_more (object_more (object_more c.begin_object-begun.ensures c.put_optional-referring.ensures) c.put_one-named.ensures) c.put_semantics-meant.ensures) c.put_one-valued.ensures) c.end_object.ensures
+    object_ended (parts specific_asset_id) (specific_asset_id_attributes c.args.id.now) c.end_object.result
+    (g.O.TextEnd.told c.end_object.new.out)
+    (object_more (object_more
+    (object_more (object_more c.begin_object-begun.ensures c.put_optional-referring.ensures) c.put_one-named.ensures)
+    c.put_semantics-meant.ensures)
+    c.put_one-valued.ensures)
+    c.end_object.ensures

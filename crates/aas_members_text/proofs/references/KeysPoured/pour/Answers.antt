@@ -5,5 +5,6 @@ use Rattle.aas_members_text.proofs.references.KeysPoured.pour.Goals as goal
 
 pub returns : goal.returns
 returns g c =
-    object_ended (parts key) (key_attributes c.args.key.now) c.end_object.result (g.O.Out.told c.end_object.new.out)
-    (object_more (object_more c.begin_object-begun.ensures c.put_word-typed.ensures) c.put_one-valued.ensures) c.end_object.ensures
+    object_ended (parts key) (key_attributes c.args.key.now) c.end_object.result (g.O.TextEnd.told c.end_object.new.out)
+    (object_more (object_more c.begin_object-begun.ensures c.put_word-typed.ensures) c.put_one-valued.ensures)
+    c.end_object.ensures

@@ -13,9 +13,13 @@ loop-self-preserved g c =
     let bytes : List ℕ = c.as_slice.result.now in record {
       same_reference = c.loop-self.invariant.same_reference;
       sent =
-          subst (λ (xs : List ℕ). append_known new (drop (at + n) xs) ≡ append_known old (drop at xs)) c.as_slice.ensures.value (held_less old new at n bytes c.in_ok-self.ensures.given.appended)
+          subst (λ (xs : List ℕ). append_known new (drop (at + n) xs) ≡ append_known old (drop at xs))
+          c.as_slice.ensures.value (held_less old new at n bytes c.in_ok-self.ensures.given.appended)
           ∙ c.loop-self.invariant.sent;
-      more = grows_both _ old new c.loop-self.invariant.more (take n (take (length bytes - at) (drop at bytes)), c.in_ok-self.ensures.given.appended);
+      more = grows_both _ old new c.loop-self.invariant.more (
+        take n (take (length bytes - at) (drop at bytes)),
+        c.in_ok-self.ensures.given.appended,
+      );
       surroundings = c.in_ok-self.ensures.surroundings ∙ c.loop-self.invariant.surroundings;
       left = c.in_ok-self.ensures.left ∙ c.loop-self.invariant.left;
       later = omega (arith, c.in_ok-self.ensures.cause.later, c.loop-self.invariant.later);

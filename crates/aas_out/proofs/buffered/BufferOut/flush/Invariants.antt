@@ -7,7 +7,8 @@ use Rattle.aas_out.proofs.buffered.BufferOut.flush.Given as goal
 abbrev pub invariant-loop-self : goal.invariant-loop-self
 invariant-loop-self g l = record {
   same_reference : l.self.link.ghost_name ≡ l.fn.self.link.ghost_name;
-  sent : append_known (g.L.Link.sent l.self.link.now) (held_by l.self) ≡ append_known (g.L.Link.sent l.fn.self.link.now) (held_by l.fn.self);
+  sent : append_known (g.L.Link.sent l.self.link.now) (held_by l.self)
+      ≡ append_known (g.L.Link.sent l.fn.self.link.now) (held_by l.fn.self);
   more : Grows (g.L.Link.sent l.fn.self.link.now) (g.L.Link.sent l.self.link.now);
   surroundings : g.L.Link.surroundings l.self.link.now ≡ g.L.Link.surroundings l.fn.self.link.now;
   left : g.L.Link.left l.self.link.now ≡ g.L.Link.left l.fn.self.link.now;

@@ -13,11 +13,16 @@ returns-in_err-flush g c =
     let around = g.L.Link.surroundings in
     let old : MutBor g.row.L.Denot = c.args.self.now.link in
     let new : MutBor g.row.L.Denot = c.flush.new.self.link in
-    put_failed c.from_residual.result (told_of sent faults left around old (held_by c.args.self.now)) (told_of sent faults left around new (held_by c.flush.new.self)) c.args.bytes.now (search rules)
-    (flush_failed (sent old.now) (sent new.now) (held_by c.args.self.now) (held_by c.flush.new.self) c.args.bytes.now (faults old.now) (faults new.now)
-    (link_kept old.ghost_name (left old.now) (around old.now)) (link_kept new.ghost_name (left new.now) (around new.now)) c.in_err-flush.ensures.more.0
-    c.in_err-flush.ensures.sent c.in_err-flush.ensures.more.1 c.in_err-flush.ensures.cause.later c.in_err-flush.ensures.cause.failed
-    (kept_by old.ghost_name new.ghost_name (left old.now) (left new.now) (around old.now) (around new.now) c.in_err-flush.ensures.same_reference c.in_err-flush.ensures.left c.in_err-flush.ensures.surroundings))
+    put_failed c.from_residual.result (told_of sent faults left around old (held_by c.args.self.now))
+    (told_of sent faults left around new (held_by c.flush.new.self)) c.args.bytes.now (search rules)
+    (flush_failed (sent old.now) (sent new.now) (held_by c.args.self.now)
+    (held_by c.flush.new.self) c.args.bytes.now (faults old.now) (faults new.now)
+    (link_kept old.ghost_name (left old.now) (around old.now))
+    (link_kept new.ghost_name (left new.now) (around new.now)) c.in_err-flush.ensures.more.0
+    c.in_err-flush.ensures.sent c.in_err-flush.ensures.more.1
+    c.in_err-flush.ensures.cause.later c.in_err-flush.ensures.cause.failed
+    (kept_by old.ghost_name new.ghost_name (left old.now) (left new.now) (around old.now) (around new.now)
+    c.in_err-flush.ensures.same_reference c.in_err-flush.ensures.left c.in_err-flush.ensures.surroundings))
 
 pub returns : goal.returns
 returns g c =
@@ -31,12 +36,18 @@ returns g c =
     let here : last ≡ mid = c.hold.ensures.link in
     let none : held_by c.flush.new.self ≡ [] = nothing_held c.flush.new.self c.in_ok-flush.ensures.empty in
     let kept_now : LinkKept = link_kept last.ghost_name (left c.give_all.new.link) (around c.give_all.new.link) in
-    let later : faults old.now ≤ faults last.now = subst (λ (l : MutBor g.row.L.Denot). faults old.now ≤ faults l.now) (sym here) c.in_ok-flush.ensures.cause.later in
-    give_is_put c.give_all.result c.args.bytes.now (held_by c.args.self.now) (held_by c.hold.new.self) (sent old.now) (sent last.now) (sent c.give_all.new.link) (faults old.now) (faults last.now) (faults c.give_all.new.link)
+    let later : faults old.now ≤ faults last.now =
+    subst (λ (l : MutBor g.row.L.Denot). faults old.now ≤ faults l.now) (sym here) c.in_ok-flush.ensures.cause.later in
+    give_is_put c.give_all.result c.args.bytes.now (held_by c.args.self.now) (held_by c.hold.new.self) (sent old.now)
+    (sent last.now) (sent c.give_all.new.link) (faults old.now) (faults last.now) (faults c.give_all.new.link)
     (link_kept old.ghost_name (left old.now) (around old.now)) kept_now
-    (ap (λ (l : MutBor g.row.L.Denot). sent l.now) here ∙ emptied (sent old.now) (sent mid.now) (held_by c.args.self.now) (held_by c.flush.new.self) c.in_ok-flush.ensures.sent none)
+    (ap (λ (l : MutBor g.row.L.Denot). sent l.now) here
+    ∙ emptied (sent old.now) (sent mid.now) (held_by c.args.self.now)
+    (held_by c.flush.new.self) c.in_ok-flush.ensures.sent none)
     (c.if-hold.ensures.held ∙ none) later c.give_all.ensures.given c.give_all.ensures.front c.give_all.ensures.cause
-    (kept_by old.ghost_name last.ghost_name (left old.now) (left c.give_all.new.link) (around old.now) (around c.give_all.new.link)
+    (kept_by old.ghost_name last.ghost_name (left old.now)
+    (left c.give_all.new.link) (around old.now) (around c.give_all.new.link)
     (ap (λ (l : MutBor g.row.L.Denot). l.ghost_name) here ∙ c.in_ok-flush.ensures.same_reference)
     (c.give_all.ensures.left ∙ ap (λ (l : MutBor g.row.L.Denot). left l.now) here ∙ c.in_ok-flush.ensures.left)
-    (c.give_all.ensures.surroundings ∙ ap (λ (l : MutBor g.row.L.Denot). around l.now) here ∙ c.in_ok-flush.ensures.surroundings))
+    (c.give_all.ensures.surroundings ∙ ap (λ (l : MutBor g.row.L.Denot). around l.now) here
+    ∙ c.in_ok-flush.ensures.surroundings))
