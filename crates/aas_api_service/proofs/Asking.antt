@@ -5,7 +5,8 @@ use Rattle.aas_path_trees.specs.PathRule.{KeepsRule}
 use Rattle.aas_http.specs.FirstRequest.{Message}
 use Rattle.aas_target.specs.Routes.{Found, Texts, method_among, methods_of, path_in, query_in, resource_at}
 use Rattle.aas_target.specs.declared.method.Method.{Method}
-use Rattle.aas_api.specs.Asked.{Asked, AsksResource, AtElement, ById, ByPath, ByRoute, Called, IsAsked, IsByMethod, IsCall, Through}
+use Rattle.aas_api.specs.Asked.{Asked, AsksResource, AtElement, ById, ByPath, ByRoute, Called, IsAsked, IsByMethod}
+use Rattle.aas_api.specs.Asked.{IsCall, Through}
 use Rattle.aas_api.specs.declared.ask.Ask.{Ask}
 
 module _ (Fact : Ask → Type 0) (a : Ask) where
@@ -13,11 +14,13 @@ module _ (Fact : Ask → Type 0) (a : Ask) where
   abbrev pub Implies : (Asked → Type 0) → Type 0
   Implies Asks = Asks (Ok a) → Fact a
 
-  pub by_id : (segment : List ℕ) (Asks : List ℕ → Asked → Type 0) → ((id : List ℕ) → Implies (Asks id)) → Implies (ById segment Asks)
+  pub by_id : (segment : List ℕ) (Asks : List ℕ → Asked → Type 0)
+      → ((id : List ℕ) → Implies (Asks id)) → Implies (ById segment Asks)
   by_id segment Asks each (inl (id, stands, asks)) = each id asks
   by_id segment Asks each (inr (none, is)) = absurd (cc)
 
-  by_path : (segment : List ℕ) (Asks : Path → Asked → Type 0) → ((path : Path) → KeepsRule path.steps → Implies (Asks path))
+  by_path : (segment : List ℕ) (Asks : Path → Asked → Type 0)
+      → ((path : Path) → KeepsRule path.steps → Implies (Asks path))
       → Implies (ByPath segment Asks)
   by_path segment Asks each (inl (path, writes, asks)) = each path writes.1 asks
   by_path segment Asks each (inr (at, none, is)) = absurd (cc)
@@ -37,7 +40,8 @@ module _ (Fact : Ask → Type 0) (through : Option (List ℕ)) (a : Ask) where
   abbrev CallImplies : (Called → Type 0) → Type 0
   CallImplies Calls = Calls (Ok (record { through = through; ask = a })) → Fact a
 
-  is_call : (shell : Option (List ℕ)) (Asks : Asked → Type 0) → ((b : Ask) → Implies Fact b Asks) → CallImplies (IsCall shell Asks)
+  is_call : (shell : Option (List ℕ)) (Asks : Asked → Type 0)
+      → ((b : Ask) → Implies Fact b Asks) → CallImplies (IsCall shell Asks)
   is_call shell Asks each (Ok b, asks, is) =
       let same_ask : Some a ≡ Some b = ap asked_in is in
       let same : b ≡ a = cc in subst Fact same (each b asks)
@@ -64,7 +68,8 @@ module _ (Fact : Ask → Type 0) (through : Option (List ℕ)) (a : Ask) where
   by_route None m each is = absurd (cc)
   by_route (Some found) m each calls =
       let AsksBy : Method → Asked → Type 0 = AsksResource found.resource found.texts (query_in m.target) m.body in
-      by_method (method_among m.method (methods_of found)) (methods_of found) (λ method. Through found.through (AsksBy method))
+      by_method (method_among m.method (methods_of found)) (methods_of found) (λ method.
+      Through found.through (AsksBy method))
       (λ method is. by_shell found.through (AsksBy method) (each found method is)) calls
 
   pub by_request : (m : Message) → HoldsByMethods m → CallImplies (IsAsked m)

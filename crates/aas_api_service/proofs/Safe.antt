@@ -11,7 +11,15 @@ use Rattle.aas_target.specs.declared.given.Given.{Given}
 use Rattle.aas_target.specs.declared.method.Method.{Method}
 use Rattle.aas_target.specs.declared.method.Method.TheVariants.{Get, Post, Put, Patch, Delete}
 use Rattle.aas_target.specs.declared.routes.Resource.{Resource}
-use Rattle.aas_target.specs.declared.routes.Resource.TheVariants.{Shells, ShellsReference, Shell, ShellReference, AssetInformation, ReferencesOf, ReferencesTo, Submodels, SubmodelsMetadata, SubmodelsValue, SubmodelsReference, Submodel, SubmodelMetadata, SubmodelValue, SubmodelReference, SubmodelPaths, Elements, ElementsMetadata, ElementsReference, Element, ElementMetadata, ElementValue, ElementReference, ElementPaths, Concepts, Concept, Lookup, Serialization}
+use Rattle.aas_target.specs.declared.routes.Resource.TheVariants.{Shells, ShellsReference, Shell, ShellReference}
+use Rattle.aas_target.specs.declared.routes.Resource.TheVariants.{AssetInformation, ReferencesOf, ReferencesTo}
+use Rattle.aas_target.specs.declared.routes.Resource.TheVariants.{Submodels, SubmodelsMetadata, SubmodelsValue}
+use Rattle.aas_target.specs.declared.routes.Resource.TheVariants.{SubmodelsReference, Submodel, SubmodelMetadata}
+use Rattle.aas_target.specs.declared.routes.Resource.TheVariants.{SubmodelValue, SubmodelReference, SubmodelPaths}
+use Rattle.aas_target.specs.declared.routes.Resource.TheVariants.{Elements, ElementsMetadata, ElementsReference}
+use Rattle.aas_target.specs.declared.routes.Resource.TheVariants.{Element, ElementMetadata, ElementValue}
+use Rattle.aas_target.specs.declared.routes.Resource.TheVariants.{ElementReference, ElementPaths, Concepts, Concept}
+use Rattle.aas_target.specs.declared.routes.Resource.TheVariants.{Lookup, Serialization}
 use Rattle.aas_api.specs.Asked.{Asked, AsksResource, AtElement, ById, IsAsked, IsQuestion, Shows}
 use Rattle.aas_api.specs.declared.ask.Ask.{Ask}
 use Rattle.aas_api.specs.declared.ask.Ask.TheVariants.{Act, Answer, Describe}
@@ -51,7 +59,8 @@ module _ (a : Ask) where
       at_element IsTold a t (λ id p. Shows resource query (ask id p)) (λ id p rule. shows resource query (ask id p))
 
   -- a GET of a resource that has it
-  pub by_get : (resource : Resource) (is_through : Bool) → IsOneOf Get (methods_by resource is_through) → (t : Texts) (query body : List ℕ)
+  pub by_get : (resource : Resource) (is_through : Bool)
+      → IsOneOf Get (methods_by resource is_through) → (t : Texts) (query body : List ℕ)
       → Tells (AsksResource resource t query body Get)
   by_get Shells is_through has t query body = shows Shells query _
   by_get ShellsReference is_through has t query body = shows ShellsReference query _
@@ -95,12 +104,14 @@ named_get (Put ∷ others) method is = let rest = named_get others method is in 
 named_get (Patch ∷ others) method is = let rest = named_get others method is in (rest.0, inr rest.1)
 named_get (Delete ∷ others) method is = let rest = named_get others method is in (rest.0, inr rest.1)
 
-tells : (m : Message) (through : Option (List ℕ)) (a : Ask) → IsSafe m → IsAsked m (Ok (record { through = through; ask = a })) → IsTold a
+tells : (m : Message) (through : Option (List ℕ)) (a : Ask)
+    → IsSafe m → IsAsked m (Ok (record { through = through; ask = a })) → IsTold a
 tells m through a safe =
     by_request IsTold through a m
     (λ found method is b.
     let named : (Get ≡ method) × IsOneOf Get (methods_of found) =
-    named_get (methods_of found) method (subst (λ (name : List ℕ). method_among name (methods_of found) ≡ Some method) safe is) in
+    named_get (methods_of found) method
+    (subst (λ (name : List ℕ). method_among name (methods_of found) ≡ Some method) safe is) in
     subst (λ (by : Method). Tells b (AsksResource found.resource found.texts (query_in m.target) m.body by)) named.0
     (by_get b found.resource (is_some found.through) named.1 found.texts (query_in m.target) m.body))
 
@@ -109,14 +120,16 @@ by_told (Act c) told = absurd told
 by_told (Answer q) told = (q, refl)
 by_told (Describe m) told = absurd told
 
-pub asks_question : (m : Message) (through : Option (List ℕ)) (ask : Ask) → IsSafe m → IsAsked m (Ok (record { through = through; ask = ask }))
+pub asks_question : (m : Message) (through : Option (List ℕ)) (ask : Ask)
+    → IsSafe m → IsAsked m (Ok (record { through = through; ask = ask }))
     → (q : Question) × (ask ≡ Answer q)
 asks_question m through ask safe asked = by_told ask (tells m through ask safe asked)
 
 -- ---- states
 
 -- what is the same hasn't changed
-pub same_unchanged : {H D I : Type 0} (state : H → State D I) (old new : H) → new ≡ old → IsUnchanged (state old) (state new)
+pub same_unchanged : {H D I : Type 0} (state : H → State D I) (old new : H)
+    → new ≡ old → IsUnchanged (state old) (state new)
 same_unchanged {H = H} state old new same =
     subst (λ (held : H). IsUnchanged (state old) (state held)) (sym same)
     (record { documents = refl; kept = λ payloads. (λ kept. kept, λ kept. kept); moment = refl })

@@ -1,5 +1,7 @@
--- What is asked for is well formed, since a tree that is read is whole; and a metadata form that is asked for has the name of its path.
-use Rattle.std.proofs.Common.{◌≡◌, inl, inr, ℕ, ◌+◌, List, length, Bool, true, false, Option, Some, None, Ok, Err, refl, sym, subst}
+-- What is asked for is well formed, since a tree that is read is whole;
+-- and a metadata form that is asked for has the name of its path.
+use Rattle.std.proofs.Common.{◌≡◌, inl, inr, ℕ, ◌+◌, List, length, Bool, true, false, Option, Some, None, Ok, Err, refl}
+use Rattle.std.proofs.Common.{sym, subst}
 use Rattle.std.specs.Prelude.{bytes_eq, if◌then◌else◌}
 use Rattle.std.specs.List.{last_or}
 use Rattle.serde_json.specs.Data.{Data}
@@ -20,7 +22,8 @@ use Rattle.aas_edit_laws.specs.Laws.{at_level}
 use Rattle.aas_command.specs.Commands.{IsPlace, IsSendable, IsWellFormed}
 use Rattle.aas_command.proofs.Sendable.{read_sendable}
 use Rattle.aas_command.specs.declared.command.Command.{Command}
-use Rattle.aas_command.specs.declared.command.Command.TheVariants.{SetAsset, AddReference, DropReference, InsertElement, ReplaceElement, DeleteElement, UpdateValue}
+use Rattle.aas_command.specs.declared.command.Command.TheVariants.{SetAsset, AddReference, DropReference, InsertElement}
+use Rattle.aas_command.specs.declared.command.Command.TheVariants.{ReplaceElement, DeleteElement, UpdateValue}
 use Rattle.aas_command.specs.declared.refusal.Refusal.TheVariants.{IdMismatch}
 use Rattle.aas_command.proofs.PathTexts.{is_place}
 use Rattle.aas_question.specs.declared.question.Question.TheVariants as question
@@ -30,9 +33,16 @@ use Rattle.aas_target.specs.Routes.{Texts, query_in}
 use Rattle.aas_target.specs.declared.method.Method.{Method}
 use Rattle.aas_target.specs.declared.method.Method.TheVariants.{Get, Post, Put, Patch, Delete}
 use Rattle.aas_target.specs.declared.routes.Resource.{Resource}
-use Rattle.aas_target.specs.declared.routes.Resource.TheVariants.{Shells, Shell, AssetInformation, ReferencesOf, ReferencesTo, Submodels, Submodel, SubmodelMetadata, SubmodelValue, Elements, Element, ElementMetadata, ElementValue, Concepts, Concept}
+use Rattle.aas_target.specs.declared.routes.Resource.TheVariants.{Shells, Shell, AssetInformation, ReferencesOf}
+use Rattle.aas_target.specs.declared.routes.Resource.TheVariants.{ReferencesTo, Submodels, Submodel, SubmodelMetadata}
+use Rattle.aas_target.specs.declared.routes.Resource.TheVariants.{SubmodelValue, Elements, Element, ElementMetadata}
+use Rattle.aas_target.specs.declared.routes.Resource.TheVariants.{ElementValue, Concepts, Concept}
 use Rattle.aas_api.proofs.BrokenNumbers.{unbroken}
-use Rattle.aas_api.specs.Asked.{Asked, AsksAsset, AsksElementMetadata, AsksSubmodelMetadata, DescribesElement, DescribesSubmodel, AsksCollection, AsksDocument, AsksElement, AsksElements, AsksElementValue, AsksReferences, AsksResource, AsksSubmodelValue, ByBody, ById, BySent, Inserts, IsAsked, IsBySent, IsCommand, Replaces, UnlessBroken, Updates, has_last, if_same, root}
+use Rattle.aas_api.specs.Asked.{Asked, AsksAsset, AsksElementMetadata, AsksSubmodelMetadata, DescribesElement}
+use Rattle.aas_api.specs.Asked.{DescribesSubmodel, AsksCollection, AsksDocument, AsksElement, AsksElements}
+use Rattle.aas_api.specs.Asked.{AsksElementValue, AsksReferences, AsksResource, AsksSubmodelValue, ByBody, ById, BySent}
+use Rattle.aas_api.specs.Asked.{Inserts, IsAsked, IsBySent, IsCommand, Replaces, UnlessBroken, Updates, has_last}
+use Rattle.aas_api.specs.Asked.{if_same, root}
 use Rattle.aas_api.specs.Interfaces.{Interface, concept_interface, shell_interface, submodel_interface}
 use Rattle.aas_api.specs.Numbers.{broken_number}
 use Rattle.aas_api.specs.declared.ask.Ask.{Ask}
@@ -64,7 +74,8 @@ takes_concepts : TakesWhole concept_interface
 unfolding IsWellFormed
 takes_concepts = record { create = λ d whole. whole; replace = λ d whole. whole; delete = λ id. tt }
 
-takes_asset : (id : List ℕ) (asset : Asset_information) → asset_informations.IsWhole limits asset → IsWellFormed (SetAsset id asset)
+takes_asset : (id : List ℕ) (asset : Asset_information)
+    → asset_informations.IsWhole limits asset → IsWellFormed (SetAsset id asset)
 unfolding IsWellFormed
 takes_asset id asset whole = whole
 
@@ -101,18 +112,21 @@ told_right (Act c) told = absurd told
 told_right (Answer q) told = (tt, tt)
 told_right (Describe m) told = absurd told
 
-read_whole : {A : Type 0} (trees : Trees A) (levels : Levels) (t : A) (found : Option Data) → ReadsIf trees levels (Ok t) found
+read_whole : {A : Type 0} (trees : Trees A) (levels : Levels) (t : A) (found : Option Data)
+    → ReadsIf trees levels (Ok t) found
     → trees.IsWhole levels t
 read_whole trees levels t None (inl none) = absurd (cc)
 read_whole trees levels t None (inr none) = absurd (cc)
 read_whole trees levels t (Some j) spells = spells.whole
 
-takes_child : (id : List ℕ) (path : Path) (e : ElementTree) → IsPlace path.steps → elements.IsWhole (at_level (length path.steps + 1)) e
+takes_child : (id : List ℕ) (path : Path) (e : ElementTree)
+    → IsPlace path.steps → elements.IsWhole (at_level (length path.steps + 1)) e
     → IsWellFormed (InsertElement id path e)
 unfolding IsWellFormed
 takes_child id path e place whole = (place, whole)
 
-pub takes_element : (id : List ℕ) (path : Path) (e : ElementTree) → KeepsRule path.steps → elements.IsWhole (at_level (length path.steps)) e
+pub takes_element : (id : List ℕ) (path : Path) (e : ElementTree)
+    → KeepsRule path.steps → elements.IsWhole (at_level (length path.steps)) e
     → IsWellFormed (ReplaceElement id path e)
 unfolding IsWellFormed
 takes_element id path e rule whole = (rule, whole)
@@ -121,7 +135,8 @@ takes_removal : (id : List ℕ) (path : Path) → KeepsRule path.steps → IsWel
 unfolding IsWellFormed
 takes_removal id path rule = rule
 
-takes_value : (id : List ℕ) (path : Path) (v : Data) → IsPlace path.steps → IsSendable v → IsWellFormed (UpdateValue id path v)
+takes_value : (id : List ℕ) (path : Path) (v : Data)
+    → IsPlace path.steps → IsSendable v → IsWellFormed (UpdateValue id path v)
 unfolding IsWellFormed
 takes_value id path v place is = (place, is)
 
@@ -135,7 +150,8 @@ module _ (a : Ask) where
 
   by_body : {A : Type 0} (trees : Trees A) (levels : Levels) (body : List ℕ) (asks : A → Asked)
       → ((t : A) → trees.IsWhole levels t → asks t ≡ Ok a → IsRight a) → Keeps (ByBody trees levels body asks)
-  by_body trees levels body asks each (Ok t, reads, is) = each t (read_whole trees levels t (reading body) reads) (sym is)
+  by_body trees levels body asks each (Ok t, reads, is) =
+      each t (read_whole trees levels t (reading body) reads) (sym is)
   by_body trees levels body asks each (Err read.NotJson, reads, is) = absurd (cc)
   by_body trees levels body asks each (Err (read.NotMapping pointer), reads, is) = absurd (cc)
   by_body trees levels body asks each (Err (read.TooDeep pointer), reads, is) = absurd (cc)
@@ -158,22 +174,27 @@ module _ (a : Ask) where
 
   -- ---- methods
 
-  on_collection : {D : Type 0} (i : Interface D) → TakesWhole i → (resource : Resource) (query body : List ℕ) (method : Method)
+  on_collection : {D : Type 0} (i : Interface D)
+      → TakesWhole i → (resource : Resource) (query body : List ℕ) (method : Method)
       → Keeps (AsksCollection i resource query body method)
   on_collection i takes resource query body Get asks = told_right a (shows a resource query i.list asks)
   on_collection i takes resource query body Post asks =
-      by_body i.documents limits body (λ d. Ok (Act (i.create d))) (λ d whole is. along (Act (i.create d)) a is (takes.create d whole, tt)) asks
+      by_body i.documents limits body (λ d. Ok (Act (i.create d)))
+      (λ d whole is. along (Act (i.create d)) a is (takes.create d whole, tt)) asks
   on_collection i takes resource query body Put asks = absurd asks
   on_collection i takes resource query body Patch asks = absurd asks
   on_collection i takes resource query body Delete asks = absurd asks
 
-  on_document : {D : Type 0} (i : Interface D) → TakesWhole i → (resource : Resource) (segment query body : List ℕ) (method : Method)
+  on_document : {D : Type 0} (i : Interface D)
+      → TakesWhole i → (resource : Resource) (segment query body : List ℕ) (method : Method)
       → Keeps (AsksDocument i resource segment query body method)
   on_document i takes resource segment query body Get asks = told_right a (shown a segment resource query i.get asks)
   on_document i takes resource segment query body Put asks =
-      by_id IsRight a segment (λ id. ByBody i.documents limits body (λ d. if_same (bytes_eq id (i.id_of d)) (Act (i.replace d))))
+      by_id IsRight a segment (λ id.
+      ByBody i.documents limits body (λ d. if_same (bytes_eq id (i.id_of d)) (Act (i.replace d))))
       (λ id. by_body i.documents limits body (λ d. if_same (bytes_eq id (i.id_of d)) (Act (i.replace d)))
-      (λ d whole is. by_same (bytes_eq id (i.id_of d)) (Act (i.replace d)) a is (λ _. (takes.replace d whole, tt)))) asks
+      (λ d whole is. by_same (bytes_eq id (i.id_of d)) (Act (i.replace d)) a is (λ _. (takes.replace d whole, tt))))
+      asks
   on_document i takes resource segment query body Delete asks =
       by_id IsRight a segment (λ id. IsCommand (i.delete id)) (λ id. keeps_command (i.delete id) (takes.delete id)) asks
   on_document i takes resource segment query body Post asks = absurd asks
@@ -190,7 +211,8 @@ module _ (a : Ask) where
   on_asset segment body Delete asks = absurd asks
 
   on_references : (segment query body : List ℕ) (method : Method) → Keeps (AsksReferences segment query body method)
-  on_references segment query body Get asks = told_right a (shown a segment ReferencesOf query (λ id g. question.ReferencesOf id (span_of g)) asks)
+  on_references segment query body Get asks =
+      told_right a (shown a segment ReferencesOf query (λ id g. question.ReferencesOf id (span_of g)) asks)
   on_references segment query body Post asks =
       by_id IsRight a segment (λ id. ByBody references limits body (λ r. Ok (Act (AddReference id r))))
       (λ id. by_body references limits body (λ r. Ok (Act (AddReference id r)))
@@ -211,8 +233,10 @@ module _ (a : Ask) where
 
   replaces : (id : List ℕ) (path : Path) (body : List ℕ) → KeepsRule path.steps → Keeps (Replaces id path body)
   replaces id path body rule =
-      by_body elements (at_level (length path.steps)) body (λ e. if_same (has_last (last_or None path.steps) e) (Act (ReplaceElement id path e)))
-      (λ e whole is. by_same (has_last (last_or None path.steps) e) (Act (ReplaceElement id path e)) a is (λ _. (takes_element id path e rule whole, tt)))
+      by_body elements (at_level (length path.steps)) body (λ e.
+      if_same (has_last (last_or None path.steps) e) (Act (ReplaceElement id path e)))
+      (λ e whole is. by_same (has_last (last_or None path.steps) e) (Act (ReplaceElement id path e)) a is (λ _.
+      (takes_element id path e rule whole, tt)))
 
   updates : (id : List ℕ) (path : Path) (body : List ℕ) → IsPlace path.steps → Keeps (Updates id path body)
   updates id path body place =
@@ -221,19 +245,24 @@ module _ (a : Ask) where
 
   on_elements : (segment query body : List ℕ) (method : Method) → Keeps (AsksElements segment query body method)
   on_elements segment query body Get asks =
-      told_right a (shown a segment Elements query (λ id g. question.Elements id (span_of g) (level_of g) (extent_of g)) asks)
-  on_elements segment query body Post asks = by_id IsRight a segment (λ id. Inserts id root body) (λ id. inserts id root body tt) asks
+      told_right a
+      (shown a segment Elements query (λ id g. question.Elements id (span_of g) (level_of g) (extent_of g)) asks)
+  on_elements segment query body Post asks =
+      by_id IsRight a segment (λ id. Inserts id root body) (λ id. inserts id root body tt) asks
   on_elements segment query body Put asks = absurd asks
   on_elements segment query body Patch asks = absurd asks
   on_elements segment query body Delete asks = absurd asks
 
   on_element : (t : Texts) (query body : List ℕ) (method : Method) → Keeps (AsksElement t query body method)
-  on_element t query body Get asks = told_right a (shown_at a t Element query (λ id p g. question.Element id p (level_of g) (extent_of g)) asks)
+  on_element t query body Get asks =
+      told_right a (shown_at a t Element query (λ id p g. question.Element id p (level_of g) (extent_of g)) asks)
   on_element t query body Post asks =
       at_element IsRight a t (λ id p. Inserts id p body) (λ id p rule. inserts id p body (is_place p.steps rule)) asks
-  on_element t query body Put asks = at_element IsRight a t (λ id p. Replaces id p body) (λ id p rule. replaces id p body rule) asks
+  on_element t query body Put asks =
+      at_element IsRight a t (λ id p. Replaces id p body) (λ id p rule. replaces id p body rule) asks
   on_element t query body Delete asks =
-      at_element IsRight a t (λ id p. IsCommand (DeleteElement id p)) (λ id p rule. keeps_command (DeleteElement id p) (takes_removal id p rule)) asks
+      at_element IsRight a t (λ id p. IsCommand (DeleteElement id p))
+      (λ id p rule. keeps_command (DeleteElement id p) (takes_removal id p rule)) asks
   on_element t query body Patch asks = absurd asks
 
   -- ---- metadata
@@ -242,7 +271,8 @@ module _ (a : Ask) where
   on_submodel_metadata segment body Get asks = told_right a (told a segment question.SubmodelMetadata asks)
   on_submodel_metadata segment body Patch asks =
       by_id IsRight a segment (λ id. DescribesSubmodel id body)
-      (λ id. by_body submodel_metadata_forms limits body (λ d. if_same (bytes_eq id d.head.id) (Describe (metadata.Submodel d)))
+      (λ id. by_body submodel_metadata_forms limits body (λ d.
+      if_same (bytes_eq id d.head.id) (Describe (metadata.Submodel d)))
       (λ d whole is. by_same (bytes_eq id d.head.id) (Describe (metadata.Submodel d)) a is (λ _. (whole, tt)))) asks
   on_submodel_metadata segment body Post asks = absurd asks
   on_submodel_metadata segment body Put asks = absurd asks
@@ -252,23 +282,30 @@ module _ (a : Ask) where
   on_element_metadata t body Get asks = told_right a (told_at a t question.ElementMetadata asks)
   on_element_metadata t body Patch asks =
       at_element IsRight a t (λ id p. DescribesElement id p body)
-      (λ id p rule. by_body metadata_forms limits body (λ e. if_same (has_last (last_or None p.steps) e) (Describe (metadata.Element id p e)))
-      (λ e whole is. by_same (has_last (last_or None p.steps) e) (Describe (metadata.Element id p e)) a is (λ same. ((rule, whole), same)))) asks
+      (λ id p rule. by_body metadata_forms limits body (λ e.
+      if_same (has_last (last_or None p.steps) e) (Describe (metadata.Element id p e)))
+      (λ e whole is. by_same (has_last (last_or None p.steps) e) (Describe (metadata.Element id p e)) a is (λ same.
+      ((rule, whole), same))))
+      asks
   on_element_metadata t body Post asks = absurd asks
   on_element_metadata t body Put asks = absurd asks
   on_element_metadata t body Delete asks = absurd asks
 
-  on_submodel_value : (segment query body : List ℕ) (method : Method) → Keeps (AsksSubmodelValue segment query body method)
+  on_submodel_value : (segment query body : List ℕ) (method : Method)
+      → Keeps (AsksSubmodelValue segment query body method)
   on_submodel_value segment query body Get asks =
-      told_right a (shown a segment SubmodelValue query (λ id g. question.SubmodelValue id (level_of g) (extent_of g)) asks)
-  on_submodel_value segment query body Patch asks = by_id IsRight a segment (λ id. Updates id root body) (λ id. updates id root body tt) asks
+      told_right a
+      (shown a segment SubmodelValue query (λ id g. question.SubmodelValue id (level_of g) (extent_of g)) asks)
+  on_submodel_value segment query body Patch asks =
+      by_id IsRight a segment (λ id. Updates id root body) (λ id. updates id root body tt) asks
   on_submodel_value segment query body Post asks = absurd asks
   on_submodel_value segment query body Put asks = absurd asks
   on_submodel_value segment query body Delete asks = absurd asks
 
   on_element_value : (t : Texts) (query body : List ℕ) (method : Method) → Keeps (AsksElementValue t query body method)
   on_element_value t query body Get asks =
-      told_right a (shown_at a t ElementValue query (λ id p g. question.ElementValue id p (level_of g) (extent_of g)) asks)
+      told_right a
+      (shown_at a t ElementValue query (λ id p g. question.ElementValue id p (level_of g) (extent_of g)) asks)
   on_element_value t query body Patch asks =
       at_element IsRight a t (λ id p. Updates id p body) (λ id p rule. updates id p body (is_place p.steps rule)) asks
   on_element_value t query body Post asks = absurd asks
@@ -284,7 +321,8 @@ module _ (a : Ask) where
   on_resource AssetInformation t query body = on_asset t.id body
   on_resource ReferencesOf t query body = on_references t.id query body
   on_resource ReferencesTo t query body =
-      λ m. by_id IsRight a t.id (λ shell. ById t.submodel (λ submodel. IsCommand (DropReference shell submodel))) (drops t.submodel)
+      λ m. by_id IsRight a t.id
+      (λ shell. ById t.submodel (λ submodel. IsCommand (DropReference shell submodel))) (drops t.submodel)
   on_resource Submodels t query body = on_collection submodel_interface takes_submodels Submodels query body
   on_resource Submodel t query body = on_document submodel_interface takes_submodels Submodel t.id query body
   on_resource SubmodelMetadata t query body = on_submodel_metadata t.id body
@@ -300,7 +338,8 @@ module _ (a : Ask) where
 
 -- ---- requests
 
-asks_right : (m : Message) (through : Option (List ℕ)) (ask : Ask) → IsAsked m (Ok (record { through = through; ask = ask })) → IsRight ask
+asks_right : (m : Message) (through : Option (List ℕ)) (ask : Ask)
+    → IsAsked m (Ok (record { through = through; ask = ask })) → IsRight ask
 asks_right m through ask =
     by_request IsRight through ask m
     (λ found method is b. on_resource b found.resource found.texts (query_in m.target) m.body method)
@@ -308,10 +347,12 @@ asks_right m through ask =
 pub asks_well_formed : AsksWellFormed
 asks_well_formed m through ask asked = (asks_right m through ask asked).0
 
-pub asks_well : (m : Message) (through : Option (List ℕ)) (ask : Ask) → IsAsked m (Ok (record { through = through; ask = ask }))
+pub asks_well : (m : Message) (through : Option (List ℕ)) (ask : Ask)
+    → IsAsked m (Ok (record { through = through; ask = ask }))
     → IsWellFormedAsk ask
 asks_well m through ask asked = asks_well_formed m through ask asked
 
-pub asks_named : (m : Message) (through : Option (List ℕ)) (ask : Ask) → IsAsked m (Ok (record { through = through; ask = ask }))
+pub asks_named : (m : Message) (through : Option (List ℕ)) (ask : Ask)
+    → IsAsked m (Ok (record { through = through; ask = ask }))
     → IsNamed ask
 asks_named m through ask asked = (asks_right m through ask asked).1

@@ -1,5 +1,6 @@
--- The command by which metadata is put in the place of what there is, or why there is none (IDTA-01002-3-0, operations PatchSubmodel and
--- PatchSubmodelElementByPath, Metadata). Causes are tried in this order: what it is for isn't there; it is of another kind or value type. This profile's own rule.
+-- The command by which metadata is put in the place of what there is, or why there is none (IDTA-01002-3-0, operations
+-- PatchSubmodel and PatchSubmodelElementByPath, Metadata). Causes are tried in this order: what it is for isn't there;
+-- it is of another kind or value type. This profile's own rule.
 use Rattle.std.specs.Prelude.{◌≡◌, ◌⊎◌, ℕ, List, take, Option, Some, None, Result, Ok, Err}
 use Rattle.std.specs.FinMap as map
 use Rattle.std.specs.Str.{encode_utf8_all}
@@ -41,5 +42,7 @@ abbrev pub InSubmodel : Documents → List ℕ → (Submodel → Described → T
 InSubmodel d id = ByFound (map.get d.submodels (encode_utf8_all id)) (NotFound absent.Submodel)
 
 abbrev pub IsDescribed : Documents → Metadata → Described → Type 0
-IsDescribed d (metadata.Submodel m) = InSubmodel d m.head.id (λ s command. command ≡ Ok (ReplaceSubmodel (with_submodel_metadata s m)))
-IsDescribed d (metadata.Element id p m) = InSubmodel d id (λ s. ByFound (element_at s p.steps) (no_element s p) (PutsElement id p m))
+IsDescribed d (metadata.Submodel m) =
+    InSubmodel d m.head.id (λ s command. command ≡ Ok (ReplaceSubmodel (with_submodel_metadata s m)))
+IsDescribed d (metadata.Element id p m) =
+    InSubmodel d id (λ s. ByFound (element_at s p.steps) (no_element s p) (PutsElement id p m))

@@ -23,16 +23,19 @@ use Rattle.aas_api_service.specs.WellFormed.{IsWellFormedAsk, IsWellFormedMetada
 -- where documents are valid, a request comes to one thing alone
 abbrev pub OneOutcome : Type 0
 OneOutcome =
-    (room : Room) (r : Repository Documents) (m : Message) (x y : Outcome Documents Reply) → AreValid r.documents → Turns room r m x
+    (room : Room) (r : Repository Documents) (m : Message) (x y : Outcome Documents Reply)
+    → AreValid r.documents → Turns room r m x
     → Turns room r m y → x ≡ y
 
 -- the command or the metadata that a request asks for is well formed
 abbrev pub AsksWellFormed : Type 0
-AsksWellFormed = (m : Message) (through : Option (List ℕ)) (ask : Ask) → IsAsked m (Ok (record { through = through; ask = ask })) → IsWellFormedAsk ask
+AsksWellFormed = (m : Message) (through : Option (List ℕ)) (ask : Ask)
+    → IsAsked m (Ok (record { through = through; ask = ask })) → IsWellFormedAsk ask
 
 -- in valid documents metadata that is well formed is put by a command that is
 abbrev pub DescribedIsWellFormed : Type 0
-DescribedIsWellFormed = (d : Documents) (m : Metadata) (c : Command) → AreValid d → IsWellFormedMetadata m → IsDescribed d m (Ok c) → IsWellFormed c
+DescribedIsWellFormed = (d : Documents) (m : Metadata) (c : Command)
+    → AreValid d → IsWellFormedMetadata m → IsDescribed d m (Ok c) → IsWellFormed c
 
 -- the turns of a session leave every constraint true
 abbrev pub SessionsStayValid : Type 0

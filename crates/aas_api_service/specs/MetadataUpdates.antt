@@ -1,5 +1,6 @@
--- What an accepted update of metadata leaves (IDTA-01002-3-0, operations PatchSubmodel and PatchSubmodelElementByPath, Metadata): the metadata form is the one that
--- was sent, each value form is as before, and at every other path nothing is another.
+-- What an accepted update of metadata leaves (IDTA-01002-3-0, operations PatchSubmodel and PatchSubmodelElementByPath,
+-- Metadata): the metadata form is the one that was sent, each value form is as before, and at every other path nothing
+-- is another.
 use Rattle.std.specs.Prelude.{◌≡◌, ℕ, List, Option, Some, Ok}
 use Rattle.std.specs.FinMap as map
 use Rattle.std.specs.Str.{encode_utf8_all}
@@ -31,7 +32,8 @@ use Rattle.aas_api_service.specs.Turns.{Turns}
 abbrev pub describing : Option (List ℕ) → Metadata → Call
 describing through m = record { through = through; ask = Describe m }
 
--- the documents of an outcome are those of before, but for the metadata of the element to which a path leads in a submodel
+-- the documents of an outcome are those of before, but for the
+-- metadata of the element to which a path leads in a submodel
 pub record PutsAtElement (d new : Documents) (id : List ℕ) (p : Path) (m : Element) : Type 0 where
   pub submodel : Submodel
   pub there : map.get d.submodels (encode_utf8_all id) ≡ Some submodel
@@ -40,7 +42,8 @@ pub record PutsAtElement (d new : Documents) (id : List ℕ) (p : Path) (m : Ele
   pub documents : new ≡ with_submodel d (with_element submodel p.steps (with_metadata element m))
   pub form : with_role (metadata_form (with_metadata element m)) Member ≡ m
   pub value : (x : Extent) → value_form x (with_metadata element m) ≡ value_form x element
-  pub only : OnlyThere submodel (with_element submodel p.steps (with_metadata element m)) p.steps (with_metadata element m)
+  pub only : OnlyThere submodel
+      (with_element submodel p.steps (with_metadata element m)) p.steps (with_metadata element m)
 
 -- but for the metadata of a submodel
 pub record PutsAtSubmodel (d new : Documents) (m : Submodel) : Type 0 where
@@ -52,9 +55,13 @@ pub record PutsAtSubmodel (d new : Documents) (m : Submodel) : Type 0 where
 
 -- A request that asks for metadata to be put, and that is answered 204, does so.
 pub record UpdatesPutMetadata : Type 0 where
-  pub element : (room : Room) (r : Repository Documents) (message : Message) (through : Option (List ℕ)) (id : List ℕ) (p : Path) (m : Element)
-      (outcome : Outcome Documents Reply) → AreValid r.documents → IsAsked message (Ok (describing through (metadata.Element id p m))) → Turns room r message outcome
+  pub element : (room : Room) (r : Repository Documents) (message : Message)
+      (through : Option (List ℕ)) (id : List ℕ) (p : Path) (m : Element)
+      (outcome : Outcome Documents Reply) → AreValid r.documents
+      → IsAsked message (Ok (describing through (metadata.Element id p m))) → Turns room r message outcome
       → outcome.reply.status ≡ 204 → PutsAtElement r.documents outcome.documents id p m
-  pub submodel : (room : Room) (r : Repository Documents) (message : Message) (through : Option (List ℕ)) (m : Submodel) (outcome : Outcome Documents Reply)
-      → AreValid r.documents → IsAsked message (Ok (describing through (metadata.Submodel m))) → Turns room r message outcome → outcome.reply.status ≡ 204
+  pub submodel : (room : Room) (r : Repository Documents) (message : Message)
+      (through : Option (List ℕ)) (m : Submodel) (outcome : Outcome Documents Reply)
+      → AreValid r.documents → IsAsked message (Ok (describing through (metadata.Submodel m)))
+      → Turns room r message outcome → outcome.reply.status ≡ 204
       → PutsAtSubmodel r.documents outcome.documents m

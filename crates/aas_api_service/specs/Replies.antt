@@ -1,5 +1,5 @@
--- The replies of refusals, with their statuses and bodies (IDTA-01002-3-0, class Result with its messages). Which status a refusal has is
--- this profile's own rule, by RFC 9110, section 15.
+-- The replies of refusals, with their statuses and bodies (IDTA-01002-3-0, class Result with its messages). Which
+-- status a refusal has is this profile's own rule, by RFC 9110, section 15.
 use Rattle.std.specs.Prelude.{ℕ, List, [], codes, decimal, false}
 use Rattle.serde_json.specs.Data.{Data, string, array, object, no_items, item, no_members, member}
 use Rattle.serde_json.specs.Written.{compact_text}

@@ -1,13 +1,15 @@
--- What a request comes to in a repository (IDTA-01002-3-0, HTTP/REST API): it is refused, or a question is answered, or a command is done.
--- Which status and which body a reply has is this profile's own rule.
-use Rattle.std.specs.Prelude.{◌≡◌, ◌^◌, ℕ, nat_lt, List, [], ◌∷◌, length, false, Option, Some, None, Result, Ok, Err, ⊤, if◌then◌else◌}
+-- What a request comes to in a repository (IDTA-01002-3-0, HTTP/REST API): it is refused, or a question is answered, or
+-- a command is done. Which status and which body a reply has is this profile's own rule.
+use Rattle.std.specs.Prelude.{◌≡◌, ◌^◌, ℕ, nat_lt, List, [], ◌∷◌, length, false, Option, Some, None, Result, Ok, Err}
+use Rattle.std.specs.Prelude.{⊤, if◌then◌else◌}
 use Rattle.aas_json_spelling.specs.Spells.{canonical_text}
 use Rattle.aas_json_mapping.specs.Trees.{concepts, elements, shells, submodels}
 use Rattle.aas_reference.specs.Trees.{references}
 use Rattle.aas_command.specs.Commands.{IsWellFormed, payload_of}
 use Rattle.aas_command.specs.Encoding.{HasFields}
 use Rattle.aas_command.specs.declared.command.Command.{Command}
-use Rattle.aas_command.specs.declared.command.Command.TheVariants.{CreateShell, CreateSubmodel, CreateConcept, AddReference, InsertElement}
+use Rattle.aas_command.specs.declared.command.Command.TheVariants.{CreateShell, CreateSubmodel, CreateConcept}
+use Rattle.aas_command.specs.declared.command.Command.TheVariants.{AddReference, InsertElement}
 use Rattle.aas_command.specs.declared.refusal.Refusal.{Refusal}
 use Rattle.aas_http.specs.FirstRequest.{Message}
 use Rattle.aas_http.specs.declared.replies.Reply.{Reply}
@@ -67,7 +69,8 @@ CanBeRead c (accepted new) = HasFields c
 
 -- a command comes to
 abbrev pub ActComesTo : Room → Repository Documents → Command → Outcome Documents Reply → Type 0
-ActComesTo room r c outcome = (result : StepResult) × Steps room r c result × CanBeRead c result × (outcome ≡ outcome_of r c result)
+ActComesTo room r c outcome =
+    (result : StepResult) × Steps room r c result × CanBeRead c result × (outcome ≡ outcome_of r c result)
 
 -- the command by which metadata is put, which is well formed, comes to; or the reply of the refusal
 abbrev pub DescribedComesTo : Room → Repository Documents → Described → Outcome Documents Reply → Type 0
@@ -78,7 +81,8 @@ DescribedComesTo room r (Ok c) outcome = IsWellFormed c × ActComesTo room r c o
 unfoldable pub AskComesTo : Room → Repository Documents → Ask → Outcome Documents Reply → Type 0
 AskComesTo room r (Answer q) outcome = outcome ≡ unchanged r (answer_reply q (answer_of r.documents q))
 AskComesTo room r (Act c) outcome = ActComesTo room r c outcome
-AskComesTo room r (Describe m) outcome = (command : Described) × IsDescribed r.documents m command × DescribedComesTo room r command outcome
+AskComesTo room r (Describe m) outcome =
+    (command : Described) × IsDescribed r.documents m command × DescribedComesTo room r command outcome
 
 -- why a submodel isn't reached through a shell, if it is asked about through one
 abbrev pub unreached : Documents → Option (List ℕ) → Option (List ℕ) → Cause

@@ -43,7 +43,8 @@ fn described_submodel<S: Store>(
     store: &S,
     form: &Boxed<Submodel>,
 ) -> Result<Command, Refusal>
-    ensures { (result ≡ Err refused.NoMemory) ⊎ IsDescribed (S.documents store.now) (metadata.Submodel form.now) result }
+    ensures { (result ≡ Err refused.NoMemory)
+        ⊎ IsDescribed (S.documents store.now) (metadata.Submodel form.now) result }
 {
     let Some(submodel) = store.submodel(form.get().head.id.as_str())? else {
         return Err(Refusal::NotFound {
@@ -63,7 +64,8 @@ fn described_element<S: Store>(
     path: Path,
     form: &Boxed<Element>,
 ) -> Result<Command, Refusal>
-    ensures { (result ≡ Err refused.NoMemory) ⊎ IsDescribed (S.documents store.now) (metadata.Element submodel path form.now) result }
+    ensures { (result ≡ Err refused.NoMemory)
+        ⊎ IsDescribed (S.documents store.now) (metadata.Element submodel path form.now) result }
 {
     match store.element(submodel.as_str(), &path) {
         Ok(element) => described_by(alloc, submodel, path, &element, form.get()),

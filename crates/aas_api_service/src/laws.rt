@@ -1,5 +1,6 @@
 // The functions here do nothing: their contracts are the laws of requests and sessions.
-ghost use Rattle.aas_api_service.specs.Laws.{AsksWellFormed, DescribedIsWellFormed, OneOutcome, OwnRepliesAreOfRefusals, SessionsStayValid};
+ghost use Rattle.aas_api_service.specs.Laws.{AsksWellFormed, DescribedIsWellFormed, OneOutcome};
+ghost use Rattle.aas_api_service.specs.Laws.{OwnRepliesAreOfRefusals, SessionsStayValid};
 ghost use Rattle.aas_api_service.specs.MetadataUpdates.{UpdatesPutMetadata};
 
 use aas_edit_faults::inserted_elements_have_the_faults;

@@ -1,5 +1,5 @@
 // Questions answered: the answer of a plan is counted, and poured behind its reply; every other stands in its reply.
-ghost use Rattle.std.specs.Prelude.{◌≡◌, ◌≢◌, ◌↔◌, ℕ, Bool, List, length, false, true, Err, IfOk, IsSome};
+ghost use Rattle.std.specs.Prelude.{◌≡◌, ◌≢◌, ◌↔◌, ℕ, Bool, List, length, true, Err, IfOk, IsSome};
 ghost use Rattle.aas_answer.specs.Answers.{answer_of};
 ghost use Rattle.aas_answer.specs.Plans.{is_planned, plan_text};
 ghost use Rattle.aas_http.specs.ReplyText.{phrase};
@@ -29,7 +29,8 @@ pub(crate) fn tell<S: Lookup>(
     question: &Question,
 ) -> Result<Answer<Plan>, Stop>
     requires { AreValid (S.documents store.now) }
-    ensures told { IsReply (answer_reply question.now (answer_of (S.documents store.now) question.now)) (whole_of (S.documents store.now) result) }
+    ensures told { IsReply (answer_reply question.now (answer_of (S.documents store.now) question.now))
+        (whole_of (S.documents store.now) result) }
     ensures planned { IfOk result (HasPlan (is_planned question.now)) }
     ensures measured { IfOk result (IsMeasured (plan_text (S.documents store.now))) }
     ensures phrase { IfOk result (λ answer. IsSome (phrase answer.reply.status)) }
@@ -44,7 +45,8 @@ pub(crate) fn tell<S: Lookup>(
 /// What is answered by a plan, unless that is too long.
 fn tell_planned<S: Store>(alloc: Global, store: &S, plan: Plan) -> Result<Answer<Plan>, Stop>
     requires { AreValid (S.documents store.now) }
-    ensures told { IsReply (counted_reply (plan_text (S.documents store.now) plan)) (whole_of (S.documents store.now) result) }
+    ensures told { IsReply (counted_reply (plan_text (S.documents store.now) plan))
+        (whole_of (S.documents store.now) result) }
     ensures planned { IfOk result (HasPlan true) }
     ensures measured { IfOk result (IsMeasured (plan_text (S.documents store.now))) }
     ensures phrase { IfOk result (λ answer. IsSome (phrase answer.reply.status)) }
@@ -90,10 +92,12 @@ fn refuse_long(alloc: Global) -> Result<Reply, Stop>
 pub(crate) fn whole(reply: Result<Reply, Stop>) -> Result<Answer<Plan>, Stop>
     requires { IfOk reply (λ reply. reply.later ≡ 0) }
     ensures whole { (poured : Plan → List ℕ) → whole_replies poured result ≡ reply }
-    ensures planned { (planned : Bool) → (planned ≡ true → IfOk reply (λ reply. reply.status ≢ 200)) → IfOk result (HasPlan planned) }
+    ensures planned { (planned : Bool) → (planned ≡ true → IfOk reply (λ reply. reply.status ≢ 200))
+        → IfOk result (HasPlan planned) }
     ensures fault { (result ≡ Err Stop.StorageFault) ↔ (reply ≡ Err Stop.StorageFault) }
     ensures measured { (poured : Plan → List ℕ) → IfOk result (IsMeasured poured) }
-    ensures phrase { IfOk reply (λ reply. IsSome (phrase reply.status)) → IfOk result (λ answer. IsSome (phrase answer.reply.status)) }
+    ensures phrase { IfOk reply (λ reply. IsSome (phrase reply.status))
+        → IfOk result (λ answer. IsSome (phrase answer.reply.status)) }
 {
     match reply {
         Ok(reply) => Ok(Answer { reply, plan: None }),

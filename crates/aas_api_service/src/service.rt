@@ -87,9 +87,9 @@ impl<S: Lookup, K: Keeper> Machine for Service<S, K> {
     }
 }
 
-/// Does what is asked, unless it is asked through a shell that doesn't reach the submodel, and answers the reply, whose `close`
-/// is false, and what is poured behind its body. The success reply to a command is made before the command is taken, so that
-/// nothing is kept which can't be answered.
+/// Does what is asked, unless it is asked through a shell that doesn't reach the submodel, and answers the reply, whose
+/// `close` is false, and what is poured behind its body. The success reply to a command is made before the command is
+/// taken, so that nothing is kept which can't be answered.
 ///
 /// # Errors
 ///
@@ -110,9 +110,11 @@ pub fn answer<S: Lookup, K: Keeper>(
     ensures planned { IfOk result (HasPlan (is_planned_ask call.ask)) }
     ensures reply { IfOk result (λ answer. IsSome (phrase answer.reply.status)) }
     ensures room { K.room_behind repo.new.keeper ≡ K.room_behind repo.old.keeper }
-    ensures past { PassesTo (state_of K.kept K.moment K.left_at repo.old) (state_of K.kept K.moment K.left_at repo.new) }
+    ensures past { PassesTo (state_of K.kept K.moment K.left_at repo.old)
+        (state_of K.kept K.moment K.left_at repo.new) }
     ensures stopped { result ≢ Err StorageFault → repo.new.stopped ≡ false }
     ensures later { K.faults repo.old.keeper ≤ K.faults repo.new.keeper }
+    ensures calm { result ≢ Err StorageFault → K.faults repo.new.keeper ≡ K.faults repo.old.keeper }
     ensures fault { result ≡ Err StorageFault → Rose (K.faults repo.old.keeper) (K.faults repo.new.keeper) }
     ensures unchanged { (q : Question) → call.ask ≡ Ask.Answer q → (repo.new ≡ repo.old) × (result ≢ Err StorageFault) }
 {
@@ -152,9 +154,11 @@ fn answer_ask<S: Lookup, K: Keeper>(
     ensures planned { IfOk result (HasPlan (is_planned_ask ask)) }
     ensures reply { IfOk result (λ answer. IsSome (phrase answer.reply.status)) }
     ensures room { K.room_behind repo.new.keeper ≡ K.room_behind repo.old.keeper }
-    ensures past { PassesTo (state_of K.kept K.moment K.left_at repo.old) (state_of K.kept K.moment K.left_at repo.new) }
+    ensures past { PassesTo (state_of K.kept K.moment K.left_at repo.old)
+        (state_of K.kept K.moment K.left_at repo.new) }
     ensures stopped { result ≢ Err StorageFault → repo.new.stopped ≡ false }
     ensures later { K.faults repo.old.keeper ≤ K.faults repo.new.keeper }
+    ensures calm { result ≢ Err StorageFault → K.faults repo.new.keeper ≡ K.faults repo.old.keeper }
     ensures fault { result ≡ Err StorageFault → Rose (K.faults repo.old.keeper) (K.faults repo.new.keeper) }
     ensures unchanged { (q : Question) → ask ≡ Ask.Answer q → (repo.new ≡ repo.old) × (result ≢ Err StorageFault) }
 {
@@ -181,9 +185,11 @@ fn describe<S: Store, K: Keeper>(
     ensures reply { IfOk result (λ reply. IsSome (phrase reply.status)) }
     ensures no_more { IfOk result (λ reply. reply.later ≡ 0) }
     ensures room { K.room_behind repo.new.keeper ≡ K.room_behind repo.old.keeper }
-    ensures past { PassesTo (state_of K.kept K.moment K.left_at repo.old) (state_of K.kept K.moment K.left_at repo.new) }
+    ensures past { PassesTo (state_of K.kept K.moment K.left_at repo.old)
+        (state_of K.kept K.moment K.left_at repo.new) }
     ensures stopped { result ≢ Err StorageFault → repo.new.stopped ≡ false }
     ensures later { K.faults repo.old.keeper ≤ K.faults repo.new.keeper }
+    ensures calm { result ≢ Err StorageFault → K.faults repo.new.keeper ≡ K.faults repo.old.keeper }
     ensures fault { result ≡ Err StorageFault → Rose (K.faults repo.old.keeper) (K.faults repo.new.keeper) }
 {
     match described(alloc, repo.store(), metadata) {
@@ -208,9 +214,11 @@ fn act<S: Store, K: Keeper>(
     ensures reply { IfOk result (λ reply. IsSome (phrase reply.status)) }
     ensures no_more { IfOk result (λ reply. reply.later ≡ 0) }
     ensures room { K.room_behind repo.new.keeper ≡ K.room_behind repo.old.keeper }
-    ensures past { PassesTo (state_of K.kept K.moment K.left_at repo.old) (state_of K.kept K.moment K.left_at repo.new) }
+    ensures past { PassesTo (state_of K.kept K.moment K.left_at repo.old)
+        (state_of K.kept K.moment K.left_at repo.new) }
     ensures stopped { result ≢ Err StorageFault → repo.new.stopped ≡ false }
     ensures later { K.faults repo.old.keeper ≤ K.faults repo.new.keeper }
+    ensures calm { result ≢ Err StorageFault → K.faults repo.new.keeper ≡ K.faults repo.old.keeper }
     ensures fault { result ≡ Err StorageFault → Rose (K.faults repo.old.keeper) (K.faults repo.new.keeper) }
 {
     match success(alloc, &command) {

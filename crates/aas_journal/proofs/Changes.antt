@@ -1,5 +1,6 @@
 -- Calls of a disk that change one file alone.
-use Rattle.std.proofs.Common.{◌≡◌, ⊎_elim, ℕ, ◌+◌, List, ◌++◌, Option, Some, None, length, take, drop, refl, sym, ◌∙◌, ap, ap₂, subst, arith, append_assoc, length-append}
+use Rattle.std.proofs.Common.{◌≡◌, ⊎_elim, ℕ, ◌+◌, List, ◌++◌, Option, Some, None, length, take, drop, refl, sym, ◌∙◌}
+use Rattle.std.proofs.Common.{ap, ap₂, subst, arith, append_assoc, length-append}
 use Rattle.std.proofs.lemmas.Bool.{cases_lt}
 use Rattle.std.proofs.lemmas.List.{drop-drop, drop_at, take_at}
 use Rattle.std.proofs.lemmas.Result.{on_ok_weaker}
@@ -30,7 +31,8 @@ module _ (part : Part) {a b : ℕ} {old mid : ℕ → Files → Type 0} (first :
       let from = tears t since until 0 (λ d h. omega arith) c left in
       (from.0, from.1, from.2)
 
-  pub changes_then : {c : ℕ} {new : ℕ → Files → Type 0} → Meanwhile a b old mid (ChangesOnly part) → Passes b mid c new → Meanwhile b c mid new (ChangesOnly part) → Meanwhile a c old new (ChangesOnly part)
+  pub changes_then : {c : ℕ} {new : ℕ → Files → Type 0} → Meanwhile a b old mid (ChangesOnly part)
+      → Passes b mid c new → Meanwhile b c mid new (ChangesOnly part) → Meanwhile a c old new (ChangesOnly part)
   changes_then changes second then t since until f left = ⊎_elim
       (λ low. changes t since (omega (arith, low)) f ((second.past t (omega (arith, low)) f).0 left))
       (λ high.
@@ -39,14 +41,16 @@ module _ (part : Part) {a b : ℕ} {old mid : ℕ → Files → Type 0} (first :
       (early.0, early.1, others_then part early.0 late.0 f early.2 late.2))
       (cases_lt t b)
 
-becomes_then : (P Q R : Files → Files → Type 0) (old mid new : Option Files) → Becomes old mid P → Becomes mid new Q → ((a b c : Files) → P a b → Q b c → R a c) → Becomes old new R
+becomes_then : (P Q R : Files → Files → Type 0) (old mid new : Option Files)
+    → Becomes old mid P → Becomes mid new Q → ((a b c : Files) → P a b → Q b c → R a c) → Becomes old new R
 becomes_then P Q R None mid new first then both = subst (λ (k : Option Files). Becomes k new Q) first then
 becomes_then P Q R (Some a) None new first then both = absurd first
 becomes_then P Q R (Some a) (Some b) None first then both = absurd then
 becomes_then P Q R (Some a) (Some b) (Some c) first then both = both a b c first then
 
 -- two writes, one behind the other
-written_twice : (n : ℕ) (front bytes file : List ℕ) → length front ≡ n → written n bytes (written 0 front file) ≡ written 0 (front ++ bytes) file
+written_twice : (n : ℕ) (front bytes file : List ℕ)
+    → length front ≡ n → written n bytes (written 0 front file) ≡ written 0 (front ++ bytes) file
 written_twice n front bytes file size =
     let behind = drop (0 + length front) file in
     let low : take n (front ++ behind) ≡ front = take_at front behind n size in
@@ -55,15 +59,19 @@ written_twice n front bytes file size =
     ∙ ap (λ (l : List ℕ). drop (length bytes) l) (drop_at front behind n size)
     ∙ drop-drop (length bytes) (0 + length front) file
     ∙ ap (λ (k : ℕ). drop k file) (omega (arith, length-append front bytes)) in
-    ap₂ (λ (a b : List ℕ). a ++ (bytes ++ b)) low high ∙ sym (append_assoc front bytes (drop (0 + length (front ++ bytes)) file))
+    ap₂ (λ (a b : List ℕ). a ++ (bytes ++ b)) low high
+    ∙ sym (append_assoc front bytes (drop (0 + length (front ++ bytes)) file))
 
-pub rewrites_twice : {E : Type 0} (F : Type 0) (part : Part) (n : ℕ) (front bytes : List ℕ) (old mid new : Option Files) (result : Result (Unit {0}) E) → length front ≡ n → Writes {E = F} part 0 front old mid (Ok tt)
+pub rewrites_twice : {E : Type 0} (F : Type 0) (part : Part) (n : ℕ)
+    (front bytes : List ℕ) (old mid new : Option Files) (result : Result (Unit {0}) E)
+    → length front ≡ n → Writes {E = F} part 0 front old mid (Ok tt)
     → Writes part n bytes mid new result → Rewrites part (written 0 (front ++ bytes)) old new result
 rewrites_twice F part n front bytes old mid new result size first second =
     becomes_then _ _ _ old mid new first second (λ a b c p q. (
       others_then part a b c p.0 q.0,
       omega (arith, p.1.no_shorter, q.1.no_shorter),
       on_ok_weaker result
-          (λ (is : file part c ≡ written n bytes (file part b)). is ∙ ap (λ (l : List ℕ). written n bytes l) p.2 ∙ written_twice n front bytes (file part a) size)
+          (λ (is : file part c ≡ written n bytes (file part b)).
+          is ∙ ap (λ (l : List ℕ). written n bytes l) p.2 ∙ written_twice n front bytes (file part a) size)
           q.2,
     ))

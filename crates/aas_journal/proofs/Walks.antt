@@ -1,5 +1,6 @@
 -- How far a walk over a file's gates has come.
-use Rattle.std.proofs.Common.{◌≡◌, inr, ℕ, ◌+◌, List, [], ◌∷◌, ◌++◌, length, take, drop, refl, sym, ◌∙◌, ap, arith, append_assoc, length-append, take-append-drop}
+use Rattle.std.proofs.Common.{◌≡◌, inr, ℕ, ◌+◌, List, [], ◌∷◌, ◌++◌, length, take, drop, refl, sym, ◌∙◌, ap, arith}
+use Rattle.std.proofs.Common.{append_assoc, length-append, take-append-drop}
 use Rattle.std.specs.Prelude.{codes}
 use Rattle.std.proofs.lemmas.List.{drop_at, append-nil}
 use Rattle.std.proofs.lemmas.List.Elements.{All-nil}
@@ -29,7 +30,9 @@ begun file known = record {
 }
 
 -- the gate behind one payload more
-pub gate_of-push : (payloads : List (List ℕ)) (payload : List ℕ) → gate_of (payloads ++ payload ∷ []) (length (payloads ++ payload ∷ [])) ≡ gate_of payloads (length payloads) + (5 + length payload)
+pub gate_of-push : (payloads : List (List ℕ)) (payload : List ℕ)
+    → gate_of (payloads ++ payload ∷ []) (length (payloads ++ payload ∷ []))
+    ≡ gate_of payloads (length payloads) + (5 + length payload)
 gate_of-push payloads payload =
     let header = codes "AASJ0002" in
     let known : IsHeader header = inr refl in
@@ -55,13 +58,19 @@ module _ (file : List ℕ) (at : ℕ) (meets : Meets file at) where
       let rest = here.1 in
       let all = meets.payloads ++ payload ∷ [] in
       let one = 1 ∷ (size payload ++ payload) in
-      let place : next ≡ gate_of all (length all) = omega (arith, here.4, meets.at_is, gate_of-push meets.payloads payload) in
+      let place : next ≡ gate_of all (length all) =
+      omega (arith, here.4, meets.at_is, gate_of-push meets.payloads payload) in
       let is : file ≡ (meets.header ++ records all) ++ rest =
-      meets.is ∙ ap (λ (l : List ℕ). front ++ l) (here.3 ∙ ap (λ (l : List ℕ). 1 ∷ l) (sym (append_assoc (size payload) payload rest)))
+      meets.is
+      ∙ ap (λ (l : List ℕ). front ++ l)
+      (here.3 ∙ ap (λ (l : List ℕ). 1 ∷ l) (sym (append_assoc (size payload) payload rest)))
       ∙ sym (append_assoc front one rest)
-      ∙ ap (λ (l : List ℕ). l ++ rest) (append_assoc meets.header (records meets.payloads) one ∙ ap (λ (l : List ℕ). meets.header ++ l) (sym (records-push meets.payloads payload))) in
+      ∙ ap (λ (l : List ℕ). l ++ rest)
+      (append_assoc meets.header (records meets.payloads) one
+      ∙ ap (λ (l : List ℕ). meets.header ++ l) (sym (records-push meets.payloads payload))) in
       let back : drop next file ≡ rest =
-      ap (λ (l : List ℕ). drop next l) is ∙ drop_at (meets.header ++ records all) rest next (sym (place ∙ gate_at_end meets.header all meets.known)) in
+      ap (λ (l : List ℕ). drop next l) is
+      ∙ drop_at (meets.header ++ records all) rest next (sym (place ∙ gate_at_end meets.header all meets.known)) in
       record {
         payloads = all;
         header = meets.header;

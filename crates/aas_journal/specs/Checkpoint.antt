@@ -28,21 +28,27 @@ with_file Main bytes files = record files { main = bytes }
 with_file Spare bytes files = record files { spare = bytes }
 with_file Selector bytes files = record files { selector = bytes }
 
--- The file that wasn't chosen has the payload as its one record, over what stood there, and is chosen. The other one is as before.
+-- The file that wasn't chosen has the payload as its one record,
+-- over what stood there, and is chosen. The other one is as before.
 abbrev pub checkpointed : List ℕ → Files → Files
 checkpointed payload files =
     let part = other (chosen files.selector) in
-    record (with_file part (written 0 (one_record payload) (file part files)) files) { selector = turned files.selector }
+    record (with_file part (written 0 (one_record payload) (file part files)) files) {
+      selector = turned files.selector;
+    }
 
 -- At each moment from one to another a stop leaves an image of one of these two lists of payloads.
-abbrev pub EitherDuring : {I : Type 0} → (I → List (List ℕ) → Type 0) → (ℕ → I → Type 0) → ℕ → ℕ → (a b : List (List ℕ)) → Type 0
+abbrev pub EitherDuring : {I : Type 0}
+    → (I → List (List ℕ) → Type 0) → (ℕ → I → Type 0) → ℕ → ℕ → (a b : List (List ℕ)) → Type 0
 EitherDuring {I} stands_for left_at from to a b =
     (t : ℕ) → from ≤ t → t ≤ to → (image : I) → left_at t image → stands_for image a ⊎ stands_for image b
 
 -- What reads give of this file is changed so at Ok, and no shorter than before at Err. The other two stay.
-abbrev pub Rewrites : {E : Type 0} → Part → (List ℕ → List ℕ) → Option Files → Option Files → Result (Unit {0}) E → Type 0
+abbrev pub Rewrites : {E : Type 0}
+    → Part → (List ℕ → List ℕ) → Option Files → Option Files → Result (Unit {0}) E → Type 0
 Rewrites part change old new result = Becomes old new (λ a b.
-    SameOthers part a b × (length (file part a) ≤ length (file part b)) × OnOk result (file part b ≡ change (file part a)))
+    SameOthers part a b × (length (file part a) ≤ length (file part b))
+    × OnOk result (file part b ≡ change (file part a)))
 
 -- each image is an old one but for this file
 abbrev pub ChangesOnly : Part → (Files → Type 0) → (Files → Type 0) → Type 0

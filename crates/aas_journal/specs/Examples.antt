@@ -18,7 +18,11 @@ abbrev pub one_checkpoint : Files
 one_checkpoint = checkpointed (codes "ab") initial_files
 
 pub goes_to_the_spare : one_checkpoint
-    ≡ record { main = codes "AASJ0002" ++ 0 ∷ []; spare = codes "AASJ0002" ++ 1 ∷ 0 ∷ 0 ∷ 0 ∷ 2 ∷ 97 ∷ 98 ∷ 0 ∷ []; selector = 1 ∷ [] }
+    ≡ record {
+      main = codes "AASJ0002" ++ 0 ∷ [];
+      spare = codes "AASJ0002" ++ 1 ∷ 0 ∷ 0 ∷ 0 ∷ 2 ∷ 97 ∷ 98 ∷ 0 ∷ [];
+      selector = 1 ∷ [];
+    }
 goes_to_the_spare = refl
 
 -- The next one goes to the main file again. What it doesn't reach stays behind the closed gate.
@@ -39,6 +43,8 @@ pub turns_over : turned (255 ∷ 7 ∷ []) ≡ 0 ∷ 7 ∷ []
 turns_over = refl
 
 -- the older header stands in the chosen file until the first checkpoint, and then in the other one
-pub leaves_the_older_form : chosen_file (checkpointed (codes "a") (record initial_files { main = codes "AASJ0001" ++ 0 ∷ [] }))
+pub leaves_the_older_form : chosen_file (checkpointed (codes "a") (record initial_files {
+  main = codes "AASJ0001" ++ 0 ∷ [];
+}))
     ≡ codes "AASJ0002" ++ 1 ∷ 0 ∷ 0 ∷ 0 ∷ 1 ∷ 97 ∷ 0 ∷ []
 leaves_the_older_form = refl

@@ -6,8 +6,8 @@ use Rattle.aas_journal.specs.Image.{IsImage, gate_of}
 use Rattle.aas_journal.specs.declared.walk.Gate.{Gate}
 use Rattle.aas_journal.specs.declared.walk.Gate.TheVariants.{Closed, Open, PastEnd}
 
--- What stands at a gate, and behind it, where these are the bytes from its place on: any other byte than 1; a record, behind
--- which the next gate has this place; or an open gate whose record passes the end.
+-- What stands at a gate, and behind it, where these are the bytes from its place on: any other byte than 1; a record,
+-- behind which the next gate has this place; or an open gate whose record passes the end.
 abbrev pub StandsAt : List ℕ → ℕ → Gate → Type 0
 StandsAt bytes at Closed = (byte : ℕ) × (rest : List ℕ) × (bytes ≡ byte ∷ rest) × (byte ≢ 1)
 StandsAt bytes at (Open next) = (payload : List ℕ) × (rest : List ℕ) × (length payload < 2 ^ 32)

@@ -9,9 +9,10 @@ use Rattle.aas_journal.specs.Image.{gate_of, records}
 abbrev pub record_and_gate : List ℕ → List ℕ
 record_and_gate payload = records (payload ∷ []) ++ 0 ∷ []
 
--- In the chosen file, from the closed gate behind these payloads on, the record and a gate are written over what stood there.
--- At Err these places may hold any bytes. All else is as before.
-abbrev pub WritesRecord : {E : Type 0} → List (List ℕ) → List ℕ → Option Files → Option Files → Result (Unit {0}) E → Type 0
+-- In the chosen file, from the closed gate behind these payloads on, the record and a gate are written over what stood
+-- there. At Err these places may hold any bytes. All else is as before.
+abbrev pub WritesRecord : {E : Type 0}
+    → List (List ℕ) → List ℕ → Option Files → Option Files → Result (Unit {0}) E → Type 0
 WritesRecord payloads payload old new result = IfSome old (λ files.
     Writes (chosen files.selector) (gate_of payloads (length payloads)) (record_and_gate payload) old new result)
 

@@ -7,9 +7,10 @@ use Rattle.aas_outside_disk.specs.declared.part.Part.{Part}
 use Rattle.aas_journal.specs.Bank.{IsBankImage, chosen}
 use Rattle.aas_journal.specs.Image.{gate_of}
 
--- The files are told and are the image of these payloads, and the closed gate behind them stands at this place of this file,
--- which is the chosen one. Whatever a stop now leaves has the same selector.
-pub record Keeps (seen : Option Files) (images : Files → Type 0) (part : Part) (gate : ℕ) (payloads : List (List ℕ)) : Type 0 where
+-- The files are told and are the image of these payloads, and the closed gate behind them stands at this place of this
+-- file, which is the chosen one. Whatever a stop now leaves has the same selector.
+pub record Keeps (seen : Option Files) (images : Files → Type 0) (part : Part) (gate : ℕ) (payloads : List (List ℕ)) :
+    Type 0 where
   pub files : Files
   pub told : seen ≡ Some files
   pub image : IsBankImage files payloads
@@ -28,7 +29,8 @@ fits gate n = nat_le (gate + n + 6) most_bytes
 abbrev pub has_room_behind : List (List ℕ) → ℕ → Bool
 has_room_behind payloads n = fits (gate_of payloads (length payloads)) n
 
-pub room_law : (seen : Option Files) (images : Files → Type 0) (part : Part) (gate : ℕ) (payloads : List (List ℕ)) (n : ℕ)
+pub room_law : (seen : Option Files) (images : Files → Type 0)
+    (part : Part) (gate : ℕ) (payloads : List (List ℕ)) (n : ℕ)
     → Keeps seen images part gate payloads → fits gate n ≡ has_room_behind payloads n
 room_law seen images part gate payloads n keeps = ap (λ (place : ℕ). fits place n) keeps.gate_is
 

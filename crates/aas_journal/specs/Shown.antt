@@ -9,4 +9,5 @@ disk_of journal = journal.disk
 
 abbrev pub kept_by : {D : Type 0} {ghosts : Ghosts D} → Journal D ghosts → List (List ℕ) → Type 0
 kept_by {D} {ghosts} journal =
-    Keeps (ghosts.seen journal.disk) (ghosts.left_at journal.disk (ghosts.moment journal.disk)) journal.part journal.gate
+    Keeps (ghosts.seen journal.disk)
+    (ghosts.left_at journal.disk (ghosts.moment journal.disk)) journal.part journal.gate

@@ -1,7 +1,8 @@
 // How one payload is put in the place of all.
 ghost use Rattle.std.specs.Prelude.{◌≡◌, ◌<◌, ◌≤◌, ◌+◌, ◌↔◌, [], ◌∷◌, List, ℕ, Err, Some, IfSome, OnOk, length};
 ghost use Rattle.aas_journal.specs.Bank.{IsBankImage, chosen, chosen_file};
-ghost use Rattle.aas_journal.specs.Checkpoint.{ChangesOnly, EitherDuring, Rewrites, checkpointed, one_record, other, turned};
+ghost use Rattle.aas_journal.specs.Checkpoint.{ChangesOnly, EitherDuring, Rewrites, checkpointed, one_record};
+ghost use Rattle.aas_journal.specs.Checkpoint.{other, turned};
 ghost use Rattle.aas_journal.specs.Kept.{most_bytes};
 ghost use Rattle.aas_journal.specs.Shown.{disk_of};
 ghost use Rattle.aas_journal.specs.declared.fault.CheckpointFault.TheVariants.{Failed as DiskFailed, Full};
@@ -25,15 +26,15 @@ const BEGINNING: &[u8; 9] = b"AASJ0002\x01";
 const BYTES_BESIDES: u64 = 14;
 
 impl<D: Disk> Journal<D> {
-    /// Puts one payload in the place of all: it is written to the file that isn't chosen, which is then chosen. A stop at any
-    /// moment leaves the payloads from before or the one, and at `Ok` the one. The file that had the payloads stays as it is.
-    /// It takes no memory.
+    /// Puts one payload in the place of all: it is written to the file that isn't chosen, which is then chosen. A stop
+    /// at any moment leaves the payloads from before or the one, and at `Ok` the one. The file that had the payloads
+    /// stays as it is. It takes no memory.
     ///
     /// # Errors
     ///
-    /// `Full`, exactly where the payload's bytes and 14 more are above 268,435,456; nothing is written then. `Failed`, where the
-    /// disk's count of faults rises too; then a stop may leave the payloads from before or the one, and the journal is used no
-    /// more.
+    /// `Full`, exactly where the payload's bytes and 14 more are above 268,435,456; nothing is written then. `Failed`,
+    /// where the disk's count of faults rises too; then a stop may leave the payloads from before or the one, and the
+    /// journal is used no more.
     pub fn checkpoint(&mut self, frame: &Frame) -> Result<(), CheckpointFault>
         // The one payload is kept, and whatever a stop leaves from now on is its image.
         ensures settled { (payloads : List (List ℕ)) → ⟦<Journal<D> as Keeper>⟧.kept self.old payloads →

@@ -1,5 +1,5 @@
 // Writes that a stop leaves.
-ghost use Rattle.std.specs.Prelude.{◌≤◌, length, IfSome, OnOk};
+ghost use Rattle.std.specs.Prelude.{◌≡◌, ◌≤◌, length, IfSome, OnOk};
 ghost use Rattle.aas_outside.specs.Faults.{HasCause};
 ghost use Rattle.aas_outside.specs.Moments.{Passes};
 ghost use Rattle.aas_outside_disk.specs.Disk.{HoldsWhatIsRead, Meanwhile, Tears, Writes};
@@ -19,6 +19,7 @@ pub fn write_durably<D: Disk>(disk: &mut D, part: Part, at: u64, bytes: &[u8]) -
     ensures past { Passes (D.moment disk.old) (D.left_at disk.old)
         (D.moment disk.new) (D.left_at disk.new) }
     ensures cause { HasCause (D.faults disk.old) (D.faults disk.new) result }
+    ensures calm { OnOk result (D.faults disk.new ≡ D.faults disk.old) }
 {
     disk.write_at(part, at, bytes)?;
     disk.sync(part)

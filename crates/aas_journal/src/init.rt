@@ -19,8 +19,8 @@ use aas_outside_disk::{Disk, Part};
 /// The newer header and a closed gate.
 const INITIAL: &[u8; 9] = b"AASJ0002\0";
 
-/// Makes a journal without payloads in three files that are empty, and where one of them isn't only reads. A stop in the call
-/// may leave anything of the main one.
+/// Makes a journal without payloads in three files that are empty, and where one of them isn't only reads. A stop in
+/// the call may leave anything of the main one.
 pub fn init_journal<D: Disk>(disk: &mut D) -> Result<(), InitFault>
     ensures made { OnOk result (IfSome (D.seen disk.old) (λ files.
         AreEmpty files × (D.seen disk.new ≡ Some initial_files))) }

@@ -57,7 +57,8 @@ impl<D: Disk> Keeper for Journal<D> {
 
     ghost faults = { λ journal. D.faults journal.disk };
 
-    ghost room_by_payloads = { λ journal. room_law (D.seen journal.disk) (D.left_at journal.disk (D.moment journal.disk)) journal.part
+    ghost room_by_payloads = { λ journal.
+        room_law (D.seen journal.disk) (D.left_at journal.disk (D.moment journal.disk)) journal.part
         journal.gate };
 
     ghost room_limit = { λ journal payloads. limit_law (gate_of payloads (length payloads)) };
@@ -70,17 +71,20 @@ impl<D: Disk> Keeper for Journal<D> {
         requires { IsTrue (fits self.old.gate (length frame.now)) }
         ensures kept { (payloads : List (List ℕ)) → kept_by self.old payloads →
             OnOk result (kept_by self.new (payloads ++ frame.now ∷ [])) }
-        ensures in_turn { KeepsInTurn IsBankImage kept_by (λ journal. D.moment journal.disk) (λ journal. D.left_at journal.disk)
+        ensures in_turn { KeepsInTurn IsBankImage kept_by
+            (λ journal. D.moment journal.disk) (λ journal. D.left_at journal.disk)
             self.old self.new frame.now result }
         ensures past { Passes (D.moment self.old.disk) (D.left_at self.old.disk)
             (D.moment self.new.disk) (D.left_at self.new.disk) }
         ensures cause { HasCause (D.faults self.old.disk) (D.faults self.new.disk) result }
+        ensures calm { OnOk result (D.faults self.new.disk ≡ D.faults self.old.disk) }
 
         // In the chosen file, from the closed gate on, the record and a gate are written, and nothing else in any file.
         ensures bytes { (payloads : List (List ℕ)) → kept_by self.old payloads →
             WritesRecord payloads frame.now (D.seen self.old.disk) (D.seen self.new.disk) result }
         ensures images { (payloads : List (List ℕ)) → kept_by self.old payloads →
-            Meanwhile (D.moment self.old.disk) (D.moment self.new.disk) (D.left_at self.old.disk) (D.left_at self.new.disk)
+            Meanwhile (D.moment self.old.disk) (D.moment self.new.disk)
+            (D.left_at self.old.disk) (D.left_at self.new.disk)
             (TearsRecord payloads frame.now (D.seen self.old.disk)) }
     {
         let bytes = frame.bytes();

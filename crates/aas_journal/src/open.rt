@@ -3,7 +3,8 @@ ghost use Rattle.std.specs.Prelude.{◌≡◌, ◌≢◌, ◌≤◌, ◌⊎◌, 
 ghost use Rattle.aas_journal.specs.Bank.{IsBankImage, chosen_file};
 ghost use Rattle.aas_journal.specs.Causes.{HasFault, IsDamaged, IsNotInitialised};
 ghost use Rattle.aas_journal.specs.Reads.{OnlyReads};
-ghost use Rattle.aas_journal.specs.declared.fault.OpenFault.TheVariants.{Damaged, Failed as DiskFailed, NoMemory, NotInitialised};
+ghost use Rattle.aas_journal.specs.declared.fault.OpenFault.TheVariants.{Damaged, Failed as DiskFailed, NoMemory};
+ghost use Rattle.aas_journal.specs.declared.fault.OpenFault.TheVariants.{NotInitialised};
 ghost use Rattle.aas_outside.specs.Faults.{Rose};
 ghost use Rattle.aas_journal.specs.Shown.{disk_of};
 ghost use Rattle.aas_outside.specs.Moments.{IsSettled};
@@ -45,6 +46,7 @@ pub fn open_journal<D: Disk>(mut disk: D) -> Result<Journal<D>, NotOpened<D>>
     ensures failed { IfErr result (λ it. it.fault ≡ DiskFailed → Rose (D.faults disk) (D.faults it.disk)) }
     ensures later { MatchResult result (λ journal. D.faults disk ≤ D.faults (disk_of journal))
         (λ it. D.faults disk ≤ D.faults it.disk) }
+    ensures calm { IfOk result (λ journal. D.faults (disk_of journal) ≡ D.faults disk) }
     ensures reads { MatchResult result
         (λ journal. OnlyReads D.seen D.moment D.left_at disk (disk_of journal))
         (λ it. OnlyReads D.seen D.moment D.left_at disk it.disk) }

@@ -21,8 +21,8 @@ impl<D: Disk> Journal<D> {
         self.disk
     }
 
-    /// Appends the payload behind the gate at this place, and answers the place of the next gate, or `None` at the closed one.
-    /// The first gate stands at 8. At `Err`, which is `Failed` or `NoMemory`, nothing is appended.
+    /// Appends the payload behind the gate at this place, and answers the place of the next gate, or `None` at the
+    /// closed one. The first gate stands at 8. At `Err`, which is `Failed` or `NoMemory`, nothing is appended.
     pub fn payload_at(&mut self, at: u64, out: &mut Vec<u8>) -> Result<Option<u64>, OpenFault>
         // Where the disk tells its files, the gate is one that the walk meets.
         requires { IfSome (D.seen (disk_of self.old)) (λ _. (payloads : List (List ℕ)) ×
@@ -36,6 +36,7 @@ impl<D: Disk> Journal<D> {
         ensures unchanged { OnErr result (out.new.items ≡ out.old.items) }
 
         ensures later { D.faults (disk_of self.old) ≤ D.faults (disk_of self.new) }
+        ensures calm { OnOk result (D.faults (disk_of self.new) ≡ D.faults (disk_of self.old)) }
         ensures reads { OnlyReads D.seen D.moment D.left_at (disk_of self.old) (disk_of self.new) }
         ensures kept { (payloads : List (List ℕ)) → ⟦<Journal<D> as Keeper>⟧.kept self.old payloads →
             ⟦<Journal<D> as Keeper>⟧.kept self.new payloads }
@@ -68,6 +69,7 @@ fn append_from<D: Disk>(
     ensures failed { result ≡ Err DiskFailed → Rose (D.faults disk.old) (D.faults disk.new) }
     ensures unchanged { OnErr result (out.new.items ≡ out.old.items) }
     ensures later { D.faults disk.old ≤ D.faults disk.new }
+    ensures calm { OnOk result (D.faults disk.new ≡ D.faults disk.old) }
     ensures reads { OnlyReads D.seen D.moment D.left_at disk.old disk.new }
 {
     let old = out.len();

@@ -1,5 +1,6 @@
 // The walk over the gates of a file.
-ghost use Rattle.std.specs.Prelude.{◌≡◌, ◌≢◌, ◌<◌, ◌≤◌, ◌↔◌, Err, IfErr, IfOk, IfSome, IsTrue, OnOk, drop, length, slice_index, take};
+ghost use Rattle.std.specs.Prelude.{◌≡◌, ◌≢◌, ◌<◌, ◌≤◌, ◌↔◌, Err, IfErr, IfOk, IfSome, IsTrue, OnOk, drop, length};
+ghost use Rattle.std.specs.Prelude.{slice_index, take};
 ghost use Rattle.std.specs.Int.{from_be_bytes, to_be_bytes, w32};
 ghost use Rattle.aas_journal.specs.Bank.{chosen, chosen_file};
 ghost use Rattle.aas_journal.specs.Causes.{HasFault};
@@ -17,7 +18,7 @@ use crate::journal::OPEN;
 use aas_outside::Failed;
 use aas_outside_disk::{Disk, Part};
 
-/// The place of the first gate, which is the length of a header.
+/// The place of the first gate in bytes from the front of its file, which is the length of a header.
 pub const FIRST_GATE: u64 = 8;
 
 /// The bytes of a gate and of the length behind it.
@@ -40,6 +41,7 @@ pub fn first_of_selector<D: Disk>(disk: &mut D) -> Result<u8, Failed>
     ensures value { IfOk result (λ byte. IfSome (D.seen disk.old) (λ files. byte ≡ slice_index files.selector 0)) }
     ensures reads { OnlyReads D.seen D.moment D.left_at disk.old disk.new }
     ensures cause { HasCause (D.faults disk.old) (D.faults disk.new) result }
+    ensures calm { OnOk result (D.faults disk.new ≡ D.faults disk.old) }
 {
     if disk.length(Part::Selector)? == 0 {
         return Ok(0);
@@ -56,6 +58,7 @@ fn chosen_part<D: Disk>(disk: &mut D) -> Result<Part, Failed>
         (HoldsWhatIsRead Selector (D.seen disk.old) (D.left_at disk.new (D.moment disk.new))) }
     ensures reads { OnlyReads D.seen D.moment D.left_at disk.old disk.new }
     ensures cause { HasCause (D.faults disk.old) (D.faults disk.new) result }
+    ensures calm { OnOk result (D.faults disk.new ≡ D.faults disk.old) }
 {
     disk.sync(Part::Selector)?;
     Ok(if first_of_selector(disk)? % 2 == 0 {
@@ -72,6 +75,7 @@ fn has_header<D: Disk>(disk: &mut D, part: Part) -> Result<bool, Failed>
         IsTrue known ↔ IsHeader (take 8 (file part files)))) }
     ensures reads { OnlyReads D.seen D.moment D.left_at disk.old disk.new }
     ensures cause { HasCause (D.faults disk.old) (D.faults disk.new) result }
+    ensures calm { OnOk result (D.faults disk.new ≡ D.faults disk.old) }
 {
     let mut header = [0; 8];
     disk.read_at(part, 0, &mut header)?;
@@ -96,6 +100,7 @@ fn gate_at<D: Disk>(disk: &mut D, part: Part, at: u64, size: u64) -> Result<Gate
     ensures next { IfOk result (λ gate. IsBetween at size gate) }
     ensures reads { OnlyReads D.seen D.moment D.left_at disk.old disk.new }
     ensures cause { HasCause (D.faults disk.old) (D.faults disk.new) result }
+    ensures calm { OnOk result (D.faults disk.new ≡ D.faults disk.old) }
 {
     let behind = size - at;
     if behind <= HEAD_BYTES {
@@ -132,6 +137,7 @@ fn closed_gate<D: Disk>(disk: &mut D, part: Part, size: u64) -> Result<u64, Open
     ensures memory { IfErr result (λ fault. fault ≢ NoMemory) }
     ensures failed { result ≡ Err DiskFailed → Rose (D.faults disk.old) (D.faults disk.new) }
     ensures later { D.faults disk.old ≤ D.faults disk.new }
+    ensures calm { OnOk result (D.faults disk.new ≡ D.faults disk.old) }
     ensures reads { OnlyReads D.seen D.moment D.left_at disk.old disk.new }
 {
     let mut gate = FIRST_GATE;
@@ -164,6 +170,7 @@ pub fn find_end<D: Disk>(disk: &mut D) -> Result<End, OpenFault>
     ensures memory { IfErr result (λ fault. fault ≢ NoMemory) }
     ensures failed { result ≡ Err DiskFailed → Rose (D.faults disk.old) (D.faults disk.new) }
     ensures later { D.faults disk.old ≤ D.faults disk.new }
+    ensures calm { OnOk result (D.faults disk.new ≡ D.faults disk.old) }
     ensures reads { OnlyReads D.seen D.moment D.left_at disk.old disk.new }
 {
     let part = chosen_part(disk)?;

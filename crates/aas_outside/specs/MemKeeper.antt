@@ -1,5 +1,6 @@
 -- A keeper in memory, as its callers see it. This profile's own rule.
-use Rattle.std.specs.Prelude.{◌≡◌, ℕ, ◌+◌, ◌^◌, Bool, ◌&&◌, nat_lt, nat_le, List, length, take, drop, [], ◌∷◌, sum_by, Result, MatchResult}
+use Rattle.std.specs.Prelude.{◌≡◌, ℕ, ◌+◌, ◌^◌, Bool, ◌&&◌, nat_lt, nat_le, List, length, take, drop, [], ◌∷◌, sum_by}
+use Rattle.std.specs.Prelude.{Result, MatchResult}
 use Rattle.aas_outside.specs.Faults.{one_more}
 use Rattle.aas_outside.specs.MemCalls.{MemCallsState, called}
 

@@ -1,5 +1,6 @@
 -- Visits in memory, as their callers see them. This profile's own rule.
-use Rattle.std.specs.Prelude.{◌≡◌, ◌<◌, ◌≤◌, ◌+◌, ℕ, nat_lt, min, max, Bool, false, List, [], ◌∷◌, All, Option, None, Some, IfSome}
+use Rattle.std.specs.Prelude.{◌≡◌, ◌<◌, ◌≤◌, ◌+◌, ℕ, nat_lt, min, max, Bool, false, List, [], ◌∷◌, All, Option, None}
+use Rattle.std.specs.Prelude.{Some, IfSome}
 use Rattle.aas_outside.specs.declared.memory_visit.MemVisit.{MemVisit}
 use Rattle.aas_outside.specs.declared.visit.NextVisit.{NextVisit}
 use Rattle.aas_outside.specs.declared.visit.NextVisit.TheVariants.{New, Again, NoneLeft}
@@ -20,7 +21,9 @@ number clients (Some client) = min client clients
 -- the visits, where so many clients were begun
 abbrev pub visits_from : ℕ → List MemVisit → List Visit
 visits_from clients [] = []
-visits_from clients (v ∷ visits) = record { client = number clients v.again; input = v.connection.left } ∷ visits_from (max clients (number clients v.again + 1)) visits
+visits_from clients (v ∷ visits) =
+    record { client = number clients v.again; input = v.connection.left }
+    ∷ visits_from (max clients (number clients v.again + 1)) visits
 
 -- Nothing was sent on the visits to come, and they and the present one have room for so many bytes.
 pub record AreReady (coming : List MemVisit) (present : Option MemConnectionState) (room : ℕ) : Type 0 where
@@ -37,6 +40,8 @@ pub record BecamePresent (old new : MemWireState) (v : Visit) (rest : List Visit
 
 -- The first visit to come was begun, to a new client or to one that was begun before; or there was none.
 abbrev pub BeginsFirst : MemWireState → MemWireState → NextVisit → Type 0
-BeginsFirst old new New = (v : Visit) × (rest : List Visit) × (v.client ≡ old.clients) × BecamePresent old new v rest (old.clients + 1)
-BeginsFirst old new Again = (v : Visit) × (rest : List Visit) × (v.client < old.clients) × BecamePresent old new v rest old.clients
+BeginsFirst old new New =
+    (v : Visit) × (rest : List Visit) × (v.client ≡ old.clients) × BecamePresent old new v rest (old.clients + 1)
+BeginsFirst old new Again =
+    (v : Visit) × (rest : List Visit) × (v.client < old.clients) × BecamePresent old new v rest old.clients
 BeginsFirst old new NoneLeft = (old.coming ≡ []) × (new ≡ old)

@@ -35,10 +35,12 @@ sent_on None = []
 sent_on (Some connection) = connection.sent
 
 abbrev pub connections_of : MemWireState → Connections
-connections_of wire = record { coming = wire.coming; clients = wire.clients; ended = wire.ended; begun = is_some wire.present }
+connections_of wire =
+    record { coming = wire.coming; clients = wire.clients; ended = wire.ended; begun = is_some wire.present }
 
 abbrev pub surroundings_of : MemWireState → Surroundings
-surroundings_of wire = record { connections = Some (connections_of wire); clients = wire.clients; faults = wire.wire_faults }
+surroundings_of wire =
+    record { connections = Some (connections_of wire); clients = wire.clients; faults = wire.wire_faults }
 
 -- where so many clients were begun, how many are when these visits are made too
 abbrev pub clients_behind : ℕ → List Visit → ℕ
@@ -62,6 +64,7 @@ pub record IsLinkCall {T E : Type 0} (old new : MemWireState) (result : Result T
 -- A `listen` or `next` was counted, as a fault where it failed.
 pub record IsWireCall {T E : Type 0} (old new : MemWireState) (result : Result T E) : Type 0 where
   pub calls : new.calls ≡ called old.calls
-  pub faults : MatchResult result (λ _. new.wire_faults ≡ old.wire_faults) (λ _. new.wire_faults ≡ one_more old.wire_faults)
+  pub faults : MatchResult result (λ _. new.wire_faults ≡ old.wire_faults)
+      (λ _. new.wire_faults ≡ one_more old.wire_faults)
   pub piece : new.piece ≡ old.piece
   pub room : new.room ≡ old.room

@@ -2,14 +2,17 @@
 use Rattle.std.specs.Prelude.{◌⊎◌, ◌↔◌, ◌≤◌, ℕ, List, [], ◌∷◌, ◌++◌, Result, MatchResult}
 
 -- At each moment from one to another a stop leaves an image of these payloads, or of these and more.
-abbrev pub During : {I : Type 0} → (I → List (List ℕ) → Type 0) → (ℕ → I → Type 0) → ℕ → ℕ → List (List ℕ) → List (List ℕ) → Type 0
+abbrev pub During : {I : Type 0}
+    → (I → List (List ℕ) → Type 0) → (ℕ → I → Type 0) → ℕ → ℕ → List (List ℕ) → List (List ℕ) → Type 0
 During {I} stands_for left_at from to payloads more =
-    (t : ℕ) → from ≤ t → t ≤ to → (image : I) → left_at t image → stands_for image payloads ⊎ stands_for image (payloads ++ more)
+    (t : ℕ) → from ≤ t → t ≤ to → (image : I)
+    → left_at t image → stands_for image payloads ⊎ stands_for image (payloads ++ more)
 
 -- From one moment to another payloads were added, one by one, to those that were kept. In between a stop leaves an
 -- image of what is kept by then, or of that and the next one. After the last it may leave one with those besides that
 -- a keep which failed was to add.
-abbrev pub InTurn : {I : Type 0} → (I → List (List ℕ) → Type 0) → (ℕ → I → Type 0) → ℕ → ℕ → (kept added failed : List (List ℕ)) → Type 0
+abbrev pub InTurn : {I : Type 0}
+    → (I → List (List ℕ) → Type 0) → (ℕ → I → Type 0) → ℕ → ℕ → (kept added failed : List (List ℕ)) → Type 0
 InTurn stands_for left_at from to kept [] failed = (from ≤ to) × During stands_for left_at from to kept failed
 InTurn stands_for left_at from to kept (payload ∷ added) failed =
     (next : ℕ) × (from ≤ next) × During stands_for left_at from next kept (payload ∷ [])
@@ -21,14 +24,17 @@ pub record Passes {I : Type 0} (before : ℕ) (old : ℕ → I → Type 0) (now 
   pub past : (t : ℕ) → t ≤ before → (image : I) → new t image ↔ old t image
 
 -- These payloads are kept, and a stop now leaves an image of them alone.
-pub record IsSettled {I : Type 0} (stands_for : I → List (List ℕ) → Type 0) (kept : List (List ℕ) → Type 0) (moment : ℕ) (left_at : ℕ → I → Type 0) (payloads : List (List ℕ)) : Type 0 where
+pub record IsSettled {I : Type 0} (stands_for : I → List (List ℕ) → Type 0) (kept : List (List ℕ) → Type 0)
+    (moment : ℕ) (left_at : ℕ → I → Type 0) (payloads : List (List ℕ)) : Type 0 where
   pub told : kept payloads
   pub alone : (image : I) → left_at moment image → stands_for image payloads
 
 -- A call on a settled keeper adds the payload in turn. Where it fails a stop may leave it or not.
-abbrev pub KeepsInTurn : {K I T E : Type 0} → (I → List (List ℕ) → Type 0) → (K → List (List ℕ) → Type 0) → (K → ℕ) → (K → ℕ → I → Type 0)
+abbrev pub KeepsInTurn : {K I T E : Type 0}
+    → (I → List (List ℕ) → Type 0) → (K → List (List ℕ) → Type 0) → (K → ℕ) → (K → ℕ → I → Type 0)
     → (old new : K) → List ℕ → Result T E → Type 0
 KeepsInTurn stands_for kept moment left_at old new payload result =
-    (payloads : List (List ℕ)) → IsSettled stands_for (kept old) (moment old) (left_at old) payloads → MatchResult result
+    (payloads : List (List ℕ))
+    → IsSettled stands_for (kept old) (moment old) (left_at old) payloads → MatchResult result
     (λ _. InTurn stands_for (left_at new) (moment old) (moment new) payloads (payload ∷ []) [])
     (λ _. InTurn stands_for (left_at new) (moment old) (moment new) payloads [] (payload ∷ []))

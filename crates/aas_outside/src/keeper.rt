@@ -45,7 +45,8 @@ pub trait Keeper {
         ensures in_turn { KeepsInTurn stands_for kept moment left_at self.old self.new frame.now result }
         ensures past { Passes (moment self.old) (left_at self.old) (moment self.new) (left_at self.new) }
         ensures room { room_behind self.new ≡ room_behind self.old }
-        ensures cause { HasCause (faults self.old) (faults self.new) result };
+        ensures cause { HasCause (faults self.old) (faults self.new) result }
+        ensures calm { OnOk result (faults self.new ≡ faults self.old) };
 
     /// Where the payloads are told, they alone decide whether there is room.
     ghost room_by_payloads: { (keeper : Self) (payloads : List (List ℕ)) (n : ℕ) → kept keeper payloads →

@@ -1,5 +1,6 @@
 // A keeper in memory, for tests: its payloads, and the calls that fail.
-ghost use Rattle.std.specs.Prelude.{◌≡◌, ◌<◌, ◌≤◌, ◌+◌, ◌↔◌, ◌++◌, [], ◌∷◌, List, ℕ, IfOk, OnOk, IsErr, IsTrue, MatchResult, length};
+ghost use Rattle.std.specs.Prelude.{◌≡◌, ◌≤◌, ◌+◌, ◌↔◌, ◌++◌, [], ◌∷◌, List, ℕ, IfOk, OnOk, IsErr, IsTrue};
+ghost use Rattle.std.specs.Prelude.{MatchResult, length};
 ghost use Rattle.aas_outside.specs.Faults.{HasCause};
 ghost use Rattle.aas_outside.specs.MemCalls.{IsNextFailing};
 ghost use Rattle.aas_outside.specs.MemKeeper.{has_room_behind, is_all, clock, kept_at, IsKeepCall};
@@ -112,10 +113,12 @@ impl Keeper for MemKeeper {
         requires { IsTrue (has_room_behind self.old.capacity self.old.payloads (length frame.now)) }
         ensures kept { (payloads : List (List ℕ)) → is_all self.old payloads →
             OnOk result (is_all self.new (payloads ++ frame.now ∷ [])) }
-        ensures in_turn { KeepsInTurn (λ image payloads. image ≡ payloads) is_all clock kept_at self.old self.new frame.now result }
+        ensures in_turn { KeepsInTurn
+            (λ image payloads. image ≡ payloads) is_all clock kept_at self.old self.new frame.now result }
         ensures past { Passes (clock self.old) (kept_at self.old) (clock self.new) (kept_at self.new) }
         ensures room { has_room_behind self.new.capacity ≡ has_room_behind self.old.capacity }
         ensures cause { HasCause self.old.faults self.new.faults result }
+        ensures calm { OnOk result (self.new.faults ≡ self.old.faults) }
         ensures called { IsKeepCall self.old self.new result }
         ensures fails { IsErr result ↔ IsNextFailing self.old.calls }
         ensures payloads { MatchResult result (λ _. self.new.payloads ≡ self.old.payloads ++ frame.now ∷ [])

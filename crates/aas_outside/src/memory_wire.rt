@@ -1,13 +1,16 @@
 // A wire in memory, for tests: its visits, what was sent on each of them, and the calls that fail.
-ghost use Rattle.std.specs.Prelude.{◌≡◌, ◌<◌, ◌≤◌, ◌-◌, ◌⊎◌, ◌↔◌, ◌≢◌, [], false, None, Some, Ok, length, min, IfOk, OnOk, OnErr, IsErr, MatchResult, slice_get};
+ghost use Rattle.std.specs.Prelude.{◌≡◌, ◌<◌, ◌≤◌, ◌-◌, ◌⊎◌, ◌↔◌, ◌≢◌, [], false, None, Some, Ok, length, min, IfOk};
+ghost use Rattle.std.specs.Prelude.{OnOk, OnErr, IsErr, MatchResult, slice_get};
 ghost use Rattle.std.specs.List.{filter};
 ghost use Rattle.std.specs.Option.{option_map};
 ghost use Rattle.aas_outside.specs.Faults.{HasCause};
 ghost use Rattle.aas_outside.specs.Link.{Takes, Gives};
 ghost use Rattle.aas_outside.specs.MemCalls.{IsNextFailing};
 ghost use Rattle.aas_outside.specs.MemVisit.{BeginsFirst, is_below, number};
-ghost use Rattle.aas_outside.specs.MemWire.{left_on, sent_on, connections_of, surroundings_of, clients_in_all, with_visit, IsLinkCall, IsWireCall};
-ghost use Rattle.aas_outside.specs.Surroundings.{BeginsNext, CountsClients, CountsNext, open_visits, sent_on_all, to_first};
+ghost use Rattle.aas_outside.specs.MemWire.{left_on, sent_on, connections_of, surroundings_of, clients_in_all};
+ghost use Rattle.aas_outside.specs.MemWire.{with_visit, IsLinkCall, IsWireCall};
+ghost use Rattle.aas_outside.specs.Surroundings.{BeginsNext, CountsClients, CountsNext, open_visits};
+ghost use Rattle.aas_outside.specs.Surroundings.{sent_on_all, to_first};
 
 use crate::memory_calls::MemCalls;
 use crate::memory_connection::MemConnection;
@@ -59,7 +62,8 @@ impl Model for MemWire {
     } };
 
     ghost invariant = { λ wire. (0 < wire.piece)
-        × (length wire.coming.items + length (option_to_list wire.present) + vec_len wire.ended ≤ vec_capacity wire.ended)
+        × (length wire.coming.items + length (option_to_list wire.present) + vec_len wire.ended
+        ≤ vec_capacity wire.ended)
         × AreReady wire.coming.items wire.present wire.room
         × (wire.clients ≤ vec_len wire.ended + length (option_to_list wire.present)) };
 }
@@ -222,7 +226,8 @@ impl Link for MemWire {
         ensures cause { HasCause self.old.faults self.new.faults result }
         ensures called { IsLinkCall self.old self.new result }
         ensures fails { IsErr result ↔ IsNextFailing self.old.calls }
-        ensures count { IfOk result (λ n. n ≡ min (min self.old.piece (length buf.old)) (length (left_on self.old.present))) }
+        ensures count { IfOk result (λ n.
+            n ≡ min (min self.old.piece (length buf.old)) (length (left_on self.old.present))) }
         ensures room { self.new.room ≡ self.old.room }
     {
         if self.calls.next_fails() {
@@ -244,7 +249,8 @@ impl Link for MemWire {
         ensures fails { IsErr result ↔ (IsNextFailing self.old.calls ⊎ ((self.old.present ≡ None)
             ⊎ (self.old.room < min self.old.piece (length bytes.now)))) }
         ensures count { IfOk result (λ n. n ≡ min self.old.piece (length bytes.now)) }
-        ensures room { MatchResult result (λ n. self.new.room ≡ self.old.room - n) (λ _. self.new.room ≡ self.old.room) }
+        ensures room { MatchResult result (λ n. self.new.room ≡ self.old.room - n)
+            (λ _. self.new.room ≡ self.old.room) }
     {
         let count = self.piece.min(bytes.len());
         if !self.calls.next_fails() && count <= self.room {

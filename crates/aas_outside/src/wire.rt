@@ -23,10 +23,12 @@ pub trait Wire: Link {
     /// Ends the present visit and begins the next, to a client that was visited before or, where a
     /// further client may be begun, to a new one. Where it fails the present visit goes on.
     fn next(&mut self, may_begin: bool) -> Result<NextVisit, Failed>
-        ensures begins { BeginsNext (Self.surroundings self.old).connections may_begin (Self.surroundings self.new).connections
+        ensures begins { BeginsNext (Self.surroundings self.old).connections may_begin
+            (Self.surroundings self.new).connections
             (Self.left self.old) (Self.left self.new) (Self.sent self.old) (Self.sent self.new) result }
         ensures asked { may_begin ≡ false → result ≢ Ok NextVisit.New }
-        ensures counted { CountsClients (Self.surroundings self.old).clients (Self.surroundings self.new).clients result }
+        ensures counted { CountsClients (Self.surroundings self.old).clients
+            (Self.surroundings self.new).clients result }
         ensures faults { Self.faults self.new ≡ Self.faults self.old }
         ensures cause { HasCause (Self.surroundings self.old).faults (Self.surroundings self.new).faults result };
 }

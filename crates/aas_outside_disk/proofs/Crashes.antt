@@ -28,4 +28,5 @@ pub crash_left : (choice : Crash) (disk : MemDiskState) → disk_left_at disk (c
 crash_left choice disk =
     let each = λ (part : Part). crash_of choice (now disk part) in
     now_left disk (crash_files choice disk)
-    (λ part. subst (IsLeft (now disk part)) (sym (file-files_of part each)) (file_left choice (now disk part) (seen_left disk.base disk.steps part)))
+    (λ part. subst (IsLeft (now disk part)) (sym (file-files_of part each))
+    (file_left choice (now disk part) (seen_left disk.base disk.steps part)))

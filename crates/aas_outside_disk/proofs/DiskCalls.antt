@@ -1,5 +1,6 @@
 -- What the steps that a call made mean for what is read and for what a stop may leave.
-use Rattle.std.proofs.Common.{◌≡◌, ◌⊎◌, ⊎_elim, inl, inr, ◌≤◌, ℕ, ◌+◌, Bool, true, false, List, [], ◌∷◌, ◌++◌, length, take, Some, Result, Ok, Err, refl, sym, ◌∙◌, ap, subst, arith, length-append}
+use Rattle.std.proofs.Common.{◌≡◌, ◌⊎◌, ⊎_elim, inl, inr, ◌≤◌, ℕ, ◌+◌, Bool, true, false, List, [], ◌∷◌, ◌++◌, length}
+use Rattle.std.proofs.Common.{take, Some, Result, Ok, Err, refl, sym, ◌∙◌, ap, subst, arith, length-append}
 use Rattle.std.specs.Prelude.{OnOk, if◌then◌else◌, is_ok, IsTrue}
 use Rattle.std.specs.List.{fold}
 use Rattle.std.proofs.lemmas.Bool.{cases_lt, true≢false}
@@ -21,9 +22,11 @@ agrees disk part = seen_left disk.base disk.steps part
 -- what may be left now
 left_now : (disk : MemDiskState) (files : Files) → disk_left_at disk (clock disk) files → AreLeft (now disk) files
 left_now disk files left =
-    subst (λ (steps : List Step). AreLeft (after_steps disk.base steps) files) (take_all (length disk.steps) disk.steps (omega arith)) left.1
+    subst (λ (steps : List Step). AreLeft (after_steps disk.base steps) files)
+    (take_all (length disk.steps) disk.steps (omega arith)) left.1
 
-module _ (old new : MemDiskState) (made : List Step) (base : new.base ≡ old.base) (steps : new.steps ≡ old.steps ++ made) where
+module _ (old new : MemDiskState) (made : List Step)
+    (base : new.base ≡ old.base) (steps : new.steps ≡ old.steps ++ made) where
   pub clock_is : clock new ≡ clock old + length made
   clock_is = ap length steps ∙ length-append old.steps made
 
@@ -32,16 +35,22 @@ module _ (old new : MemDiskState) (made : List Step) (base : new.base ≡ old.ba
 
   -- what was left at a moment that is over stays
   left_before : (t : ℕ) → t ≤ clock old → (files : Files) → disk_left_at new t files → disk_left_at old t files
-  left_before t le files left =
-      (le, subst (λ (states : Part → FileState). AreLeft states files) (λ i. after_steps (base i) (earlier t le i)) left.1)
+  left_before t le files left = (
+    le,
+    subst (λ (states : Part → FileState). AreLeft states files) (λ i. after_steps (base i) (earlier t le i)) left.1,
+  )
 
   pub now_is : (part : Part) → now new part ≡ fold (after_step part) (now old part) made
-  now_is part = (λ i. after_steps (base i) (steps i) part) ∙ fold-append (after_step part) (settled (file part old.base)) old.steps made
+  now_is part =
+      (λ i. after_steps (base i) (steps i) part)
+      ∙ fold-append (after_step part) (settled (file part old.base)) old.steps made
 
   -- at the moment at which the call began
-  at_start : (t : ℕ) → clock old ≤ t → t ≤ clock old → (files : Files) → disk_left_at new t files → disk_left_at old (clock old) files
+  at_start : (t : ℕ) → clock old ≤ t → t ≤ clock old → (files : Files)
+      → disk_left_at new t files → disk_left_at old (clock old) files
   at_start t since until files left =
-      left_before (clock old) (omega arith) files (subst (λ (n : ℕ). disk_left_at new n files) (omega (arith, since, until)) left)
+      left_before (clock old) (omega arith) files
+      (subst (λ (n : ℕ). disk_left_at new n files) (omega (arith, since, until)) left)
 
   -- at the moment at which it ended
   at_end : (t : ℕ) → clock new ≤ t → t ≤ clock new → (files : Files) → disk_left_at new t files
@@ -55,11 +64,14 @@ module _ (old new : MemDiskState) (made : List Step) (base : new.base ≡ old.ba
 
 -- a call that makes nothing
 module _ (old new : MemDiskState) (base : new.base ≡ old.base) (steps : new.steps ≡ old.steps ++ []) where
-  none_left : (t : ℕ) → clock old ≤ t → t ≤ clock new → (files : Files) → disk_left_at new t files → disk_left_at old (clock old) files
-  none_left t since until files left = at_start old new [] base steps t since (omega (arith, until, clock_is old new [] base steps)) files left
+  none_left : (t : ℕ) → clock old ≤ t → t ≤ clock new → (files : Files)
+      → disk_left_at new t files → disk_left_at old (clock old) files
+  none_left t since until files left =
+      at_start old new [] base steps t since (omega (arith, until, clock_is old new [] base steps)) files left
 
 -- a call that makes one step
-module _ (old new : MemDiskState) (step : Step) (base : new.base ≡ old.base) (steps : new.steps ≡ old.steps ++ step ∷ []) where
+module _ (old new : MemDiskState) (step : Step) (base : new.base ≡ old.base)
+    (steps : new.steps ≡ old.steps ++ step ∷ []) where
   abbrev after : Part → FileState
   after part = after_step part (now old part) step
 
@@ -68,7 +80,8 @@ module _ (old new : MemDiskState) (step : Step) (base : new.base ≡ old.base) (
       → AddsNone (disk_left_at old (clock old)) (disk_left_at new t) ⊎ AddsNone (AreLeft after) (disk_left_at new t)
   one_left t since until = ⊎_elim
       (λ low. inl (at_start old new (step ∷ []) base steps t since (omega (arith, low))))
-      (λ high. inr (at_end old new (step ∷ []) base steps t (omega (arith, high, clock_is old new (step ∷ []) base steps)) until))
+      (λ high. inr (at_end old new (step ∷ []) base steps t
+      (omega (arith, high, clock_is old new (step ∷ []) base steps)) until))
       (cases_lt t (clock old + 1))
 
 module _ (old new : MemDiskState) (part : Part) (base : new.base ≡ old.base) where
@@ -80,11 +93,13 @@ module _ (old new : MemDiskState) (part : Part) (base : new.base ≡ old.base) w
       (λ after. now_left old files (sync_adds (now old) (agrees old) part files (after files left)))
       (one_left old new (synced part) base steps t since until)
 
-  pub sync_durable : {T E : Type 0} (result : Result T E) → new.steps ≡ old.steps ++ (if is_ok result then synced part ∷ [] else [])
+  pub sync_durable : {T E : Type 0} (result : Result T E)
+      → new.steps ≡ old.steps ++ (if is_ok result then synced part ∷ [] else [])
       → OnOk result (HoldsWhatIsRead part (Some (seen_files old)) (disk_left_at new (clock new)))
   sync_durable (Err e) steps = tt
   sync_durable (Ok x) steps = λ files left.
-      sync_holds (now old) (agrees old) part files (at_end old new (synced part ∷ []) base steps (clock new) (omega arith) (omega arith) files left)
+      sync_holds (now old) (agrees old) part files
+      (at_end old new (synced part ∷ []) base steps (clock new) (omega arith) (omega arith) files left)
       ∙ sym (file-files_of part (λ p. (now old p).seen))
 
 same_others : (part : Part) (files : Files) → SameOthers part files files
@@ -94,8 +109,12 @@ same_others Selector files = (refl, refl)
 
 -- what isn't torn
 untorn : (part : Part) (at n : ℕ) (old new : Files → Type 0) → AddsNone old new → Tears part at n old new
-untorn part at n old new less end each files left =
-    (files, less files left, same_others part files, record { before = refl; after = refl; no_shorter = each files (less files left) })
+untorn part at n old new less end each files left = (
+  files,
+  less files left,
+  same_others part files,
+  record { before = refl; after = refl; no_shorter = each files (less files left) },
+)
 
 -- the same, said of equal sets
 torn_as : (part : Part) (at n : ℕ) (old wider new less : Files → Type 0)
@@ -115,7 +134,8 @@ module _ (old new : MemDiskState) (part : Part) (at : ℕ) (bytes : List ℕ) (b
   pub write_images : (b : Bool) → new.steps ≡ old.steps ++ (if b then wrote part at bytes ∷ [] else [])
       → Meanwhile (clock old) (clock new) (disk_left_at old) (disk_left_at new) (Tears part at (length bytes))
   write_images false steps = λ t since until.
-      untorn part at (length bytes) (disk_left_at old (clock old)) (disk_left_at new t) (none_left old new base steps t since until)
+      untorn part at (length bytes) (disk_left_at old (clock old))
+      (disk_left_at new t) (none_left old new base steps t since until)
   write_images true steps = λ t since until. ⊎_elim
       (λ same. untorn part at (length bytes) (disk_left_at old (clock old)) (disk_left_at new t) same)
       (λ after. torn_as part at (length bytes) (AreLeft (now old)) (disk_left_at old (clock old))
@@ -124,7 +144,8 @@ module _ (old new : MemDiskState) (part : Part) (at : ℕ) (bytes : List ℕ) (b
       (one_left old new (wrote part at bytes) base steps t since until)
 
   made : {E : Type 0} (result : Result (Unit {0}) E) (p : Part) → at ≤ length (file p (seen_files old))
-      → Writes p at bytes (Some (seen_files old)) (Some (files_of (λ q. (after_step q (now old q) (wrote p at bytes)).seen))) result
+      → Writes p at bytes (Some (seen_files old))
+      (Some (files_of (λ q. (after_step q (now old q) (wrote p at bytes)).seen))) result
   made result Main within = ((refl, refl), writes_at at bytes (now old Main).seen within, on_ok result _ refl)
   made result Spare within = ((refl, refl), writes_at at bytes (now old Spare).seen within, on_ok result _ refl)
   made result Selector within = ((refl, refl), writes_at at bytes (now old Selector).seen within, on_ok result _ refl)
@@ -132,13 +153,16 @@ module _ (old new : MemDiskState) (part : Part) (at : ℕ) (bytes : List ℕ) (b
   -- a write that isn't made fails
   pub write_seen : {E : Type 0} (result : Result (Unit {0}) E) (b : Bool) → OnOk result (IsTrue b)
       → new.steps ≡ old.steps ++ (if b then wrote part at bytes ∷ [] else [])
-      → at ≤ length (file part (seen_files old)) → Writes part at bytes (Some (seen_files old)) (Some (seen_files new)) result
+      → at ≤ length (file part (seen_files old))
+      → Writes part at bytes (Some (seen_files old)) (Some (seen_files new)) result
   write_seen result false never steps within =
-      subst (λ (f : Files). Writes part at bytes (Some (seen_files old)) (Some f) result) (sym (seen_is old new [] base steps)) (
+      subst (λ (f : Files). Writes part at bytes (Some (seen_files old)) (Some f) result)
+      (sym (seen_is old new [] base steps)) (
         same_others part (seen_files old),
         record { before = refl; after = refl; no_shorter = omega arith; no_longer = omega arith },
         on_ok_never result _ never,
       )
   write_seen result true ok steps within =
-      subst (λ (f : Files). Writes part at bytes (Some (seen_files old)) (Some f) result) (sym (seen_is old new (wrote part at bytes ∷ []) base steps))
+      subst (λ (f : Files). Writes part at bytes (Some (seen_files old)) (Some f) result)
+      (sym (seen_is old new (wrote part at bytes ∷ []) base steps))
       (made result part within)

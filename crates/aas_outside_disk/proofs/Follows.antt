@@ -1,5 +1,6 @@
 -- How the fields of a disk in memory follow its record.
-use Rattle.std.proofs.Common.{◌≡◌, ◌≤◌, ℕ, Bool, true, false, List, [], ◌∷◌, ◌++◌, length, replicate, refl, sym, ◌∙◌, ap, ap₂, subst, true≢false}
+use Rattle.std.proofs.Common.{◌≡◌, ◌≤◌, ℕ, Bool, true, false, List, [], ◌∷◌, ◌++◌, length, replicate, refl, sym, ◌∙◌}
+use Rattle.std.proofs.Common.{ap, ap₂, subst, true≢false}
 use Rattle.std.specs.Prelude.{if◌then◌else◌}
 use Rattle.std.proofs.lemmas.List.Sums.{fold-append}
 use Rattle.aas_outside_disk.specs.declared.crash.Crash.{Crash}
@@ -34,7 +35,8 @@ new_follows part made recorded bytes capacity room is none choice =
     ∙ begun choice
     ∙ sym (ap₂ (λ (m : MemFileState) (r : MemRecordState). crash_of choice (file_after part m.base r.steps)) is none)
   where
-    begun : (choice : Crash) → left_by choice (record { base = bytes; seen = bytes; durable = bytes; ones = bytes; capacity = capacity })
+    begun : (choice : Crash)
+        → left_by choice (record { base = bytes; seen = bytes; durable = bytes; ones = bytes; capacity = capacity })
         ≡ crash_of choice (settled bytes)
     begun Old = refl
     begun New = refl
@@ -88,12 +90,16 @@ either_keeps field true f f' kept = kept
 either_keeps field false f f' kept = refl
 
 -- one step more, on one of the files
-module _ (a : Inside) (sound : IsSound a) (other : Part) (step : Step) (change : MemFileState → MemFileState) (advance : FileState → FileState)
-    (keeps_base : (f : MemFileState) → (change f).base ≡ f.base) (keeps_capacity : (f : MemFileState) → (change f).capacity ≡ f.capacity)
+module _ (a : Inside) (sound : IsSound a) (other : Part) (step : Step)
+    (change : MemFileState → MemFileState) (advance : FileState → FileState)
+    (keeps_base : (f : MemFileState) → (change f).base ≡ f.base)
+    (keeps_capacity : (f : MemFileState) → (change f).capacity ≡ f.capacity)
     (step_is : (part : Part) (s : FileState) → after_step part s step ≡ (if same_part part other then advance s else s))
-    (moves : (s : FileState) → Follows (mem_file other a.files) s → Follows (change (mem_file other a.files)) (advance s))
+    (moves : (s : FileState)
+    → Follows (mem_file other a.files) s → Follows (change (mem_file other a.files)) (advance s))
     (files : MemFiles) (files_is : files ≡ with_mem_file other (change (mem_file other a.files)) a.files)
-    (recorded : MemRecordState) (recorded_is : recorded ≡ record a.recorded { steps = a.recorded.steps ++ step ∷ [] }) where
+    (recorded : MemRecordState) (recorded_is : recorded
+    ≡ record a.recorded { steps = a.recorded.steps ++ step ∷ [] }) where
   abbrev old : Part → MemFileState
   old part = mem_file part a.files
 
@@ -105,18 +111,22 @@ module _ (a : Inside) (sound : IsSound a) (other : Part) (step : Step) (change :
 
   kept : {X : Type 0} (field : MemFileState → X) → ((f : MemFileState) → field (change f) ≡ field f) → (part : Part)
       → field (mem_file part files) ≡ field (old part)
-  kept field keeps part = ap field (file_is part) ∙ either_keeps field (same_part part other) (old part) (change (old part)) (keeps (old part))
+  kept field keeps part =
+      ap field (file_is part)
+      ∙ either_keeps field (same_part part other) (old part) (change (old part)) (keeps (old part))
 
   state_is : (part : Part) → file_after part (mem_file part files).base recorded.steps
       ≡ (if same_part part other then advance (state part) else state part)
   state_is part =
-      ap₂ (λ (b : List ℕ) (r : MemRecordState). file_after part b r.steps) (kept (λ f. f.base) keeps_base part) recorded_is
+      ap₂ (λ (b : List ℕ) (r : MemRecordState). file_after part b r.steps)
+      (kept (λ f. f.base) keeps_base part) recorded_is
       ∙ fold-append (after_step part) (settled (old part).base) a.recorded.steps (step ∷ [])
       ∙ step_is part (state part)
 
   changed : (part : Part) → same_part part other ≡ true → Follows (change (old part)) (advance (state part))
   changed part same =
-      subst (λ (p : Part). (s : FileState) → Follows (mem_file p a.files) s → Follows (change (mem_file p a.files)) (advance s))
+      subst (λ (p : Part).
+      (s : FileState) → Follows (mem_file p a.files) s → Follows (change (mem_file p a.files)) (advance s))
       (sym (same_part-true part other same)) moves (state part) (sound.follows part)
 
   pub step_sound : IsSound (record a { files = files; recorded = recorded })
@@ -134,6 +144,7 @@ pub left_is : (a : Inside) (disk : MemDiskState) → disk_view a ≡ disk → Is
     → left_by choice (mem_file part a.files) ≡ file part (crash_files choice disk)
 left_is a disk view sound choice part =
     sound.follows part choice
-    ∙ ap (λ (b : List ℕ). crash_of choice (file_after part b a.recorded.steps)) (sym (file-files_of part (λ p. (mem_file p a.files).base)))
+    ∙ ap (λ (b : List ℕ). crash_of choice (file_after part b a.recorded.steps))
+    (sym (file-files_of part (λ p. (mem_file p a.files).base)))
     ∙ ap (λ (d : MemDiskState). crash_of choice (now d part)) view
     ∙ sym (file-files_of part (λ p. crash_of choice (now disk p)))

@@ -1,5 +1,6 @@
 -- What a write and a sync do to what a stop may leave.
-use Rattle.std.proofs.Common.{◌≡◌, ⊎_elim, inl, inr, ◌≤◌, ◌<◌, ℕ, ◌+◌, ◌-◌, min, Bool, true, false, List, length, take, drop, refl, sym, ◌∙◌, ap, subst, arith, length-drop}
+use Rattle.std.proofs.Common.{◌≡◌, ⊎_elim, inl, inr, ◌≤◌, ◌<◌, ℕ, ◌+◌, ◌-◌, min, Bool, true, false, List, length, take}
+use Rattle.std.proofs.Common.{drop, refl, sym, ◌∙◌, ap, subst, arith, length-drop}
 use Rattle.std.specs.Prelude.{if◌then◌else◌, slice_index}
 use Rattle.std.proofs.lemmas.Bool.{or_from}
 use Rattle.std.proofs.lemmas.List.{ext_get_or, get_or-drop, get_or-take, length-take, length-take-le}
@@ -7,7 +8,8 @@ use Rattle.aas_outside_disk.specs.declared.part.Part.{Part}
 use Rattle.aas_outside_disk.specs.declared.part.Part.TheVariants.{Main, Spare, Selector}
 use Rattle.aas_outside_disk.specs.Disk.{AddsNone, HasAtLeast, Tears, Torn, written}
 use Rattle.aas_outside_disk.specs.Files.{Files, file, files_of, same_part}
-use Rattle.aas_outside_disk.specs.FileState.{wrote, synced, Range, FileState, is_in, is_written, settled, after_write, after_step, IsLeft}
+use Rattle.aas_outside_disk.specs.FileState.{wrote, synced, Range, FileState, is_in, is_written, settled, after_write}
+use Rattle.aas_outside_disk.specs.FileState.{after_step, IsLeft}
 use Rattle.aas_outside_disk.specs.MemDisk.{AreLeft}
 use Rattle.aas_outside_disk.specs.MemDiskLaw.{IsApart, Lies, apart_or_lies, file-files_of, written_apart}
 use Rattle.aas_outside_disk.proofs.Follows.{each_part}
@@ -31,7 +33,8 @@ settled_alone bytes left is =
     let size : length left ≡ length bytes = omega (arith, is.no_shorter, is.no_longer) in
     ext_get_or 0 left bytes size (λ place lt. is.kept place (omega (arith, lt, size)) refl)
 
-either_left : (b : Bool) (s : FileState) → IsLeft s s.seen → (bytes : List ℕ) → IsLeft (if b then settled s.seen else s) bytes → IsLeft s bytes
+either_left : (b : Bool) (s : FileState) → IsLeft s s.seen → (bytes : List ℕ)
+    → IsLeft (if b then settled s.seen else s) bytes → IsLeft s bytes
 either_left true s agrees bytes left = synced_left s agrees bytes left
 either_left false s agrees bytes left = left
 
@@ -68,7 +71,8 @@ module _ (s : FileState) (agrees : IsLeft s s.seen) (at : ℕ) (bytes : List ℕ
 
   outside : (place : ℕ) → place < size → IsApart range place → slice_index before place ≡ slice_index left place
   outside place lt out =
-      written_apart at inner front place (inner_out out) (omega (arith, lt, front_size)) ∙ get_or-take size left place 0 lt
+      written_apart at inner front place (inner_out out) (omega (arith, lt, front_size))
+      ∙ get_or-take size left place 0 lt
     where
       inner_out : IsApart range place → IsApart (record { at = at; size = length inner }) place
       inner_out (inl below) = inl below
@@ -76,7 +80,8 @@ module _ (s : FileState) (agrees : IsLeft s s.seen) (at : ℕ) (bytes : List ℕ
 
   inside : (place : ℕ) → place < size → Lies range place → slice_index before place ≡ slice_index s.durable place
   inside place lt (from, to) =
-      written_within at inner front place (omega (arith, lt, from, front_size)) from (omega (arith, lt, from, to, inner_size))
+      written_within at inner front place (omega (arith, lt, from, front_size)) from
+      (omega (arith, lt, from, to, inner_size))
       ∙ get_or-take n (drop at s.durable) (place - at) 0 (omega (arith, from, to))
       ∙ get_or-drop at s.durable (place - at) 0
       ∙ ap (λ (k : ℕ). slice_index s.durable k) (omega (arith, from))
@@ -92,7 +97,8 @@ module _ (s : FileState) (agrees : IsLeft s s.seen) (at : ℕ) (bytes : List ℕ
         (apart_or_lies range place);
   }
 
-  low : (place : ℕ) → place < at → place < end → slice_index (take (min at end) left) place ≡ slice_index (take (min at end) before) place
+  low : (place : ℕ) → place < at → place < end
+      → slice_index (take (min at end) left) place ≡ slice_index (take (min at end) before) place
   low place below in_end =
       let in_both : place < min at end = omega (arith, below, in_end) in
       get_or-take (min at end) left place 0 in_both
@@ -120,7 +126,8 @@ module _ (s : FileState) (agrees : IsLeft s s.seen) (at : ℕ) (bytes : List ℕ
       record {
         before = ext_get_or 0 (take (min at end) left) (take (min at end) before)
             (low_size left is.no_shorter ∙ sym (low_size before whole))
-            (λ place lt. low place (omega (arith, lt, low_size left is.no_shorter)) (omega (arith, lt, low_size left is.no_shorter)));
+            (λ place lt. low place (omega (arith, lt, low_size left is.no_shorter))
+            (omega (arith, lt, low_size left is.no_shorter)));
         after = ext_get_or 0 (drop (at + n) (take end left)) (drop (at + n) (take end before))
             (high_size left is.no_shorter ∙ sym (high_size before whole))
             (λ place lt. high place (omega (arith, lt, high_size left is.no_shorter)));
@@ -160,6 +167,7 @@ module _ (states : Part → FileState) (agree : (part : Part) → IsLeft (states
       let old = record files { spare = d.0 } in
       (old, each_part (λ p. IsLeft (states p) (file p old)) (left Main) d.1 (left Selector), (refl, refl), d.2)
   write_tears Selector at bytes end each files left =
-      let d = write_torn (states Selector) (agree Selector) at bytes end (least Selector end each) files.selector (left Selector) in
+      let d = write_torn (states Selector) (agree Selector) at bytes end
+      (least Selector end each) files.selector (left Selector) in
       let old = record files { selector = d.0 } in
       (old, each_part (λ p. IsLeft (states p) (file p old)) (left Main) (left Spare) d.1, (refl, refl), d.2)

@@ -1,5 +1,6 @@
 -- Bytes with 1 in each place that was written.
-use Rattle.std.proofs.Common.{◌≡◌, inl, inr, ⊎_elim, ◌≤◌, ◌<◌, ℕ, zero, suc, ◌+◌, ◌-◌, max, Bool, ◌||◌, List, [], ◌∷◌, length, replicate, refl, sym, ◌∙◌, ap, arith}
+use Rattle.std.proofs.Common.{◌≡◌, inl, inr, ⊎_elim, ◌≤◌, ◌<◌, ℕ, zero, suc, ◌+◌, ◌-◌, max, Bool, ◌||◌, List, [], ◌∷◌}
+use Rattle.std.proofs.Common.{length, replicate, refl, sym, ◌∙◌, ap, arith}
 use Rattle.std.specs.Prelude.{if◌then◌else◌, slice_index}
 use Rattle.std.proofs.lemmas.List.{ext_get_or, get_or-replicate, length-replicate}
 use Rattle.aas_outside_disk.specs.Disk.{written}
@@ -7,7 +8,8 @@ use Rattle.aas_outside_disk.specs.FileState.{Range, is_in, is_written, with_ones
 use Rattle.aas_outside_disk.specs.MemDiskLaw.{IsApart, Lies, apart_or_lies, is_in_where_it_lies, written_apart}
 use Rattle.aas_outside_disk.proofs.Written.{is_in_apart, length-written, written_within}
 
-pub length-with_ones : (ranges : List Range) (place : ℕ) (bytes : List ℕ) → length (with_ones ranges place bytes) ≡ length bytes
+pub length-with_ones : (ranges : List Range) (place : ℕ) (bytes : List ℕ)
+    → length (with_ones ranges place bytes) ≡ length bytes
 length-with_ones ranges place [] = refl
 length-with_ones ranges place (byte ∷ bytes) = ap suc (length-with_ones ranges (suc place) bytes)
 
@@ -55,11 +57,19 @@ module _ (ranges : List Range) (at : ℕ) (bytes seen : List ℕ) (within : at �
   after_size = length-with_ones (range ∷ ranges) 0 (written at bytes seen) ∙ length-written at bytes seen within
 
   same_size : length after ≡ length (written at ones before)
-  same_size = omega (arith, after_size, ones_size, before_size, within, length-written at ones before (omega (arith, within, before_size)))
+  same_size = omega (
+    arith,
+    after_size,
+    ones_size,
+    before_size,
+    within,
+    length-written at ones before (omega (arith, within, before_size)),
+  )
 
   -- whether a place is marked after the write, by whether it lies in the range
   marked_by : (place : ℕ) (b : Bool) → place < length after → is_in range place ≡ b
-      → slice_index after place ≡ (if b || is_written ranges place then 1 else slice_index (written at bytes seen) place)
+      → slice_index after place
+      ≡ (if b || is_written ranges place then 1 else slice_index (written at bytes seen) place)
   marked_by place b lt is =
       marked (range ∷ ranges) (written at bytes seen) place
       (omega (arith, lt, length-with_ones (range ∷ ranges) 0 (written at bytes seen)))
@@ -77,11 +87,13 @@ module _ (ranges : List Range) (at : ℕ) (bytes seen : List ℕ) (within : at �
       ones_out (inl below) = inl below
       ones_out (inr above) = inr (omega (arith, above, ones_size))
 
-  inside : (place : ℕ) → place < length after → Lies range place → slice_index after place ≡ slice_index (written at ones before) place
+  inside : (place : ℕ) → place < length after → Lies range place
+      → slice_index after place ≡ slice_index (written at ones before) place
   inside place lt lies =
       marked_by place _ lt (is_in_where_it_lies range place lies)
       ∙ sym (get_or-replicate n (place - at) 1 0 (omega (arith, lies.0, lies.1)))
-      ∙ sym (written_within at ones before place (omega (arith, within, before_size)) lies.0 (omega (arith, lies.1, ones_size)))
+      ∙ sym (written_within at ones before place
+      (omega (arith, within, before_size)) lies.0 (omega (arith, lies.1, ones_size)))
 
   in_seen : (place : ℕ) → place < length after → IsApart range place → place < length seen
   in_seen place lt (inl below) = omega (arith, below, within)

@@ -1,5 +1,6 @@
 -- What stands in a piece, and what it answers.
-use Rattle.std.proofs.Common.{◌≡◌, ◌∙◌, ◌<◌, ◌≤◌, ◌-◌, ◌+◌, ◌++◌, Bool, true, false, List, [], ℕ, length, min, take, drop, Option, Some, None, refl, sym, ap, subst, arith, length-append, length-drop}
+use Rattle.std.proofs.Common.{◌≡◌, ◌∙◌, ◌<◌, ◌≤◌, ◌-◌, ◌+◌, ◌++◌, Bool, true, false, List, [], ℕ, length, min, take}
+use Rattle.std.proofs.Common.{drop, Option, Some, None, refl, sym, ap, subst, arith, length-append, length-drop}
 use Rattle.std.specs.Option.{ForSome}
 use Rattle.std.specs.Prelude.{◌&&◌, if◌then◌else◌, nat_le, nat_lt, IfSome}
 use Rattle.std.proofs.lemmas.Bool.{and_from, and_parts, leb-true, lt-ltb, true≢false}
@@ -20,7 +21,8 @@ pub front_read : (part : Part) (at count len : ℕ) (front rest items bytes : Li
 front_read part at count len front rest items bytes whole within told =
     ap
     (as_piece part at)
-    (take-take count len _ within ∙ take-append-le count (front ++ rest) _ (omega (arith, whole, length-append front rest))
+    (take-take count len _ within
+    ∙ take-append-le count (front ++ rest) _ (omega (arith, whole, length-append front rest))
     ∙ take-append-le count front rest (omega (arith, whole)) ∙ take_all count front (omega (arith, whole)) ∙ told)
 
 second_of : {X : Type 0} (first second : Bool) (x y z : X) → first ≡ false → second ≡ true
@@ -30,7 +32,8 @@ second_of false true x y z out is = refl
 second_of false false x y z out is = absurd (true≢false (sym is))
 
 -- a piece that was read with the range has as much as a piece can have
-pub fetched : (seen now : Option Files) (old new : PieceState) (part : Part) (at count size most : ℕ) → lies_in old part at count ≡ false
+pub fetched : (seen now : Option Files) (old new : PieceState) (part : Part) (at count size most : ℕ)
+    → lies_in old part at count ≡ false
     → 0 < count → count < piece_bytes → most ≡ min (size - at) piece_bytes
     → IfSome seen (λ files. size ≡ length (file part files))
     → now ≡ seen → IfSome now (λ files. new ≡ as_piece part at (take most (drop at (file part files))))
@@ -39,7 +42,8 @@ fetched None now old new part at count size most out some short most_is size_is 
 fetched (Some files) now old new part at count size most out some short most_is size_is same read =
     let bytes = drop at (file part files) in
     let is_read : Files → Type 0 = λ f. new ≡ as_piece part at (take most (drop at (file part f))) in
-    let all : most ≡ min piece_bytes (length bytes) = omega (arith, most_is, size_is, length-drop at (file part files)) in
+    let all : most ≡ min piece_bytes (length bytes) =
+    omega (arith, most_is, size_is, length-drop at (file part files)) in
     let can = nat_lt 0 count && nat_lt count piece_bytes in
     let begun : can ≡ true = and_from _ _ (lt-ltb 0 count some) (lt-ltb count piece_bytes short) in
     subst (λ (told : Option Files). IfSome told is_read) same read

@@ -1,8 +1,10 @@
 -- What a write makes of bytes.
-use Rattle.std.proofs.Common.{◌≡◌, ⊎_elim, ◌≤◌, ◌<◌, ℕ, ◌+◌, ◌-◌, max, List, ◌++◌, length, take, drop, sym, ◌∙◌, ap, arith, append_assoc, length-append, length-drop}
+use Rattle.std.proofs.Common.{◌≡◌, ⊎_elim, ◌≤◌, ◌<◌, ℕ, ◌+◌, ◌-◌, max, List, ◌++◌, length, take, drop, sym, ◌∙◌, ap}
+use Rattle.std.proofs.Common.{arith, append_assoc, length-append, length-drop}
 use Rattle.std.specs.Prelude.{IsFalse, nat_le, nat_lt, slice_index}
 use Rattle.std.proofs.lemmas.Bool.{and_left, and_right, le-ltb, lt-leb}
-use Rattle.std.proofs.lemmas.List.{drop_at, get_or-append_right, get_or_append_left, length-take, length-take-le, take_at}
+use Rattle.std.proofs.lemmas.List.{drop_at, get_or-append_right, get_or_append_left, length-take}
+use Rattle.std.proofs.lemmas.List.{length-take-le, take_at}
 use Rattle.aas_outside_disk.specs.Disk.{written, WritesAt}
 use Rattle.aas_outside_disk.specs.FileState.{Range, is_in}
 use Rattle.aas_outside_disk.specs.MemDiskLaw.{IsApart, written_no_shorter}
@@ -10,7 +12,8 @@ use Rattle.aas_outside_disk.specs.MemDiskLaw.{IsApart, written_no_shorter}
 pub is_in_apart : (range : Range) (place : ℕ) → IsApart range place → IsFalse (is_in range place)
 is_in_apart range place apart = ⊎_elim
     (λ below. and_left (nat_le range.at place) (nat_lt place (range.at + range.size)) (lt-leb range.at place below))
-    (λ above. and_right (nat_le range.at place) (nat_lt place (range.at + range.size)) (le-ltb place (range.at + range.size) above))
+    (λ above. and_right (nat_le range.at place) (nat_lt place (range.at + range.size))
+    (le-ltb place (range.at + range.size) above))
     apart
 
 module _ (at : ℕ) (bytes old : List ℕ) where
@@ -39,7 +42,8 @@ module _ (at : ℕ) (bytes old : List ℕ) where
       record {
         before = take_at (take at old) (bytes ++ rest) at size;
         after = ap (λ (l : List ℕ). drop (at + length bytes) l) (sym (append_assoc (take at old) bytes rest))
-            ∙ drop_at (take at old ++ bytes) rest (at + length bytes) (omega (arith, size, length-append (take at old) bytes));
+            ∙ drop_at (take at old ++ bytes) rest (at + length bytes)
+            (omega (arith, size, length-append (take at old) bytes));
         no_shorter = written_no_shorter at bytes old;
         no_longer = omega (arith, length-written within);
       }

@@ -1,5 +1,6 @@
 -- What the calls of a disk do to what reads give and to what a stop may leave. This profile's own rule.
-use Rattle.std.specs.Prelude.{◌≡◌, ℕ, ◌+◌, ◌≤◌, min, max, List, ◌++◌, length, take, drop, Option, Some, None, Result, OnOk, IfSome}
+use Rattle.std.specs.Prelude.{◌≡◌, ℕ, ◌+◌, ◌≤◌, min, max, List, ◌++◌, length, take, drop, Option, Some, None, Result}
+use Rattle.std.specs.Prelude.{OnOk, IfSome}
 use Rattle.aas_outside_disk.specs.declared.part.Part.{Part}
 use Rattle.aas_outside_disk.specs.Files.{Files, file, SameOthers}
 
@@ -23,7 +24,8 @@ Becomes (Some a) (Some b) P = P a b
 -- after a write, Ok or Failed
 abbrev pub Writes : {E : Type 0} → Part → ℕ → List ℕ → Option Files → Option Files → Result (Unit {0}) E → Type 0
 Writes part at bytes old new result = Becomes old new (λ a b.
-    SameOthers part a b × WritesAt at (length bytes) (file part a) (file part b) × OnOk result (file part b ≡ written at bytes (file part a)))
+    SameOthers part a b × WritesAt at (length bytes) (file part a) (file part b)
+    × OnOk result (file part b ≡ written at bytes (file part a)))
 
 -- each image of this file has at least so many bytes
 abbrev pub HasAtLeast : Part → ℕ → (Files → Type 0) → Type 0
@@ -48,5 +50,6 @@ abbrev pub HoldsWhatIsRead : Part → Option Files → (Files → Type 0) → Ty
 HoldsWhatIsRead part seen images = IfSome seen (λ files. (c : Files) → images c → file part c ≡ file part files)
 
 -- at each moment of a call a stop leaves what one before it may have left, after such a change
-abbrev pub Meanwhile : (before now : ℕ) → (ℕ → Files → Type 0) → (ℕ → Files → Type 0) → ((Files → Type 0) → (Files → Type 0) → Type 0) → Type 0
+abbrev pub Meanwhile : (before now : ℕ)
+    → (ℕ → Files → Type 0) → (ℕ → Files → Type 0) → ((Files → Type 0) → (Files → Type 0) → Type 0) → Type 0
 Meanwhile before now old new Change = (t : ℕ) → before ≤ t → t ≤ now → Change (old before) (new t)

@@ -1,5 +1,6 @@
 -- What writes and syncs make of a file, and what a stop may leave of it. This profile's own rule.
-use Rattle.std.specs.Prelude.{◌≡◌, ℕ, suc, ◌+◌, ◌<◌, ◌≤◌, Bool, ◌&&◌, nat_le, nat_lt, IsFalse, if◌then◌else◌, List, [], ◌∷◌, length, slice_index}
+use Rattle.std.specs.Prelude.{◌≡◌, ℕ, suc, ◌+◌, ◌<◌, ◌≤◌, Bool, ◌&&◌, nat_le, nat_lt, IsFalse, if◌then◌else◌, List, []}
+use Rattle.std.specs.Prelude.{◌∷◌, length, slice_index}
 use Rattle.std.specs.List.{fold, list_any}
 use Rattle.aas_outside_disk.specs.declared.crash.Crash.{Crash}
 use Rattle.aas_outside_disk.specs.declared.crash.Crash.TheVariants.{Old, New, Ones}
@@ -35,7 +36,8 @@ abbrev pub settled : List ℕ → FileState
 settled bytes = record { durable = bytes; ranges = []; seen = bytes }
 
 abbrev pub after_write : ℕ → List ℕ → FileState → FileState
-after_write at bytes s = record s { ranges = record { at = at; size = length bytes } ∷ s.ranges; seen = written at bytes s.seen }
+after_write at bytes s =
+    record s { ranges = record { at = at; size = length bytes } ∷ s.ranges; seen = written at bytes s.seen }
 
 -- what a step makes of this file
 abbrev pub after_step : Part → FileState → Step → FileState
@@ -57,7 +59,8 @@ pub record IsLeft (s : FileState) (bytes : List ℕ) : Type 0 where
 -- 1 in each place that was written, where these bytes stand from a place on
 abbrev pub with_ones : List Range → ℕ → List ℕ → List ℕ
 with_ones ranges place [] = []
-with_ones ranges place (byte ∷ bytes) = (if is_written ranges place then 1 else byte) ∷ with_ones ranges (suc place) bytes
+with_ones ranges place (byte ∷ bytes) =
+    (if is_written ranges place then 1 else byte) ∷ with_ones ranges (suc place) bytes
 
 -- what each sort of crash leaves
 abbrev pub crash_of : Crash → FileState → List ℕ

@@ -1,5 +1,6 @@
 -- A disk in memory, as its callers see it. This profile's own rule.
-use Rattle.std.specs.Prelude.{◌≡◌, ◌⊎◌, ℕ, ◌+◌, ◌*◌, ◌<◌, ◌≤◌, Bool, not, ◌&&◌, nat_le, nat_lt, List, [], ◌++◌, length, take, Result, MatchResult}
+use Rattle.std.specs.Prelude.{◌≡◌, ◌⊎◌, ℕ, ◌+◌, ◌*◌, ◌<◌, ◌≤◌, Bool, not, ◌&&◌, nat_le, nat_lt, List, [], ◌++◌, length}
+use Rattle.std.specs.Prelude.{take, Result, MatchResult}
 use Rattle.aas_outside.specs.Faults.{one_more}
 use Rattle.aas_outside.specs.MemCalls.{MemCallsState, called, IsNextFailing}
 use Rattle.aas_outside_disk.specs.declared.crash.Crash.{Crash}
@@ -24,7 +25,14 @@ pub record MemDiskState : Type 0 where
 -- a disk that was just made
 abbrev pub new_disk : Files → ℕ → List ℕ → ℕ → MemDiskState
 new_disk base capacity fails stop =
-    record { base = base; steps = []; capacity = capacity; calls = record { fails = fails; made = 0 }; stop = stop; faults = 0 }
+    record {
+      base = base;
+      steps = [];
+      capacity = capacity;
+      calls = record { fails = fails; made = 0 };
+      stop = stop;
+      faults = 0;
+    }
 
 -- each file after these steps
 abbrev pub after_steps : Files → List Step → Part → FileState
@@ -69,7 +77,8 @@ record_of disk = record { steps = disk.steps; capacity = 8 * disk.capacity }
 -- a write of so many bytes at a place lies within the capacity of its file and has room in the record
 abbrev pub has_room : MemDiskState → ℕ → ℕ → Bool
 has_room disk at count =
-    nat_le (at + count) disk.capacity && (has_room_for_step (record_of disk) && has_room_for_bytes (record_of disk) count)
+    nat_le (at + count) disk.capacity
+    && (has_room_for_step (record_of disk) && has_room_for_bytes (record_of disk) count)
 
 -- such a write is made, also where it then fails
 abbrev pub is_made : MemDiskState → ℕ → ℕ → Bool

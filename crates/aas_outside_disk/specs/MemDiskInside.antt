@@ -28,6 +28,7 @@ abbrev pub Follows : MemFileState → FileState → Type 0
 Follows file s = (choice : Crash) → left_by choice file ≡ crash_of choice s
 
 pub record IsSound (a : Inside) : Type 0 where
-  pub follows : (part : Part) → Follows (mem_file part a.files) (file_after part (mem_file part a.files).base a.recorded.steps)
+  pub follows : (part : Part)
+      → Follows (mem_file part a.files) (file_after part (mem_file part a.files).base a.recorded.steps)
   pub capacities : (part : Part) → (mem_file part a.files).capacity ≡ a.capacity
   pub record_capacity : a.recorded.capacity ≡ 8 * a.capacity

@@ -1,14 +1,17 @@
 -- That what reads give of a disk in memory may be left by a stop.
-use Rattle.std.specs.Prelude.{◌≡◌, ◌⊎◌, ℕ, ◌+◌, ◌-◌, ◌<◌, ◌≤◌, true, false, if◌then◌else◌, nat_le, nat_lt, IsFalse, IsTrue, List, [], ◌∷◌, ◌++◌, length, take, drop, slice_index, Some, refl}
+use Rattle.std.specs.Prelude.{◌≡◌, ◌⊎◌, ℕ, ◌+◌, ◌-◌, ◌<◌, ◌≤◌, true, false, if◌then◌else◌, nat_le, nat_lt, IsFalse}
+use Rattle.std.specs.Prelude.{IsTrue, List, [], ◌∷◌, ◌++◌, length, take, drop, slice_index, Some, refl}
 use Rattle.std.specs.List.{fold}
 use Rattle.std.proofs.Common.{arith, ⊎_elim, inl, inr, sym, ◌∙◌, ap, subst, length-append, length-drop, true≢false}
 use Rattle.std.proofs.lemmas.Bool.{and_from, cases_lt, le-leb, lt-ltb, or_parts}
-use Rattle.std.proofs.lemmas.List.{get_or-append_right, get_or-drop, get_or-take, get_or_append_left, length-take, length-take-le, take_all}
+use Rattle.std.proofs.lemmas.List.{get_or-append_right, get_or-drop, get_or-take, get_or_append_left, length-take}
+use Rattle.std.proofs.lemmas.List.{length-take-le, take_all}
 use Rattle.aas_outside_disk.specs.declared.part.Part.{Part}
 use Rattle.aas_outside_disk.specs.declared.part.Part.TheVariants.{Main, Spare, Selector}
 use Rattle.aas_outside_disk.specs.Disk.{written}
 use Rattle.aas_outside_disk.specs.Files.{Files, file, files_of, same_part}
-use Rattle.aas_outside_disk.specs.FileState.{Step, wrote, synced, Range, FileState, is_in, is_written, settled, after_write, after_step, IsLeft}
+use Rattle.aas_outside_disk.specs.FileState.{Step, wrote, synced, Range, FileState, is_in, is_written, settled}
+use Rattle.aas_outside_disk.specs.FileState.{after_write, after_step, IsLeft}
 use Rattle.aas_outside_disk.specs.MemDisk.{MemDiskState, AreLeft, after_steps, clock, disk_left_at, now, seen_files}
 
 pub file-files_of : (part : Part) (bytes : Part → List ℕ) → file part (files_of bytes) ≡ bytes part
@@ -78,7 +81,8 @@ module _ (at : ℕ) (bytes old : List ℕ) where
 pub settled_left : (bytes : List ℕ) → IsLeft (settled bytes) bytes
 settled_left bytes = record { no_shorter = omega arith; no_longer = omega arith; kept = λ place lt none. refl }
 
-write_left : (s : FileState) (at : ℕ) (bytes : List ℕ) → IsLeft s s.seen → IsLeft (after_write at bytes s) (written at bytes s.seen)
+write_left : (s : FileState) (at : ℕ) (bytes : List ℕ)
+    → IsLeft s s.seen → IsLeft (after_write at bytes s) (written at bytes s.seen)
 write_left s at bytes left = record {
   no_shorter = omega (arith, left.no_shorter, written_no_shorter at bytes s.seen);
   no_longer = omega arith;
@@ -87,7 +91,8 @@ write_left s at bytes left = record {
       written_apart at bytes s.seen place parts.0 (omega (arith, lt, left.no_shorter)) ∙ left.kept place lt parts.1;
 }
 
-step_left : (part : Part) (s : FileState) (step : Step) → IsLeft s s.seen → IsLeft (after_step part s step) (after_step part s step).seen
+step_left : (part : Part) (s : FileState) (step : Step)
+    → IsLeft s s.seen → IsLeft (after_step part s step) (after_step part s step).seen
 step_left part s (wrote other at bytes) left =
     elim (same_part part other) as (λ b. let t = if b then after_write at bytes s else s in IsLeft t t.seen) [
       | true ↦ write_left s at bytes left
@@ -115,7 +120,8 @@ now_left disk files left =
     let all : take (clock disk) disk.steps ≡ disk.steps = take_all (clock disk) disk.steps (omega arith) in
     (omega arith, subst (λ (steps : List Step). AreLeft (after_steps disk.base steps) files) (sym all) left)
 
-pub seen_law : (disk : MemDiskState) (files : Files) → Some (seen_files disk) ≡ Some files → disk_left_at disk (clock disk) files
+pub seen_law : (disk : MemDiskState) (files : Files)
+    → Some (seen_files disk) ≡ Some files → disk_left_at disk (clock disk) files
 seen_law disk files is =
     let same : seen_files disk ≡ files = cc in
     let seen = λ (part : Part). (now disk part).seen in

@@ -22,7 +22,8 @@ left_by New file = file.seen
 left_by Ones file = file.ones
 
 abbrev pub after_file_write : ℕ → List ℕ → MemFileState → MemFileState
-after_file_write at bytes file = record file { seen = written at bytes file.seen; ones = written at (replicate (length bytes) 1) file.ones }
+after_file_write at bytes file =
+    record file { seen = written at bytes file.seen; ones = written at (replicate (length bytes) 1) file.ones }
 
 abbrev pub after_file_sync : MemFileState → MemFileState
 after_file_sync file = record file { durable = file.seen; ones = file.seen }

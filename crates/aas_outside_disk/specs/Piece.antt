@@ -16,7 +16,8 @@ piece_bytes = 65536
 -- a range of one byte or more lies in the piece
 abbrev pub lies_in : PieceState → Part → ℕ → ℕ → Bool
 lies_in piece part at count =
-    nat_lt 0 count && (same_part part piece.part && (nat_le piece.at at && nat_le (at + count) (piece.at + length piece.bytes)))
+    nat_lt 0 count
+    && (same_part part piece.part && (nat_le piece.at at && nat_le (at + count) (piece.at + length piece.bytes)))
 
 -- the bytes of a range that lies in the piece
 abbrev pub bytes_at : PieceState → ℕ → ℕ → List ℕ
@@ -30,8 +31,8 @@ IsRead files piece = piece.bytes ≡ take (length piece.bytes) (drop piece.at (f
 abbrev pub piece_at : Files → Part → ℕ → PieceState
 piece_at files part at = record { part = part; at = at; bytes = take piece_bytes (drop at (file part files)) }
 
--- The piece after a read: the one before it, where the range lies in it; else the one that begins with the range, where a
--- piece is longer than the range; else none.
+-- The piece after a read: the one before it, where the range lies in it; else the one that begins with the range, where
+-- a piece is longer than the range; else none.
 abbrev pub piece_after : Files → PieceState → Part → ℕ → ℕ → PieceState
 piece_after files piece part at count =
     if lies_in piece part at count

@@ -10,8 +10,8 @@ use aas_outside::Failed;
 
 /// Three files that nobody else writes.
 ///
-/// A disk in memory tells what reads give and what a stop may leave. Files of an operating system don't: their disk has any
-/// image at any moment.
+/// A disk in memory tells what reads give and what a stop may leave. Files of an operating system don't: their disk has
+/// any image at any moment.
 pub trait Disk {
     /// What reads give of each file, where the disk tells it.
     ghost seen: { Self → Option Files };
@@ -31,25 +31,30 @@ pub trait Disk {
         ensures seen { seen self.new ≡ seen self.old }
         ensures images { Meanwhile (moment self.old) (moment self.new) (left_at self.old) (left_at self.new) AddsNone }
         ensures past { Passes (moment self.old) (left_at self.old) (moment self.new) (left_at self.new) }
-        ensures cause { HasCause (faults self.old) (faults self.new) result };
+        ensures cause { HasCause (faults self.old) (faults self.new) result }
+        ensures calm { OnOk result (faults self.new ≡ faults self.old) };
 
     /// Reads what stands at a place, up to the whole buffer. The file has so many bytes there.
     fn read_at(&mut self, part: Part, at: u64, buf: &mut [u8]) -> Result<(), Failed>
         requires { IfSome (seen self.old) (λ files. at + length buf.old ≤ length (file part files)) }
-        ensures value { OnOk result (IfSome (seen self.old) (λ files. buf.new ≡ take (length buf.old) (drop at (file part files)))) }
+        ensures value { OnOk result
+            (IfSome (seen self.old) (λ files. buf.new ≡ take (length buf.old) (drop at (file part files)))) }
         ensures seen { seen self.new ≡ seen self.old }
         ensures images { Meanwhile (moment self.old) (moment self.new) (left_at self.old) (left_at self.new) AddsNone }
         ensures past { Passes (moment self.old) (left_at self.old) (moment self.new) (left_at self.new) }
-        ensures cause { HasCause (faults self.old) (faults self.new) result };
+        ensures cause { HasCause (faults self.old) (faults self.new) result }
+        ensures calm { OnOk result (faults self.new ≡ faults self.old) };
 
-    /// Writes at a place, over what is there and past the end, where the place isn't behind the end. Where it fails, any bytes
-    /// may stand in the range.
+    /// Writes at a place, over what is there and past the end, where the place isn't behind the end. Where it fails,
+    /// any bytes may stand in the range.
     fn write_at(&mut self, part: Part, at: u64, bytes: &[u8]) -> Result<(), Failed>
         requires { IfSome (seen self.old) (λ files. at ≤ length (file part files)) }
         ensures written { Writes part at bytes.now (seen self.old) (seen self.new) result }
-        ensures images { Meanwhile (moment self.old) (moment self.new) (left_at self.old) (left_at self.new) (Tears part at (length bytes.now)) }
+        ensures images { Meanwhile (moment self.old) (moment self.new)
+            (left_at self.old) (left_at self.new) (Tears part at (length bytes.now)) }
         ensures past { Passes (moment self.old) (left_at self.old) (moment self.new) (left_at self.new) }
-        ensures cause { HasCause (faults self.old) (faults self.new) result };
+        ensures cause { HasCause (faults self.old) (faults self.new) result }
+        ensures calm { OnOk result (faults self.new ≡ faults self.old) };
 
     /// From then on a stop leaves of this file what reads give.
     fn sync(&mut self, part: Part) -> Result<(), Failed>
@@ -57,7 +62,8 @@ pub trait Disk {
         ensures seen { seen self.new ≡ seen self.old }
         ensures images { Meanwhile (moment self.old) (moment self.new) (left_at self.old) (left_at self.new) AddsNone }
         ensures past { Passes (moment self.old) (left_at self.old) (moment self.new) (left_at self.new) }
-        ensures cause { HasCause (faults self.old) (faults self.new) result };
+        ensures cause { HasCause (faults self.old) (faults self.new) result }
+        ensures calm { OnOk result (faults self.new ≡ faults self.old) };
 
     /// A stop now may leave what reads give.
     ghost seen_is_left: { (disk : Self) (files : Files) → seen disk ≡ Some files → left_at disk (moment disk) files };

@@ -1,5 +1,5 @@
-//! Disks, as a journal sees them: three files that bytes are read from and written to, what a stop at each moment may leave
-//! of them, and a disk in memory.
+//! Disks, as a journal sees them: three files that bytes are read from and written to, what a stop at each moment may
+//! leave of them, and a disk in memory.
 //!
 //! A disk in memory fails at the calls that it is told. What a crash leaves of it is a disk again.
 //!

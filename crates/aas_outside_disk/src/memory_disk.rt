@@ -1,12 +1,14 @@
 // A disk in memory, for tests: its files, the record of what was made of them, and the calls that fail.
-ghost use Rattle.std.specs.Prelude.{◌≡◌, ◌<◌, ◌≤◌, ◌+◌, ◌⊎◌, ◌↔◌, ◌++◌, [], ◌∷◌, if◌then◌else◌, Some, IfOk, OnOk, IsErr, IsTrue, IsFalse, MatchResult, is_ok, length, take, drop};
+ghost use Rattle.std.specs.Prelude.{◌≡◌, ◌≤◌, ◌+◌, ◌⊎◌, ◌↔◌, ◌++◌, [], ◌∷◌, if◌then◌else◌, Some, IfOk, OnOk, IsErr};
+ghost use Rattle.std.specs.Prelude.{IsTrue, IsFalse, MatchResult, is_ok, length, take, drop};
 ghost use Rattle.aas_outside.specs.Faults.{HasCause, one_more};
 ghost use Rattle.aas_outside.specs.MemCalls.{called};
 ghost use Rattle.aas_outside.specs.Moments.{Passes};
 ghost use Rattle.aas_outside_disk.specs.Disk.{AddsNone, HoldsWhatIsRead, Meanwhile, Tears, Writes};
 ghost use Rattle.aas_outside_disk.specs.Files.{file};
 ghost use Rattle.aas_outside_disk.specs.FileState.{wrote, synced};
-ghost use Rattle.aas_outside_disk.specs.MemDisk.{new_disk, seen_files, crash_files, clock, disk_left_at, is_past_stop, IsFailing, record_of, has_room, is_made, IsDiskCall};
+ghost use Rattle.aas_outside_disk.specs.MemDisk.{new_disk, seen_files, crash_files, clock, disk_left_at, is_past_stop};
+ghost use Rattle.aas_outside_disk.specs.MemDisk.{IsFailing, record_of, has_room, is_made, IsDiskCall};
 ghost use Rattle.aas_outside_disk.specs.MemRecord.{has_room_for_step};
 
 use crate::memory_file::MemFile;
@@ -44,10 +46,10 @@ impl Model for MemDisk {
 }
 
 impl MemDisk {
-    /// A disk with these files, of which each has room for `capacity` bytes. The calls with the numbers in `fails` fail, the
-    /// first call being 1, and so do call `stop` and all after it, where `stop` isn't 0. A write fails where its file has no
-    /// room for it, and a write or sync where the record has none, which holds 4,096 of them with eight times the capacity
-    /// in bytes. No other call fails.
+    /// A disk with these files, of which each has room for `capacity` bytes. The calls with the numbers in `fails`
+    /// fail, the first call being 1, and so do call `stop` and all after it, where `stop` isn't 0. A write fails where
+    /// its file has no room for it, and a write or sync where the record has none, which holds 4,096 of them with eight
+    /// times the capacity in bytes. No other call fails.
     ///
     /// A write that fails by its number, and not after call `stop`, is made all the same. A sync that fails isn't.
     pub fn new(
@@ -79,8 +81,8 @@ impl MemDisk {
         })
     }
 
-    /// A disk as a crash leaves this one, without failing calls and without a stop: of what was written since the last sync of
-    /// its file the old bytes, the new ones, or 1 in each place.
+    /// A disk as a crash leaves this one, without failing calls and without a stop: of what was written since the last
+    /// sync of its file the old bytes, the new ones, or 1 in each place.
     pub fn crash(&self, alloc: Global, choice: Crash) -> Result<MemDisk, NoMemory>
         ensures begins { IfOk result (λ disk. disk ≡ new_disk (crash_files choice self.now) self.now.capacity [] 0) }
         ensures image { disk_left_at self.now (clock self.now) (crash_files choice self.now) }
@@ -148,7 +150,8 @@ impl MemDisk {
     fn make_write(&mut self, part: Part, at: u64, bytes: &[u8]) -> bool
         requires { at ≤ length (file part (seen_files self.old)) }
         ensures value { result ≡ is_made self.old at (length bytes.now) }
-        ensures after { self.new ≡ record self.old { steps = self.old.steps ++ (if result then wrote part at bytes.now ∷ [] else []) } }
+        ensures after { self.new
+            ≡ record self.old { steps = self.old.steps ++ (if result then wrote part at bytes.now ∷ [] else []) } }
     {
         if self.is_past_stop() || !self.has_room(at, bytes.len()) {
             return false;
@@ -161,7 +164,8 @@ impl MemDisk {
     // Makes and records a sync where there is room, and answers whether it did.
     fn make_sync(&mut self, part: Part) -> bool
         ensures value { result ≡ has_room_for_step (record_of self.old) }
-        ensures after { self.new ≡ record self.old { steps = self.old.steps ++ (if result then synced part ∷ [] else []) } }
+        ensures after { self.new
+            ≡ record self.old { steps = self.old.steps ++ (if result then synced part ∷ [] else []) } }
     {
         if !self.recorded.has_room_for_step() {
             return false;
@@ -185,7 +189,8 @@ impl MemDisk {
 
     fn try_write(&mut self, part: Part, at: u64, bytes: &[u8]) -> Result<(), Failed>
         requires { at ≤ length (file part (seen_files self.old)) }
-        ensures called { IsDiskCall self.old self.new (if is_made self.old at (length bytes.now) then wrote part at bytes.now ∷ [] else []) result }
+        ensures called { IsDiskCall self.old self.new
+            (if is_made self.old at (length bytes.now) then wrote part at bytes.now ∷ [] else []) result }
         ensures fails { IsErr result ↔ (IsFailing self.old ⊎ IsFalse (has_room self.old at (length bytes.now))) }
         ensures made { OnOk result (IsTrue (is_made self.old at (length bytes.now))) }
         ensures later { self.old.faults ≤ self.new.faults }
@@ -228,9 +233,11 @@ impl Disk for MemDisk {
     fn length(&mut self, part: Part) -> Result<u64, Failed>
         ensures value { IfOk result (λ count. count ≡ length (file part (seen_files self.old))) }
         ensures seen { Some (seen_files self.new) ≡ Some (seen_files self.old) }
-        ensures images { Meanwhile (clock self.old) (clock self.new) (disk_left_at self.old) (disk_left_at self.new) AddsNone }
+        ensures images { Meanwhile (clock self.old) (clock self.new)
+            (disk_left_at self.old) (disk_left_at self.new) AddsNone }
         ensures past { Passes (clock self.old) (disk_left_at self.old) (clock self.new) (disk_left_at self.new) }
         ensures cause { HasCause self.old.faults self.new.faults result }
+        ensures calm { OnOk result (self.new.faults ≡ self.old.faults) }
         ensures called { IsDiskCall self.old self.new [] result }
         ensures fails { IsErr result ↔ IsFailing self.old }
     {
@@ -241,11 +248,14 @@ impl Disk for MemDisk {
     fn read_at(&mut self, part: Part, at: u64, buf: &mut [u8]) -> Result<(), Failed>
         requires { at + length buf.old ≤ length (file part (seen_files self.old)) }
         ensures value { MatchResult result
-            (λ _. buf.new ≡ take (length buf.old) (drop at (file part (seen_files self.old)))) (λ _. buf.new ≡ buf.old) }
+            (λ _. buf.new ≡ take (length buf.old) (drop at (file part (seen_files self.old))))
+            (λ _. buf.new ≡ buf.old) }
         ensures seen { Some (seen_files self.new) ≡ Some (seen_files self.old) }
-        ensures images { Meanwhile (clock self.old) (clock self.new) (disk_left_at self.old) (disk_left_at self.new) AddsNone }
+        ensures images { Meanwhile (clock self.old) (clock self.new)
+            (disk_left_at self.old) (disk_left_at self.new) AddsNone }
         ensures past { Passes (clock self.old) (disk_left_at self.old) (clock self.new) (disk_left_at self.new) }
         ensures cause { HasCause self.old.faults self.new.faults result }
+        ensures calm { OnOk result (self.new.faults ≡ self.old.faults) }
         ensures called { IsDiskCall self.old self.new [] result }
         ensures fails { IsErr result ↔ IsFailing self.old }
     {
@@ -262,6 +272,7 @@ impl Disk for MemDisk {
             (Tears part at (length bytes.now)) }
         ensures past { Passes (clock self.old) (disk_left_at self.old) (clock self.new) (disk_left_at self.new) }
         ensures cause { HasCause self.old.faults self.new.faults result }
+        ensures calm { OnOk result (self.new.faults ≡ self.old.faults) }
         ensures called { IsDiskCall self.old self.new
             (if is_made self.old at (length bytes.now) then wrote part at bytes.now ∷ [] else []) result }
         ensures fails { IsErr result ↔ (IsFailing self.old ⊎ IsFalse (has_room self.old at (length bytes.now))) }
@@ -270,11 +281,14 @@ impl Disk for MemDisk {
     }
 
     fn sync(&mut self, part: Part) -> Result<(), Failed>
-        ensures durable { OnOk result (HoldsWhatIsRead part (Some (seen_files self.old)) (disk_left_at self.new (clock self.new))) }
+        ensures durable { OnOk result
+            (HoldsWhatIsRead part (Some (seen_files self.old)) (disk_left_at self.new (clock self.new))) }
         ensures seen { Some (seen_files self.new) ≡ Some (seen_files self.old) }
-        ensures images { Meanwhile (clock self.old) (clock self.new) (disk_left_at self.old) (disk_left_at self.new) AddsNone }
+        ensures images { Meanwhile (clock self.old) (clock self.new)
+            (disk_left_at self.old) (disk_left_at self.new) AddsNone }
         ensures past { Passes (clock self.old) (disk_left_at self.old) (clock self.new) (disk_left_at self.new) }
         ensures cause { HasCause self.old.faults self.new.faults result }
+        ensures calm { OnOk result (self.new.faults ≡ self.old.faults) }
         ensures called { IsDiskCall self.old self.new (if is_ok result then synced part ∷ [] else []) result }
         ensures fails { IsErr result ↔ (IsFailing self.old ⊎ IsFalse (has_room_for_step (record_of self.old))) }
     {

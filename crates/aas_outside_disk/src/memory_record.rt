@@ -1,5 +1,5 @@
 // The record of a disk in memory.
-ghost use Rattle.std.specs.Prelude.{◌≡◌, ◌+◌, ◌++◌, [], ◌∷◌, IfOk, IsTrue, length};
+ghost use Rattle.std.specs.Prelude.{◌≡◌, ◌++◌, [], ◌∷◌, IfOk, IsTrue, length};
 ghost use Rattle.aas_outside_disk.specs.FileState.{wrote, synced};
 ghost use Rattle.aas_outside_disk.specs.MemRecord.{has_room_for_step, has_room_for_bytes};
 

@@ -12,8 +12,8 @@ use aas_outside::Failed;
 use std::alloc::Global;
 use std::marker::Model;
 
-/// How many bytes a piece has at most: hundreds of records, so that a call of the disk costs little for each of them, and still
-/// little memory.
+/// How many bytes a piece has at most: hundreds of records, so that a call of the disk costs little for each of them,
+/// and still little memory.
 pub const PIECE_BYTES: usize = 65_536;
 
 /// Bytes of a file that were read together, in storage that is made once.
@@ -86,9 +86,11 @@ impl Piece {
             self.new ≡ record { part = part; at = at; bytes = take count (drop at (file part files)) })) }
         ensures none { OnErr result (self.new.bytes ≡ []) }
         ensures seen { D.seen disk.new ≡ D.seen disk.old }
-        ensures images { Meanwhile (D.moment disk.old) (D.moment disk.new) (D.left_at disk.old) (D.left_at disk.new) AddsNone }
+        ensures images { Meanwhile (D.moment disk.old) (D.moment disk.new)
+            (D.left_at disk.old) (D.left_at disk.new) AddsNone }
         ensures past { Passes (D.moment disk.old) (D.left_at disk.old) (D.moment disk.new) (D.left_at disk.new) }
         ensures cause { HasCause (D.faults disk.old) (D.faults disk.new) result }
+        ensures calm { OnOk result (D.faults disk.new ≡ D.faults disk.old) }
     {
         self.len = 0;
         disk.read_at(part, at, &mut self.storage[0..count])?;

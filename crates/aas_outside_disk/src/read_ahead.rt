@@ -9,10 +9,11 @@ use aas_model_text::NoMemory;
 use aas_outside::Failed;
 use std::alloc::Global;
 
-/// A disk over another one that reads a large piece of a file at once and answers the reads that lie in that piece from it.
+/// A disk over another one that reads a large piece of a file at
+/// once and answers the reads that lie in that piece from it.
 ///
-/// A read of another range gives the piece up, whether it fails or not, and so does each write. Nothing is read ahead for a
-/// range of no bytes, for one as large as a piece, or for one that the file doesn't have.
+/// A read of another range gives the piece up, whether it fails or not, and so does each write. Nothing is read ahead
+/// for a range of no bytes, for one as large as a piece, or for one that the file doesn't have.
 #[derive(Drop)]
 pub struct ReadAhead<D: Disk> {
     disk: D,
@@ -40,13 +41,14 @@ impl<D: Disk> ReadAhead<D> {
         Ok(ReadAhead { disk, piece })
     }
 
-    /// Reads the piece that begins with the range, where the range doesn't lie in the present one. Where none is to be read, or
-    /// that fails, there is none.
+    /// Reads the piece that begins with the range, where the range doesn't lie in the present one. Where none is to be
+    /// read, or that fails, there is none.
     fn fetch(&mut self, part: Part, at: u64, count: usize) -> Result<(), Failed>
         requires { IfSome (D.seen (disk_below self.old)) (λ files. at + count ≤ length (file part files)) }
         ensures after { OnOk result (IfSome (D.seen (disk_below self.old)) (λ files.
             piece_of self.new ≡ piece_after files (piece_of self.old) part at count)) }
-        ensures either { OnOk result (IsTrue (lies_in (piece_of self.new) part at count) ⊎ ((piece_of self.new).bytes ≡ [])) }
+        ensures either { OnOk result
+            (IsTrue (lies_in (piece_of self.new) part at count) ⊎ ((piece_of self.new).bytes ≡ [])) }
         ensures none { OnErr result ((piece_of self.new).bytes ≡ []) }
         ensures held { IsTrue (lies_in (piece_of self.old) part at count) →
             IsOk result × (disk_below self.new ≡ disk_below self.old) × (piece_of self.new ≡ piece_of self.old) }
@@ -56,6 +58,7 @@ impl<D: Disk> ReadAhead<D> {
         ensures past { Passes (D.moment (disk_below self.old)) (D.left_at (disk_below self.old))
             (D.moment (disk_below self.new)) (D.left_at (disk_below self.new)) }
         ensures cause { HasCause (D.faults (disk_below self.old)) (D.faults (disk_below self.new)) result }
+        ensures calm { OnOk result (D.faults (disk_below self.new) ≡ D.faults (disk_below self.old)) }
     {
         let ReadAhead { disk, piece } = self;
         if piece.get(part, at, count).is_some() {
@@ -105,6 +108,7 @@ impl<D: Disk> Disk for ReadAhead<D> {
         ensures past { Passes (D.moment (disk_below self.old)) (D.left_at (disk_below self.old))
             (D.moment (disk_below self.new)) (D.left_at (disk_below self.new)) }
         ensures cause { HasCause (D.faults (disk_below self.old)) (D.faults (disk_below self.new)) result }
+        ensures calm { OnOk result (D.faults (disk_below self.new) ≡ D.faults (disk_below self.old)) }
 
         // A range that lies in the piece is answered from it, and the disk below isn't called.
         ensures held { IsTrue (lies_in (piece_of self.old) part at (length buf.old)) → IsOk result
@@ -126,12 +130,14 @@ impl<D: Disk> Disk for ReadAhead<D> {
 
     fn write_at(&mut self, part: Part, at: u64, bytes: &[u8]) -> Result<(), Failed>
         requires { IfSome (D.seen (disk_below self.old)) (λ files. at ≤ length (file part files)) }
-        ensures written { Writes part at bytes.now (D.seen (disk_below self.old)) (D.seen (disk_below self.new)) result }
+        ensures written { Writes part at bytes.now
+            (D.seen (disk_below self.old)) (D.seen (disk_below self.new)) result }
         ensures images { Meanwhile (D.moment (disk_below self.old)) (D.moment (disk_below self.new))
             (D.left_at (disk_below self.old)) (D.left_at (disk_below self.new)) (Tears part at (length bytes.now)) }
         ensures past { Passes (D.moment (disk_below self.old)) (D.left_at (disk_below self.old))
             (D.moment (disk_below self.new)) (D.left_at (disk_below self.new)) }
         ensures cause { HasCause (D.faults (disk_below self.old)) (D.faults (disk_below self.new)) result }
+        ensures calm { OnOk result (D.faults (disk_below self.new) ≡ D.faults (disk_below self.old)) }
         ensures none { (piece_of self.new).bytes ≡ [] }
     {
         self.piece.clear();

@@ -1,5 +1,6 @@
 -- What a keeper's call makes of a command that was taken, by the rule by which the keeper has room.
-use Rattle.std.proofs.Common.{◌≡◌, ◌<◌, ◌^◌, ℕ, Bool, List, [], ◌∷◌, ◌++◌, length, inl, refl, sym, subst, arith, Ok, Err}
+use Rattle.std.proofs.Common.{◌≡◌, ◌<◌, ◌^◌, ℕ, Bool, List, [], ◌∷◌, ◌++◌, length, inl, refl, sym, subst, arith}
+use Rattle.std.proofs.Common.{Ok, Err}
 use Rattle.std.specs.Prelude.{◌≢◌, IsTrue, Result}
 use Rattle.aas_command.specs.Commands.{payload_of}
 use Rattle.aas_command.specs.declared.command.Command.{Command}
@@ -24,12 +25,14 @@ held documents keeper stopped = record { documents = documents; keeper = keeper;
 -- what is known of the repository before speaks of it as its fields are, mid
 module _ {K I : Type 0} (stands_for : I → List (List ℕ) → Type 0) (kept : K → List (List ℕ) → Type 0)
     (moment : K → ℕ) (left_at : K → ℕ → I → Type 0) (room_behind : K → Room) (has_room : K → ℕ → Bool)
-    (by_payloads : (keeper : K) (payloads : List (List ℕ)) (n : ℕ) → kept keeper payloads → has_room keeper n ≡ room_behind keeper payloads n)
+    (by_payloads : (keeper : K) (payloads : List (List ℕ)) (n : ℕ)
+    → kept keeper payloads → has_room keeper n ≡ room_behind keeper payloads n)
     (limit : (keeper : K) (payloads : List (List ℕ)) (n : ℕ) → IsTrue (room_behind keeper payloads n) → n < 2 ^ 32)
     (c : Command) (mid old new : Held K) (same : mid ≡ old) where
   abbrev Does : Result Done Refusal → Held K → Type 0
   Does result old = (records : List (List ℕ)) → IsSettledState stands_for (state_of kept moment left_at old) records
-      → Acts (room_behind old.keeper) stands_for (repository_of (state_of kept moment left_at old) records) c (moment old.keeper)
+      → Acts (room_behind old.keeper) stands_for
+      (repository_of (state_of kept moment left_at old) records) c (moment old.keeper)
       (state_of kept moment left_at new) result
 
   abbrev Came : step.Result → Type 0
@@ -42,11 +45,15 @@ module _ {K I : Type 0} (stands_for : I → List (List ℕ) → Type 0) (kept : 
   steps records result known came =
       let n = length (payload_of c) in
       subst (λ (b : Bool). ComesTo b mid.documents c result)
-      (room_is (has_room mid.keeper) c (room_behind mid.keeper records n) (sym (by_payloads mid.keeper records n known)) (limit mid.keeper records n)) came
+      (room_is (has_room mid.keeper) c (room_behind mid.keeper records n)
+      (sym (by_payloads mid.keeper records n known)) (limit mid.keeper records n))
+      came
 
-  pub keeps : (frame : List ℕ) (done : Done) → done ≡ done_of c → IsTaken (has_room mid.keeper) mid.documents c new.documents (taken.Made frame)
+  pub keeps : (frame : List ℕ) (done : Done)
+      → done ≡ done_of c → IsTaken (has_room mid.keeper) mid.documents c new.documents (taken.Made frame)
       → ((payloads : List (List ℕ)) → kept mid.keeper payloads → kept new.keeper (payloads ++ frame ∷ []))
-      → ((payloads : List (List ℕ)) → IsSettled stands_for (kept mid.keeper) (moment mid.keeper) (left_at mid.keeper) payloads
+      → ((payloads : List (List ℕ))
+      → IsSettled stands_for (kept mid.keeper) (moment mid.keeper) (left_at mid.keeper) payloads
       → InTurn stands_for (left_at new.keeper) (moment mid.keeper) (moment new.keeper) payloads (frame ∷ []) [])
       → Does (Ok done) old
   keeps frame done is made adds turn = subst (Does (Ok done)) same (λ records settled. (
@@ -58,14 +65,16 @@ module _ {K I : Type 0} (stands_for : I → List (List ℕ) → Type 0) (kept : 
       holds = record {
         documents = refl;
         kept = subst (λ (p : List ℕ). kept new.keeper (records ++ p ∷ [])) made.0 (adds records settled.told);
-        in_turn = subst (λ (p : List ℕ). InTurn stands_for (left_at new.keeper) (moment mid.keeper) (moment new.keeper) records (p ∷ []) [])
+        in_turn = subst (λ (p : List ℕ).
+            InTurn stands_for (left_at new.keeper) (moment mid.keeper) (moment new.keeper) records (p ∷ []) [])
             made.0 (turn records settled);
       };
     },
   ))
 
   pub tears : (frame : List ℕ) → IsTaken (has_room mid.keeper) mid.documents c new.documents (taken.Made frame)
-      → ((payloads : List (List ℕ)) → IsSettled stands_for (kept mid.keeper) (moment mid.keeper) (left_at mid.keeper) payloads
+      → ((payloads : List (List ℕ))
+      → IsSettled stands_for (kept mid.keeper) (moment mid.keeper) (left_at mid.keeper) payloads
       → InTurn stands_for (left_at new.keeper) (moment mid.keeper) (moment new.keeper) payloads [] (frame ∷ []))
       → Does (Err StorageFault) old
   tears frame made turn = subst (Does (Err StorageFault)) same (λ records settled. (
@@ -75,7 +84,8 @@ module _ {K I : Type 0} (stands_for : I → List (List ℕ) → Type 0) (kept : 
       fields = made.3;
       faulted = record {
         documents = refl;
-        in_turn = subst (λ (p : List ℕ). InTurn stands_for (left_at new.keeper) (moment mid.keeper) (moment new.keeper) records [] (p ∷ []))
+        in_turn = subst (λ (p : List ℕ).
+            InTurn stands_for (left_at new.keeper) (moment mid.keeper) (moment new.keeper) records [] (p ∷ []))
             made.0 (turn records settled);
       };
     },
@@ -84,16 +94,19 @@ module _ {K I : Type 0} (stands_for : I → List (List ℕ) → Type 0) (kept : 
   ))
 
   -- a refusal, and want of memory
-  pub refuses : (refusal : Refusal) → new ≡ mid → refusal ≢ StorageFault → (refusal ≢ NoMemory → Came (refused refusal)) → Does (Err refusal) old
+  pub refuses : (refusal : Refusal)
+      → new ≡ mid → refusal ≢ StorageFault → (refusal ≢ NoMemory → Came (refused refusal)) → Does (Err refusal) old
   refuses refusal unchanged other came = subst (Does (Err refusal)) same (λ records settled. (
     λ is. absurd (other is),
-    λ not. subst (λ (new : Held K). Holds stands_for records [] (record { documents = mid.documents; records = records }) (moment mid.keeper)
+    λ not. subst (λ (new : Held K).
+        Holds stands_for records [] (record { documents = mid.documents; records = records }) (moment mid.keeper)
         (state_of kept moment left_at new)) (sym unchanged) (stands records settled),
     λ not left. steps records (refused refusal) settled.told (came left),
   ))
     where
       stands : (records : List (List ℕ)) → IsSettledState stands_for (state_of kept moment left_at mid) records
-          → Holds stands_for records [] (record { documents = mid.documents; records = records }) (moment mid.keeper) (state_of kept moment left_at mid)
+          → Holds stands_for records [] (record { documents = mid.documents; records = records })
+          (moment mid.keeper) (state_of kept moment left_at mid)
       stands records settled = record {
         documents = refl;
         kept = settled.told;

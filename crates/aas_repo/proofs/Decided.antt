@@ -47,7 +47,8 @@ comes_without has_room d c k id deletes there =
 -- ---- by what is there
 
 -- a store was asked
-pub asked : (d : Documents) (k j : Collection) (id own : List ℕ) (b there : Bool) → j ≡ k → id ≡ own → there ≡ has j id d → there ≡ b
+pub asked : (d : Documents) (k j : Collection) (id own : List ℕ) (b there : Bool)
+    → j ≡ k → id ≡ own → there ≡ has j id d → there ≡ b
     → has k own d ≡ b
 asked d k j id own b there same_k same_id is found =
     sym (is ∙ ap (λ (j : Collection). has j id d) same_k ∙ ap (λ (id : List ℕ). has k id d) same_id) ∙ found
@@ -55,15 +56,23 @@ asked d k j id own b there same_k same_id is found =
 pub conflicts : (has_room : Bool) (d new : Documents) (c : Command) (k : Collection) (id : List ℕ) (x : Document)
     → Puts d c (is_there k id d) x → has k (encode_utf8_all id) d ≡ true
     → new ≡ d → IsDecision has_room d c new (decision.Refused Conflict)
-conflicts has_room d new c k id x puts there same =
-    (same, λ is. absurd (cc), refused_by has_room d c Conflict _ puts.causes_are (ap (λ b. first_of (when b Conflict ∷ [])) there))
+conflicts has_room d new c k id x puts there same = (
+  same,
+  λ is. absurd (cc),
+  refused_by has_room d c Conflict _ puts.causes_are (ap (λ b. first_of (when b Conflict ∷ [])) there),
+)
 
 pub clear : (d : Documents) (c : Command) (k : Collection) (id : List ℕ) (x : Document) → Puts d c (is_there k id d) x
     → has k (encode_utf8_all id) d ≡ false → Makes d c x
 clear d c k id x puts there =
-    record { no_cause = ap first_of (puts.causes_are ∙ ap (λ b. when b Conflict ∷ []) there); made = puts.made; left_are = puts.left_are }
+    record {
+      no_cause = ap first_of (puts.causes_are ∙ ap (λ b. when b Conflict ∷ []) there);
+      made = puts.made;
+      left_are = puts.left_are;
+    }
 
-pub misses : (has_room : Bool) (d new : Documents) (c : Command) (k : Collection) (id : List ℕ) → causes d c ≡ is_absent k id d ∷ []
+pub misses : (has_room : Bool) (d new : Documents) (c : Command) (k : Collection) (id : List ℕ)
+    → causes d c ≡ is_absent k id d ∷ []
     → has k (encode_utf8_all id) d ≡ false → new ≡ d
     → IsDecision has_room d c new (decision.Refused (NotFound (absent_of k)))
 misses has_room d new c k id are there same =
@@ -81,16 +90,20 @@ found d c k id x puts there =
 
 -- ---- a document is taken away
 
-pub has_no_room : (d new : Documents) (c : Command) (k : Collection) (id : List ℕ) → Deletes d c k id → has k (encode_utf8_all id) d ≡ true
+pub has_no_room : (d new : Documents) (c : Command) (k : Collection) (id : List ℕ)
+    → Deletes d c k id → has k (encode_utf8_all id) d ≡ true
     → new ≡ d
     → IsDecision false d c new (decision.Refused StorageFull)
 has_no_room d new c k id deletes there same = (same, λ is. absurd (cc), comes_without false d c k id deletes there)
 
-pub deleted : (d new : Documents) (c : Command) (k : Collection) (id : List ℕ) → Deletes d c k id → has k (encode_utf8_all id) d ≡ true
+pub deleted : (d new : Documents) (c : Command) (k : Collection) (id : List ℕ)
+    → Deletes d c k id → has k (encode_utf8_all id) d ≡ true
     → new ≡ without k (encode_utf8_all id) d
     → IsDecision true d c new decision.Made
-deleted d new c k id deletes there same =
-    (refl, subst (λ (n : Documents). ComesTo true d c (accepted n)) (sym same) (comes_without true d c k id deletes there))
+deleted d new c k id deletes there same = (
+  refl,
+  subst (λ (n : Documents). ComesTo true d c (accepted n)) (sym same) (comes_without true d c k id deletes there),
+)
 
 -- ---- other asset information
 
@@ -108,14 +121,16 @@ sets d id a (Some old) s is made =
 
 pub sets_whole : (d : Documents) (id : List ℕ) (a : AssetInformation) (found : Option Shell) (s : Shell) → AreValid d
     → whole_asset_information limits a ≡ true
-    → map.get d.shells (encode_utf8_all id) ≡ found → Some s ≡ option_map (with_asset a) found → is_whole_shell limits s ≡ true
+    → map.get d.shells (encode_utf8_all id) ≡ found → Some s ≡ option_map (with_asset a) found
+    → is_whole_shell limits s ≡ true
 sets_whole d id a None s valid whole is made = absurd (cc)
 sets_whole d id a (Some old) s valid whole is made =
     let same : with_asset a old ≡ s = cc in
     subst (λ (s : Shell). is_whole_shell limits s ≡ true) same
     (whole_with_asset old a (valid.shells (encode_utf8_all id) old is).valid.whole whole)
 
-none_found : (d : Documents) (id : List ℕ) (a : AssetInformation) (found : Option Shell) → map.get d.shells (encode_utf8_all id) ≡ found
+none_found : (d : Documents) (id : List ℕ) (a : AssetInformation) (found : Option Shell)
+    → map.get d.shells (encode_utf8_all id) ≡ found
     → None ≡ option_map (with_asset a) found
     → has Shells (encode_utf8_all id) d ≡ false
 none_found d id a None is made = ap is_some is

@@ -1,5 +1,6 @@
 -- What an import comes to, by the causes that were tried.
-use Rattle.std.proofs.Common.{◌≡◌, ◌+◌, ℕ, zero, suc, Bool, true, false, List, [], ◌∷◌, ◌++◌, arith, Option, Some, None, refl, sym, ap, ap₂, ◌∙◌, subst}
+use Rattle.std.proofs.Common.{◌≡◌, ◌+◌, ℕ, zero, suc, Bool, true, false, List, [], ◌∷◌, ◌++◌, arith, Option, Some, None}
+use Rattle.std.proofs.Common.{refl, sym, ap, ap₂, ◌∙◌, subst}
 use Rattle.std.specs.Prelude.{◌&&◌, ◌==◌, ◌≢◌, All, not, flat_map, map, option_map}
 use Rattle.std.specs.BTreeMap.{is_at}
 use Rattle.std.specs.BTreeSet.{BTreeSet, insert_key}
@@ -28,7 +29,8 @@ use Rattle.aas_model.specs.declared.path.Fault.{Fault}
 use Rattle.aas_model_names.specs.declared.collection.Collection.TheVariants.{Shells, Submodels, Concepts}
 use Rattle.aas_reference.specs.Rules.{first}
 use Rattle.aas_step.proofs.Imported.{with_all_documents}
-use Rattle.aas_step.specs.Causes.{Cause, document_causes, first_of, first_repeated, first_repeated_in, has_repeated, has_too_many, unless, when}
+use Rattle.aas_step.specs.Causes.{Cause, document_causes, first_of, first_repeated, first_repeated_in, has_repeated}
+use Rattle.aas_step.specs.Causes.{has_too_many, unless, when}
 use Rattle.aas_step.specs.Laws.{ValidIsStorable}
 use Rattle.aas_step.specs.Made.{documents_in, with_documents}
 use Rattle.aas_step.specs.Step.{ComesBy, ComesTo, accepted, later_causes, refused, result_of}
@@ -45,13 +47,19 @@ use Rattle.aas_repo_documents.specs.declared.decision.Decision.TheVariants as de
 text_of : (bytes text : List ℕ) → IsUtf8 bytes → bytes ≡ encode_utf8_all text → chars bytes ≡ text
 text_of bytes text utf8 is = encodes_same (chars bytes) text (encodes-chars bytes utf8 ∙ is)
 
-pub again_seen : (s : BTreeSet (Bor (List ℕ))) (k : Bor (List ℕ)) (is_new : Bool) → IsUtf8 k.now → is_new ≡ not (list_any (is_at (λ (y : Bor (List ℕ)). slice_cmp nat_cmp k.now y.now)) s.keys)
-    → (text : List ℕ) (ids : List (List ℕ)) → k.now ≡ encode_utf8_all text → HasTexts s ids → not is_new ≡ is_among text ids
-again_seen s k is_new utf8 added text ids is has = again s k is_new utf8 added ids has ∙ ap (λ t. is_among t ids) (text_of k.now text utf8 is)
+pub again_seen : (s : BTreeSet (Bor (List ℕ))) (k : Bor (List ℕ)) (is_new : Bool)
+    → IsUtf8 k.now → is_new ≡ not (list_any (is_at (λ (y : Bor (List ℕ)). slice_cmp nat_cmp k.now y.now)) s.keys)
+    → (text : List ℕ) (ids : List (List ℕ))
+    → k.now ≡ encode_utf8_all text → HasTexts s ids → not is_new ≡ is_among text ids
+again_seen s k is_new utf8 added text ids is has =
+    again s k is_new utf8 added ids has ∙ ap (λ t. is_among t ids) (text_of k.now text utf8 is)
 
-pub one_more_seen : (s n : BTreeSet (Bor (List ℕ))) (k : Bor (List ℕ)) → IsUtf8 k.now → n.keys ≡ insert_key (λ (x y : Bor (List ℕ)). slice_cmp nat_cmp x.now y.now) s.keys k
-    → (text : List ℕ) (ids : List (List ℕ)) → k.now ≡ encode_utf8_all text → HasTexts s ids → HasTexts n (ids ++ text ∷ [])
-one_more_seen s n k utf8 keys text ids is has = subst (λ t. HasTexts n (ids ++ t ∷ [])) (text_of k.now text utf8 is) (one_more s n k utf8 keys ids has)
+pub one_more_seen : (s n : BTreeSet (Bor (List ℕ))) (k : Bor (List ℕ))
+    → IsUtf8 k.now → n.keys ≡ insert_key (λ (x y : Bor (List ℕ)). slice_cmp nat_cmp x.now y.now) s.keys k
+    → (text : List ℕ) (ids : List (List ℕ))
+    → k.now ≡ encode_utf8_all text → HasTexts s ids → HasTexts n (ids ++ text ∷ [])
+one_more_seen s n k utf8 keys text ids is has =
+    subst (λ t. HasTexts n (ids ++ t ∷ [])) (text_of k.now text utf8 is) (one_more s n k utf8 keys ids has)
 
 -- ---- causes in turn
 
@@ -73,9 +81,11 @@ by_lists has_room e =
     let ss : List Document = map shell e.shells in
     let ms : List Document = map submodel e.submodels in
     let cs : List Document = map concept e.concepts in
-    let both = ap first_of (flat_map-append document_causes ms cs) ∙ first_in (flat_map document_causes ms) (flat_map document_causes cs) in
+    let both = ap first_of (flat_map-append document_causes ms cs)
+    ∙ first_in (flat_map document_causes ms) (flat_map document_causes cs) in
     let all =
-    ap first_of (flat_map-append document_causes ss (ms ++ cs)) ∙ first_in (flat_map document_causes ss) (flat_map document_causes (ms ++ cs))
+    ap first_of (flat_map-append document_causes ss (ms ++ cs))
+    ∙ first_in (flat_map document_causes ss) (flat_map document_causes (ms ++ cs))
     ∙ ap (option_or (first_of (flat_map document_causes ss))) both in
     first_in (flat_map document_causes (ss ++ (ms ++ cs))) (unless has_room StorageFull ∷ [])
     ∙ ap (option_or (first_of (flat_map document_causes (ss ++ (ms ++ cs))))) (alone (unless has_room StorageFull))
@@ -87,17 +97,21 @@ none_in (Some why) more e = absurd (cc)
 
 -- ---- refusals
 
-by_document : (faults : List Fault) (many : Bool) (more : List Cause) (refusal : Refusal) → (Some refusal ≡ first_of more → refusal ≢ StorageFault)
-    → Some refusal ≡ first_of (option_map refusal_of_fault (first faults) ∷ when many TooMany ∷ more) → refusal ≢ StorageFault
+by_document : (faults : List Fault) (many : Bool) (more : List Cause) (refusal : Refusal)
+    → (Some refusal ≡ first_of more → refusal ≢ StorageFault)
+    → Some refusal ≡ first_of (option_map refusal_of_fault (first faults) ∷ when many TooMany ∷ more)
+    → refusal ≢ StorageFault
 by_document [] true more refusal rest e is = absurd (cc)
 by_document [] false more refusal rest e is = rest e is
 by_document (f ∷ fs) many more refusal rest e is = of_fault (f.number == 0) f refusal e is
 
-no_storage_fault : (has_room : Bool) (new : List Document) (refusal : Refusal) → Some refusal ≡ first_of (later_causes has_room new) → refusal ≢ StorageFault
+no_storage_fault : (has_room : Bool) (new : List Document) (refusal : Refusal)
+    → Some refusal ≡ first_of (later_causes has_room new) → refusal ≢ StorageFault
 no_storage_fault true [] refusal e is = absurd (cc)
 no_storage_fault false [] refusal e is = absurd (cc)
 no_storage_fault has_room (x ∷ xs) refusal e is =
-    by_document (faults_of x) (has_too_many x) (later_causes has_room xs) refusal (no_storage_fault has_room xs refusal) e is
+    by_document (faults_of x) (has_too_many x) (later_causes has_room xs) refusal
+    (no_storage_fault has_room xs refusal) e is
 
 -- ---- what it comes to
 
@@ -110,88 +124,129 @@ later_than true later is = absurd (cc)
 later_than false later is = refl
 
 -- why the first faulty document isn't taken
-why_from : (n : ℕ) (xs : List Document) → option_map (λ f. f.1) (first_faulty_from n xs) ≡ first_of (flat_map document_causes xs)
+why_from : (n : ℕ) (xs : List Document)
+    → option_map (λ f. f.1) (first_faulty_from n xs) ≡ first_of (flat_map document_causes xs)
 why_from n [] = refl
-why_from n (x ∷ xs) = by (first_of (document_causes x)) (why_from (n + 1) xs) ∙ sym (first_in (document_causes x) (flat_map document_causes xs))
+why_from n (x ∷ xs) =
+    by (first_of (document_causes x)) (why_from (n + 1) xs)
+    ∙ sym (first_in (document_causes x) (flat_map document_causes xs))
   where
     by : (o : Cause) → option_map (λ f. f.1) (first_faulty_from (n + 1) xs) ≡ first_of (flat_map document_causes xs)
-        → option_map (λ f. f.1) (option_map_or (λ why. Some (n, why)) o (first_faulty_from (n + 1) xs)) ≡ option_or o (first_of (flat_map document_causes xs))
+        → option_map (λ f. f.1) (option_map_or (λ why. Some (n, why)) o (first_faulty_from (n + 1) xs))
+        ≡ option_or o (first_of (flat_map document_causes xs))
     by None rest = rest
     by (Some why) rest = refl
 
 abbrev why : Option (ℕ × Refusal) → Cause
 why found = option_map (λ f. f.1) found
 
-in_lists : (a b c : Option (ℕ × Refusal)) → option_map (λ f. f.1) (option_or (in_list Shells a) (option_or (in_list Submodels b) (in_list Concepts c))) ≡ option_or (why a) (option_or (why b) (why c))
+in_lists : (a b c : Option (ℕ × Refusal))
+    → option_map (λ f. f.1) (option_or (in_list Shells a) (option_or (in_list Submodels b) (in_list Concepts c)))
+    ≡ option_or (why a) (option_or (why b) (why c))
 in_lists (Some f) b c = refl
 in_lists None (Some f) c = refl
 in_lists None None (Some f) = refl
 in_lists None None None = refl
 
-why_in : (e : Environment) → option_map (λ f. f.1) (first_faulty_in e) ≡ option_or (cause_of shell e.shells) (option_or (cause_of submodel e.submodels) (cause_of concept e.concepts))
+why_in : (e : Environment)
+    → option_map (λ f. f.1) (first_faulty_in e)
+    ≡ option_or (cause_of shell e.shells) (option_or (cause_of submodel e.submodels) (cause_of concept e.concepts))
 why_in e =
-    in_lists (first_faulty_from 0 (map shell e.shells)) (first_faulty_from 0 (map submodel e.submodels)) (first_faulty_from 0 (map concept e.concepts))
-    ∙ ap₂ option_or (why_from 0 (map shell e.shells)) (ap₂ option_or (why_from 0 (map submodel e.submodels)) (why_from 0 (map concept e.concepts)))
+    in_lists (first_faulty_from 0 (map shell e.shells))
+    (first_faulty_from 0 (map submodel e.submodels)) (first_faulty_from 0 (map concept e.concepts))
+    ∙ ap₂ option_or (why_from 0 (map shell e.shells))
+    (ap₂ option_or (why_from 0 (map submodel e.submodels)) (why_from 0 (map concept e.concepts)))
 
 -- of all documents that an environment makes
-pub later_cause : (has_room : Bool) (e : Environment) → first_of (later_causes has_room (documents_in e)) ≡ option_or (option_map (λ f. f.1) (first_faulty_in e)) (unless has_room StorageFull)
+pub later_cause : (has_room : Bool) (e : Environment)
+    → first_of (later_causes has_room (documents_in e))
+    ≡ option_or (option_map (λ f. f.1) (first_faulty_in e)) (unless has_room StorageFull)
 later_cause has_room e = by_lists has_room e ∙ ap (λ o. option_or o (unless has_room StorageFull)) (sym (why_in e))
 
 -- where no identifier is repeated: why the first faulty document isn't taken, and then the room
-pub in_turn : (has_room : Bool) (e : Environment) (own : Cause) → has_repeated e ≡ false → own ≡ option_map (λ f. f.1) (first_faulty_in e)
+pub in_turn : (has_room : Bool) (e : Environment) (own : Cause)
+    → has_repeated e ≡ false → own ≡ option_map (λ f. f.1) (first_faulty_in e)
     → option_or own (unless has_room StorageFull) ≡ first_of (import_causes has_room e)
 in_turn has_room e own once is =
-    ap (λ o. option_or o (unless has_room StorageFull)) is ∙ sym (later_than (has_repeated e) (later_causes has_room (documents_in e)) once ∙ later_cause has_room e)
+    ap (λ o. option_or o (unless has_room StorageFull)) is
+    ∙ sym (later_than (has_repeated e) (later_causes has_room (documents_in e)) once ∙ later_cause has_room e)
 
 -- the first place at which an identifier is repeated, list by list
-pub places : (e : Environment) (a b c : Option ℕ) → a ≡ first_repeated (map (λ s. s.head.id) e.shells) → b ≡ first_repeated (map (λ s. s.head.id) e.submodels)
+pub places : (e : Environment) (a b c : Option ℕ)
+    → a ≡ first_repeated (map (λ s. s.head.id) e.shells) → b ≡ first_repeated (map (λ s. s.head.id) e.submodels)
     → c ≡ first_repeated (map (λ c. c.head.id) e.concepts)
-    → option_or (option_map (λ n. (Shells, n)) a) (option_or (option_map (λ n. (Submodels, n)) b) (option_map (λ n. (Concepts, n)) c)) ≡ first_repeated_in e
+    → option_or (option_map (λ n. (Shells, n)) a)
+    (option_or (option_map (λ n. (Submodels, n)) b) (option_map (λ n. (Concepts, n)) c))
+    ≡ first_repeated_in e
 places e a b c is_a is_b is_c =
-    ap (λ o. option_or (option_map (λ n. (Shells, n)) o) (option_or (option_map (λ n. (Submodels, n)) b) (option_map (λ n. (Concepts, n)) c))) is_a
-    ∙ ap (λ o. option_or (option_map (λ n. (Shells, n)) (first_repeated (map (λ s. s.head.id) e.shells))) (option_or (option_map (λ n. (Submodels, n)) o) (option_map (λ n. (Concepts, n)) c))) is_b
+    ap (λ o. option_or (option_map (λ n. (Shells, n)) o)
+    (option_or (option_map (λ n. (Submodels, n)) b) (option_map (λ n. (Concepts, n)) c)))
+    is_a
     ∙ ap (λ o. option_or (option_map (λ n. (Shells, n)) (first_repeated (map (λ s. s.head.id) e.shells)))
-    (option_or (option_map (λ n. (Submodels, n)) (first_repeated (map (λ s. s.head.id) e.submodels))) (option_map (λ n. (Concepts, n)) o))) is_c
+    (option_or (option_map (λ n. (Submodels, n)) o) (option_map (λ n. (Concepts, n)) c)))
+    is_b
+    ∙ ap (λ o. option_or (option_map (λ n. (Shells, n)) (first_repeated (map (λ s. s.head.id) e.shells)))
+    (option_or (option_map (λ n. (Submodels, n)) (first_repeated (map (λ s. s.head.id) e.submodels)))
+    (option_map (λ n. (Concepts, n)) o)))
+    is_c
 
-comes : (has_room : Bool) (d : Documents) (e : Environment) (o : Cause) → has_repeated e ≡ false → o ≡ first_of (later_causes has_room (documents_in e))
+comes : (has_room : Bool) (d : Documents) (e : Environment) (o : Cause)
+    → has_repeated e ≡ false → o ≡ first_of (later_causes has_room (documents_in e))
     → ComesTo has_room d (Import e) (result_of o (with_documents d (documents_in e)))
 unfolding ComesTo
 comes has_room d e o once is =
-    subst (λ b. ComesBy (first_of (when b Conflict ∷ [])) has_room d (Import e) (result_of o (with_documents d (documents_in e)))) (sym once)
+    subst (λ b.
+    ComesBy (first_of (when b Conflict ∷ [])) has_room d (Import e) (result_of o (with_documents d (documents_in e))))
+    (sym once)
     (documents_in e, refl, ap (λ (o : Cause). result_of o (with_documents d (documents_in e))) is)
 
 -- an identifier is repeated, or none is
-by_repeated : (b : Bool) (refusal : Refusal) (later : List Cause) → Some refusal ≡ first_of (when b Conflict ∷ later) → (b ≡ true → refusal ≡ Conflict) × (b ≡ false → Some refusal ≡ first_of later)
+by_repeated : (b : Bool) (refusal : Refusal) (later : List Cause) → Some refusal ≡ first_of (when b Conflict ∷ later)
+    → (b ≡ true → refusal ≡ Conflict) × (b ≡ false → Some refusal ≡ first_of later)
 by_repeated true refusal later e = (λ is. cc, λ is. absurd (cc))
 by_repeated false refusal later e = (λ is. absurd (cc), λ is. e)
 
-pub refuses : (has_room : Bool) (d new : Documents) (e : Environment) (refusal : Refusal) → Some refusal ≡ first_of (import_causes has_room e) → new ≡ d
+pub refuses : (has_room : Bool) (d new : Documents) (e : Environment) (refusal : Refusal)
+    → Some refusal ≡ first_of (import_causes has_room e) → new ≡ d
     → IsDecision has_room d (Import e) new (decision.Refused refusal)
 unfolding ComesTo
 refuses has_room d new e refusal why same = by (has_repeated e) refl
   where
-    told : (has_repeated e ≡ true → refusal ≡ Conflict) × (has_repeated e ≡ false → Some refusal ≡ first_of (later_causes has_room (documents_in e)))
+    told : (has_repeated e ≡ true → refusal ≡ Conflict)
+        × (has_repeated e ≡ false → Some refusal ≡ first_of (later_causes has_room (documents_in e)))
     told = by_repeated (has_repeated e) refusal (later_causes has_room (documents_in e)) why
 
     by : (b : Bool) → has_repeated e ≡ b → IsDecision has_room d (Import e) new (decision.Refused refusal)
     by true is =
-        let conflict : refusal ≡ Conflict = told.0 is in
-        (same, λ fault. absurd (cc), subst (λ b. ComesBy (first_of (when b Conflict ∷ [])) has_room d (Import e) (refused refusal)) (sym is) (ap refused conflict))
-    by false is = let later = told.1 is in (same, no_storage_fault has_room (documents_in e) refusal later, comes has_room d e (Some refusal) is later)
+        let conflict : refusal ≡ Conflict = told.0 is in (
+          same,
+          λ fault. absurd (cc),
+          subst (λ b. ComesBy (first_of (when b Conflict ∷ [])) has_room d (Import e) (refused refusal))
+              (sym is) (ap refused conflict),
+        )
+    by false is =
+        let later = told.1 is in
+        (same, no_storage_fault has_room (documents_in e) refusal later, comes has_room d e (Some refusal) is later)
 
 -- no cause is left
-clear : (b has_room : Bool) (new : List Document) → None ≡ first_of (when b Conflict ∷ later_causes has_room new) → (b ≡ false) × (None ≡ first_of (later_causes has_room new)) × (has_room ≡ true)
+clear : (b has_room : Bool) (new : List Document) → None ≡ first_of (when b Conflict ∷ later_causes has_room new)
+    → (b ≡ false) × (None ≡ first_of (later_causes has_room new)) × (has_room ≡ true)
 clear true has_room new none = absurd (cc)
 clear false true new none = (refl, none, refl)
 clear false false new none =
-    let full = none_in (first_of (flat_map document_causes new)) (Some StorageFull) (none ∙ first_in (flat_map document_causes new) (Some StorageFull ∷ [])) in
+    let full = none_in (first_of (flat_map document_causes new)) (Some StorageFull)
+    (none ∙ first_in (flat_map document_causes new) (Some StorageFull ∷ [])) in
     absurd (cc)
 
-pub imports : (has_room : Bool) (d new : Documents) (e : Environment) → None ≡ first_of (import_causes has_room e) → new ≡ with_all d e
+pub imports : (has_room : Bool) (d new : Documents) (e : Environment)
+    → None ≡ first_of (import_causes has_room e) → new ≡ with_all d e
     → IsDecision has_room d (Import e) new decision.Made
 imports has_room d new e none same =
-    let is = clear (has_repeated e) has_room (documents_in e) none in
-    (is.2, subst (λ (n : Documents). ComesTo has_room d (Import e) (accepted n)) (with_all_documents d e ∙ sym same) (comes has_room d e None is.0 is.1))
+    let is = clear (has_repeated e) has_room (documents_in e) none in (
+      is.2,
+      subst (λ (n : Documents). ComesTo has_room d (Import e) (accepted n))
+          (with_all_documents d e ∙ sym same) (comes has_room d e None is.0 is.1),
+    )
 
 -- ---- submodels that a store takes
 
@@ -199,20 +254,27 @@ all_of : {X : Type 0} (P : X → Type 0) (x : X) (xs : List X) → P x → All P
 all_of P x xs here rest zero d lt = here
 all_of P x xs here rest (suc k) d lt = rest k d (omega (arith, lt))
 
-all_storable : (ss : List Submodel) → ValidIsStorable → list_all (is_whole_submodel limits) ss ≡ true → first_of (flat_map document_causes (map submodel ss)) ≡ None → All IsStorable ss
+all_storable : (ss : List Submodel) → ValidIsStorable → list_all (is_whole_submodel limits) ss ≡ true
+    → first_of (flat_map document_causes (map submodel ss)) ≡ None → All IsStorable ss
 all_storable [] law whole none = λ k d lt. absurd (omega (arith, lt))
 all_storable (s ∷ ss) law whole none =
     let wholes = and_parts (is_whole_submodel limits s) (list_all (is_whole_submodel limits) ss) whole in
-    let nones = none_in (first_of (document_causes (submodel s))) (first_of (flat_map document_causes (map submodel ss)))
+    let nones =
+    none_in (first_of (document_causes (submodel s))) (first_of (flat_map document_causes (map submodel ss)))
     (sym none ∙ first_in (document_causes (submodel s)) (flat_map document_causes (map submodel ss))) in
     let own = no_cause (faults_of (submodel s)) (has_too_many (submodel s)) nones.0 in
-    all_of IsStorable s ss (law s (record { whole = wholes.0; faultless = own.0 }) own.1) (all_storable ss law wholes.1 nones.1)
+    all_of IsStorable s ss (law s (record { whole = wholes.0; faultless = own.0 }) own.1)
+    (all_storable ss law wholes.1 nones.1)
 
-pub storable : (has_room : Bool) (e : Environment) → ValidIsStorable → is_whole_environment limits e ≡ true → None ≡ first_of (import_causes has_room e) → All IsStorable e.submodels
+pub storable : (has_room : Bool) (e : Environment) → ValidIsStorable → is_whole_environment limits e ≡ true
+    → None ≡ first_of (import_causes has_room e) → All IsStorable e.submodels
 storable has_room e law whole none =
     let is = clear (has_repeated e) has_room (documents_in e) none in
     let lists = none_in _ (unless has_room StorageFull) (is.1 ∙ by_lists has_room e) in
     let behind = none_in (cause_of shell e.shells) _ (sym lists.0) in
     let own = none_in (cause_of submodel e.submodels) _ (sym behind.1) in
-    let front = and_parts (list_all (is_whole_shell limits) e.shells && list_all (is_whole_submodel limits) e.submodels) (list_all (is_whole_concept limits) e.concepts) whole in
-    all_storable e.submodels law (and_parts (list_all (is_whole_shell limits) e.shells) (list_all (is_whole_submodel limits) e.submodels) front.0).1 own.0
+    let front = and_parts (list_all (is_whole_shell limits) e.shells && list_all (is_whole_submodel limits) e.submodels)
+    (list_all (is_whole_concept limits) e.concepts) whole in
+    all_storable e.submodels law
+    (and_parts (list_all (is_whole_shell limits) e.shells) (list_all (is_whole_submodel limits) e.submodels) front.0).1
+    own.0

@@ -20,7 +20,9 @@ module _ (d : Documents) (id : List ℕ) (change : Shell → Shell) (new : Shell
   by_shell None is made = absurd (cc)
   by_shell (Some s) is made =
       let same : change s ≡ new = cc in
-      subst (λ (s : Shell). is_whole_shell limits s ≡ true) same (keeps s (valid.shells (encode_utf8_all id) s is).valid.whole)
+      subst (λ (s : Shell). is_whole_shell limits s ≡ true) same
+      (keeps s (valid.shells (encode_utf8_all id) s is).valid.whole)
 
-  pub stays_whole : (cause_in : Shell → Cause) → IsChangedShell d id cause_in change (Ok new) → is_whole_shell limits new ≡ true
+  pub stays_whole : (cause_in : Shell → Cause)
+      → IsChangedShell d id cause_in change (Ok new) → is_whole_shell limits new ≡ true
   stays_whole cause_in is = by_shell (map.get d.shells (encode_utf8_all id)) refl is.1

@@ -17,7 +17,8 @@ use Rattle.aas_repo_documents.specs.declared.decision.Decision.TheVariants as de
 use Rattle.aas_repo.specs.declared.taking.Taken.TheVariants as taken
 
 -- valid documents stay so
-pub decided_valid : (has_room : Bool) (old new : Documents) (c : Command) (made : Decision) → IsWellFormed c → AreValid old
+pub decided_valid : (has_room : Bool) (old new : Documents) (c : Command) (made : Decision)
+    → IsWellFormed c → AreValid old
     → IsDecision has_room old c new made → AreValid new
 decided_valid has_room old new c decision.Made formed valid is = stays_valid has_room old new c formed valid is.1
 decided_valid has_room old new c (decision.Refused refusal) formed valid is = subst AreValid (sym is.0) valid
@@ -40,18 +41,21 @@ room_is has_room c b asked limit =
 
 -- and none for a payload that has no frame
 no_room : (has_room : ℕ → Bool) (c : Command) → 2 ^ 32 ≤ length (payload_of c) → has_room_for has_room c ≡ false
-no_room has_room c long = ap (λ (b : Bool). b && has_room (length (payload_of c))) (le-ltb (length (payload_of c)) (2 ^ 32) long)
+no_room has_room c long =
+    ap (λ (b : Bool). b && has_room (length (payload_of c))) (le-ltb (length (payload_of c)) (2 ^ 32) long)
 
 -- ---- what is taken
 
 module _ (has_room : ℕ → Bool) (old new : Documents) (c : Command) where
-  told : (frame : List ℕ) (size : ℕ) (b : Bool) → frame ≡ payload_of c → size ≡ length frame → b ≡ has_room size → (b ≡ true → size < 2 ^ 32)
+  told : (frame : List ℕ) (size : ℕ) (b : Bool)
+      → frame ≡ payload_of c → size ≡ length frame → b ≡ has_room size → (b ≡ true → size < 2 ^ 32)
       → has_room_for has_room c ≡ b
   told frame size b is size_is asked limit =
       let same : size ≡ length (payload_of c) = size_is ∙ ap length is in
       room_is has_room c b (asked ∙ ap has_room same) (λ free. subst (λ (n : ℕ). n < 2 ^ 32) same (limit free))
 
-  pub made_is_taken : (frame : List ℕ) (size : ℕ) (b : Bool) → frame ≡ payload_of c → size ≡ length frame → b ≡ has_room size → (b ≡ true → size < 2 ^ 32)
+  pub made_is_taken : (frame : List ℕ) (size : ℕ) (b : Bool)
+      → frame ≡ payload_of c → size ≡ length frame → b ≡ has_room size → (b ≡ true → size < 2 ^ 32)
       → HasFields c → IsDecision b old c new decision.Made → IsTaken has_room old c new (taken.Made frame)
   made_is_taken frame size b is size_is asked limit fields made = (
     is,
@@ -60,15 +64,18 @@ module _ (has_room : ℕ → Bool) (old new : Documents) (c : Command) where
     fields,
   )
 
-  pub refused_is_taken : (frame : List ℕ) (size : ℕ) (b : Bool) (refusal : Refusal) → frame ≡ payload_of c → size ≡ length frame → b ≡ has_room size
-      → (b ≡ true → size < 2 ^ 32) → IsDecision b old c new (decision.Refused refusal) → IsTaken has_room old c new (taken.Refused refusal)
+  pub refused_is_taken : (frame : List ℕ) (size : ℕ) (b : Bool) (refusal : Refusal)
+      → frame ≡ payload_of c → size ≡ length frame → b ≡ has_room size
+      → (b ≡ true → size < 2 ^ 32) → IsDecision b old c new (decision.Refused refusal)
+      → IsTaken has_room old c new (taken.Refused refusal)
   refused_is_taken frame size b refusal is size_is asked limit made = (
     made.0,
     made.1,
     subst (λ (b : Bool). ComesTo b old c (refused refusal)) (sym (told frame size b is size_is asked limit)) made.2,
   )
 
-  pub too_long_is_refused : (refusal : Refusal) → 2 ^ 32 ≤ length (payload_of c) → IsDecision false old c new (decision.Refused refusal)
+  pub too_long_is_refused : (refusal : Refusal)
+      → 2 ^ 32 ≤ length (payload_of c) → IsDecision false old c new (decision.Refused refusal)
       → IsTaken has_room old c new (taken.Refused refusal)
   too_long_is_refused refusal long made =
       (made.0, made.1, subst (λ (b : Bool). ComesTo b old c (refused refusal)) (sym (no_room has_room c long)) made.2)

@@ -3,7 +3,8 @@ use Rattle.std.specs.Prelude.{◌≡◌, ◌≢◌, ℕ, Bool, List, [], ◌∷�
 use Rattle.aas_command.specs.Commands.{payload_of}
 use Rattle.aas_command.specs.Encoding.{HasFields}
 use Rattle.aas_command.specs.declared.command.Command.{Command}
-use Rattle.aas_command.specs.declared.command.Command.TheVariants.{CreateShell, CreateSubmodel, CreateConcept, AddReference, InsertElement, Import}
+use Rattle.aas_command.specs.declared.command.Command.TheVariants.{CreateShell, CreateSubmodel, CreateConcept}
+use Rattle.aas_command.specs.declared.command.Command.TheVariants.{AddReference, InsertElement, Import}
 use Rattle.aas_command.specs.declared.refusal.Refusal.{Refusal}
 use Rattle.aas_command.specs.declared.refusal.Refusal.TheVariants.{NoMemory, StorageFault}
 use Rattle.aas_rule.specs.Rule.{Repository, Room}
@@ -20,25 +21,30 @@ done_of (CreateSubmodel d) = Created
 done_of (CreateConcept d) = Created
 done_of (AddReference id r) = Created
 done_of (InsertElement id p e) = Created
-done_of (Import e) = Imported (record { shells = length e.shells; submodels = length e.submodels; concepts = length e.concepts })
+done_of (Import e) =
+    Imported (record { shells = length e.shells; submodels = length e.submodels; concepts = length e.concepts })
 done_of c = Changed
 
 -- The command is accepted and kept, and can be read from its payload.
-pub record IsAccepted {I : Type 0} (room : Room) (stands_for : I → List (List ℕ) → Type 0) (r : Repository Documents) (c : Command) (from : ℕ) (now : State Documents I) : Type 0 where
+pub record IsAccepted {I : Type 0} (room : Room) (stands_for : I → List (List ℕ) → Type 0)
+    (r : Repository Documents) (c : Command) (from : ℕ) (now : State Documents I) : Type 0 where
   pub new : Documents
   pub steps : Steps room r c (accepted new)
   pub fields : HasFields c
-  pub holds : Holds stands_for r.records (payload_of c ∷ []) (record { documents = new; records = r.records ++ payload_of c ∷ [] }) from now
+  pub holds : Holds stands_for r.records (payload_of c ∷ [])
+      (record { documents = new; records = r.records ++ payload_of c ∷ [] }) from now
 
 -- The command is accepted, but the keeper failed: the documents are those that it makes, and a stop leaves it or not.
-pub record IsTorn {I : Type 0} (room : Room) (stands_for : I → List (List ℕ) → Type 0) (r : Repository Documents) (c : Command) (from : ℕ) (now : State Documents I) : Type 0 where
+pub record IsTorn {I : Type 0} (room : Room) (stands_for : I → List (List ℕ) → Type 0)
+    (r : Repository Documents) (c : Command) (from : ℕ) (now : State Documents I) : Type 0 where
   pub new : Documents
   pub steps : Steps room r c (accepted new)
   pub fields : HasFields c
   pub faulted : IsFaulted stands_for r.records [] (payload_of c ∷ []) new from now
 
 -- by what is answered: for a refusal, and for want of memory, everything is as before
-abbrev pub Acts : {I : Type 0} → Room → (I → List (List ℕ) → Type 0) → Repository Documents → Command → ℕ → State Documents I → Result Done Refusal → Type 0
+abbrev pub Acts : {I : Type 0} → Room → (I → List (List ℕ) → Type 0)
+    → Repository Documents → Command → ℕ → State Documents I → Result Done Refusal → Type 0
 Acts room stands_for r c from now (Ok done) = (done ≡ done_of c) × IsAccepted room stands_for r c from now
 Acts room stands_for r c from now (Err refusal) =
     (refusal ≡ StorageFault → IsTorn room stands_for r c from now)

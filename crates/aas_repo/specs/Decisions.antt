@@ -1,5 +1,7 @@
--- What is decided on a command on whole documents, and what becomes of a command that is taken, before it is kept. This profile's own rule.
-use Rattle.std.specs.Prelude.{◌≡◌, ◌≢◌, ◌^◌, ◌&&◌, ℕ, nat_lt, Bool, List, [], ◌∷◌, Some, None, Result, Ok, Err, IsTrue, length}
+-- What is decided on a command on whole documents, and what becomes of
+-- a command that is taken, before it is kept. This profile's own rule.
+use Rattle.std.specs.Prelude.{◌≡◌, ◌≢◌, ◌^◌, ◌&&◌, ℕ, nat_lt, Bool, List, [], ◌∷◌, Some, None, Result, Ok, Err}
+use Rattle.std.specs.Prelude.{IsTrue, length}
 use Rattle.std.specs.Str.{encode_utf8_all}
 use Rattle.aas_model_names.specs.declared.collection.Collection.{Collection}
 use Rattle.aas_constraint_rules.specs.Faults.{shell}
@@ -17,14 +19,16 @@ use Rattle.aas_step.specs.Step.{ComesTo, accepted, refused}
 use Rattle.aas_repo.specs.declared.taking.Taken.{Taken}
 use Rattle.aas_repo.specs.declared.taking.Taken.TheVariants as taken
 
--- a keeper that has room for so many bytes or not has room for the command; for a payload that has no frame there is none
+-- a keeper that has room for so many bytes or not has room for the command;
+-- for a payload that has no frame there is none
 abbrev pub has_room_for : (has_room : ℕ → Bool) → Command → Bool
 has_room_for has_room c = nat_lt (length (payload_of c)) (2 ^ 32) && has_room (length (payload_of c))
 
 -- with the documents before and after
 abbrev pub IsTaken : (has_room : ℕ → Bool) → Documents → Command → Documents → Taken → Type 0
 IsTaken has_room old c new (taken.Made frame) =
-    (frame ≡ payload_of c) × IsTrue (has_room (length frame)) × ComesTo (has_room_for has_room c) old c (accepted new) × HasFields c
+    (frame ≡ payload_of c) × IsTrue (has_room (length frame))
+    × ComesTo (has_room_for has_room c) old c (accepted new) × HasFields c
 IsTaken has_room old c new (taken.Refused refusal) =
     (new ≡ old) × (refusal ≢ StorageFault) × ComesTo (has_room_for has_room c) old c (refused refusal)
 IsTaken has_room old c new taken.NoMemory = new ≡ old
@@ -40,6 +44,7 @@ with_asset asset s = record s { asset = asset }
 
 -- The shell of an identifier, changed; or why it isn't, where memory isn't refused: the first cause in what is there.
 abbrev pub IsChangedShell : Documents → List ℕ → (Shell → Cause) → (Shell → Shell) → Result Shell Refusal → Type 0
-IsChangedShell d id cause_in change (Ok new) = (first_of (in_shell d id cause_in) ≡ None) × (changed_shell d id change ≡ shell new ∷ [])
+IsChangedShell d id cause_in change (Ok new) =
+    (first_of (in_shell d id cause_in) ≡ None) × (changed_shell d id change ≡ shell new ∷ [])
 IsChangedShell d id cause_in change (Err refusal) =
     refusal ≢ NoMemory → (refusal ≢ StorageFault) × (first_of (in_shell d id cause_in) ≡ Some refusal)

@@ -8,10 +8,12 @@ use Rattle.aas_model_names.specs.declared.collection.Collection.{Collection}
 use Rattle.aas_model_names.specs.declared.collection.Collection.TheVariants.{Concepts, Shells, Submodels}
 use Rattle.aas_step.specs.Causes.{document_causes, first_of}
 
--- the first of some documents that has a fault or too many elements: its place, where the first of them stands at n, and why it isn't taken
+-- the first of some documents that has a fault or too many elements: its place,
+-- where the first of them stands at n, and why it isn't taken
 abbrev pub first_faulty_from : ℕ → List Document → Option (ℕ × Refusal)
 first_faulty_from n [] = None
-first_faulty_from n (x ∷ xs) = option_map_or (λ why. Some (n, why)) (first_of (document_causes x)) (first_faulty_from (n + 1) xs)
+first_faulty_from n (x ∷ xs) =
+    option_map_or (λ why. Some (n, why)) (first_of (document_causes x)) (first_faulty_from (n + 1) xs)
 
 -- with the list of an environment in which it stands
 abbrev pub in_list : Collection → Option (ℕ × Refusal) → Option ((Collection × ℕ) × Refusal)
@@ -21,4 +23,5 @@ in_list c found = option_map (λ f. ((c, f.0), f.1)) found
 abbrev pub first_faulty_in : Environment → Option ((Collection × ℕ) × Refusal)
 first_faulty_in e =
     option_or (in_list Shells (first_faulty_from 0 (map shell e.shells)))
-    (option_or (in_list Submodels (first_faulty_from 0 (map submodel e.submodels))) (in_list Concepts (first_faulty_from 0 (map concept e.concepts))))
+    (option_or (in_list Submodels (first_faulty_from 0 (map submodel e.submodels)))
+    (in_list Concepts (first_faulty_from 0 (map concept e.concepts))))

@@ -18,7 +18,8 @@ pub record Held (K : Type 0) : Type 0 where
   pub stopped : Bool
 
 -- with what a stop leaves of the keeper
-abbrev pub state_of : {K I : Type 0} → (K → List (List ℕ) → Type 0) → (K → ℕ) → (K → ℕ → I → Type 0) → Held K → State Documents I
+abbrev pub state_of : {K I : Type 0}
+    → (K → List (List ℕ) → Type 0) → (K → ℕ) → (K → ℕ → I → Type 0) → Held K → State Documents I
 state_of kept moment left_at held = record {
   documents = held.documents;
   kept = kept held.keeper;
@@ -34,8 +35,10 @@ map_code x = map.code (coded_list coded_ℕ) x
 abbrev documents_code : Coded Documents
 documents_code = code_by (Map Shell × (Map Submodel × Map Concept))
     (coded× (map_code shell.the_row.coded) (coded× (map_code submodel.the_row.coded) (map_code concept.the_row.coded)))
-    (λ d. (d.shells, (d.submodels, d.concepts))) (λ p. record { shells = p.0; submodels = p.1.0; concepts = p.1.1 }) (λ _. refl)
+    (λ d. (d.shells, (d.submodels, d.concepts)))
+    (λ p. record { shells = p.0; submodels = p.1.0; concepts = p.1.1 }) (λ _. refl)
 
 abbrev pub held_code : {K : Type 0} → Coded K → Coded (Held K)
 held_code {K = K} keeper = code_by (Documents × (K × Bool)) (coded× documents_code (coded× keeper coded_bool))
-    (λ held. (held.documents, (held.keeper, held.stopped))) (λ p. record { documents = p.0; keeper = p.1.0; stopped = p.1.1 }) (λ _. refl)
+    (λ held. (held.documents, (held.keeper, held.stopped)))
+    (λ p. record { documents = p.0; keeper = p.1.0; stopped = p.1.1 }) (λ _. refl)

@@ -1,7 +1,6 @@
 // Commands are refused, or change the store: the causes are tried from the left, and then the store is changed.
 ghost use Rattle.std.specs.Prelude.{◌≡◌, IfOk, IsTrue, option_map};
 ghost use Rattle.std.specs.Option.{option_copied};
-ghost use Rattle.std.specs.FinMap as map;
 ghost use Rattle.aas_command.specs.Commands.{IsWellFormed};
 ghost use Rattle.aas_command.specs.declared.command.Command as commands;
 ghost use Rattle.aas_command.specs.declared.command.Command.TheVariants.{SetAsset};

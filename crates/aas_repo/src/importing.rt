@@ -41,8 +41,8 @@ pub(crate) fn import<S: Store>(
     }
 }
 
-/// Why an environment isn't imported: an identifier stands twice, or the first cause of its documents in their order, or
-/// there is no room.
+/// Why an environment isn't imported: an identifier stands twice, or the first cause of its documents in their order,
+/// or there is no room.
 fn import_cause(
     alloc: Global,
     environment: &Environment,
@@ -63,8 +63,9 @@ fn import_cause(
     Ok(None)
 }
 
-/// The first document of an environment that has a fault or too many elements: its list and its place there, counted from 0, and
-/// why it isn't taken. It stands in the shells, or else in the submodels, or else in the concept descriptions.
+/// The first document of an environment that has a fault or too many elements: its list and its place there, counted
+/// from 0, and why it isn't taken. It stands in the shells, or else in the submodels, or else in the concept
+/// descriptions.
 pub fn first_faulty(
     alloc: Global,
     environment: &Environment,
@@ -97,8 +98,8 @@ fn first_faulty_among<D: Stored>(
     Ok(None)
 }
 
-/// The place of the first document in a list of an environment, counted from 0, whose identifier stands before it too: in its
-/// shells, or else its submodels, or else its concept descriptions.
+/// The place of the first document in a list of an environment, counted from 0, whose identifier stands before it too:
+/// in its shells, or else its submodels, or else its concept descriptions.
 pub fn first_repeated(
     alloc: Global,
     environment: &Environment,
@@ -134,9 +135,11 @@ fn first_repeated_among<D: Stored>(
 
 /// Whether the identifier is one of those seen, which have it from then on.
 fn meet<'a>(seen: &mut BTreeSet<&'a str>, id: &'a str) -> Result<bool, NoMemory>
-    ensures again { IfOk result (λ again. (text : List ℕ) (ids : List (List ℕ)) → id.now ≡ encode_utf8_all text → HasTexts seen.old ids
+    ensures again { IfOk result (λ again.
+        (text : List ℕ) (ids : List (List ℕ)) → id.now ≡ encode_utf8_all text → HasTexts seen.old ids
         → again ≡ is_among text ids) }
-    ensures has { IfOk result (λ again. (text : List ℕ) (ids : List (List ℕ)) → id.now ≡ encode_utf8_all text → HasTexts seen.old ids
+    ensures has { IfOk result (λ again.
+        (text : List ℕ) (ids : List (List ℕ)) → id.now ≡ encode_utf8_all text → HasTexts seen.old ids
         → HasTexts seen.new (ids ++ text ∷ [])) }
 {
     match seen.insert(id) {

@@ -101,7 +101,8 @@ fn without_references<S: Store>(
     id: &Text,
     submodel: &Text,
 ) -> Result<Shell, Refusal>
-    ensures { IsChangedShell (S.documents store.now) id.now (lacks_reference submodel.now) (without_references submodel.now) result }
+    ensures { IsChangedShell (S.documents store.now) id.now
+        (lacks_reference submodel.now) (without_references submodel.now) result }
 {
     let shell = referring(store, id, submodel)?;
     let mut copy = shell.copy()?;

@@ -1,7 +1,7 @@
 // Documents in a store, and the commands that made them in a keeper.
 ghost use Rattle.std.specs.Prelude.{◌≡◌, ◌≢◌, ◌≤◌, ℕ, List, None, Some, true, false, Err, IfErr, MatchResult};
 ghost use Rattle.aas_command.specs.Commands.{IsWellFormed};
-ghost use Rattle.aas_command.specs.declared.refusal.Refusal.TheVariants.{NoMemory, StorageFault};
+ghost use Rattle.aas_command.specs.declared.refusal.Refusal.TheVariants.{StorageFault};
 ghost use Rattle.aas_outside.specs.Faults.{Rose};
 ghost use Rattle.aas_rule.specs.State.{IsSettledState, PassesTo, repository_of};
 ghost use Rattle.aas_step.specs.Causes.{first_of, reference_causes};
@@ -38,11 +38,11 @@ pub struct Counts {
     pub concepts: u64,
 }
 
-/// A repository of shells, submodels and concept descriptions: documents in a store, and the commands that made them in a
-/// keeper.
+/// A repository of shells, submodels and concept descriptions: documents in a store, and the commands that made them in
+/// a keeper.
 ///
-/// IDTA-01002-3-0, the repository interfaces. Each document stands under its own identifier, keeps every constraint, and
-/// has at most 65,536 elements.
+/// IDTA-01002-3-0, the repository interfaces. Each document stands under its own identifier, keeps every constraint,
+/// and has at most 65,536 elements.
 #[derive(Drop)]
 pub struct Repo<S: Store, K: Keeper> {
     alloc: Global,
@@ -100,9 +100,9 @@ impl<S: Store, K: Keeper> Repo<S, K> {
         &self.store
     }
 
-    /// Does what a command asks for, or refuses it by the first of its causes, in the order of [`Refusal`] from `NotFound`
-    /// on. At `Ok` every stop leaves the command from now on. At `StorageFault` the keeper failed, and the repository is
-    /// stopped; at any other error nothing has changed, also in a keeper that doesn't tell what it keeps.
+    /// Does what a command asks for, or refuses it by the first of its causes, in the order of [`Refusal`] from
+    /// `NotFound` on. At `Ok` every stop leaves the command from now on. At `StorageFault` the keeper failed, and the
+    /// repository is stopped; at any other error nothing has changed, also in a keeper that doesn't tell what it keeps.
     pub fn act(&mut self, command: Command) -> Result<Done, Refusal>
         requires open { self.old.stopped ≡ false }
         requires well_formed { IsWellFormed command }
@@ -112,13 +112,15 @@ impl<S: Store, K: Keeper> Repo<S, K> {
             (repository_of (state_of K.kept K.moment K.left_at self.old) records) command
             (K.moment self.old.keeper) (state_of K.kept K.moment K.left_at self.new) result }
         ensures room { K.room_behind self.new.keeper ≡ K.room_behind self.old.keeper }
-        ensures past { PassesTo (state_of K.kept K.moment K.left_at self.old) (state_of K.kept K.moment K.left_at self.new) }
+        ensures past { PassesTo (state_of K.kept K.moment K.left_at self.old)
+            (state_of K.kept K.moment K.left_at self.new) }
         ensures stopped { result ≢ Err StorageFault → self.new.stopped ≡ false }
         ensures stops { result ≡ Err StorageFault → self.new.stopped ≡ true }
         ensures outcome { ComesOut (has_room_for (K.has_room self.old.keeper) command)
             self.old.documents command self.new.documents result }
         ensures unchanged { IfErr result (λ refusal. refusal ≢ StorageFault → self.new ≡ self.old) }
         ensures later { K.faults self.old.keeper ≤ K.faults self.new.keeper }
+        ensures calm { result ≢ Err StorageFault → K.faults self.new.keeper ≡ K.faults self.old.keeper }
         ensures fault { result ≡ Err StorageFault → Rose (K.faults self.old.keeper) (K.faults self.new.keeper) }
     {
         let done = done_of(&command);
@@ -135,8 +137,8 @@ impl<S: Store, K: Keeper> Repo<S, K> {
         }
     }
 
-    /// Asks whether a shell is there and has a reference to a submodel, as all that goes through the shell to the submodel
-    /// needs; or why not.
+    /// Asks whether a shell is there and has a reference to a submodel, as all that goes through the shell to the
+    /// submodel needs; or why not.
     pub fn refers(&self, shell: &Text, submodel: &Text) -> Result<(), Refusal>
         requires { self.now.stopped ≡ false }
         ensures { MatchResult result

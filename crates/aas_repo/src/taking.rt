@@ -1,5 +1,4 @@
 // A command is taken, before the keeper is called.
-ghost use Rattle.std.specs.Prelude.{false};
 ghost use Rattle.aas_command.specs.Commands.{IsWellFormed};
 ghost use Rattle.aas_repo_documents.specs.Decisions.{IsDecision};
 ghost use Rattle.aas_repo.specs.Decisions.{IsTaken};
@@ -23,8 +22,8 @@ pub(crate) enum Taken {
     NoMemory,
 }
 
-/// Refuses the command, or makes its change in the store and its frame for the keeper. The causes are tried from the left;
-/// whether there is room is asked before, and the answer is used last.
+/// Refuses the command, or makes its change in the store and its frame for the keeper. The causes are tried from the
+/// left; whether there is room is asked before, and the answer is used last.
 pub(crate) fn take<S: Store, K: Keeper>(
     alloc: Global,
     store: &mut S,
@@ -57,8 +56,8 @@ pub(crate) fn take<S: Store, K: Keeper>(
     }
 }
 
-/// Refuses the command, or makes its change in the store, which stays one of valid documents. The causes are tried from the
-/// left, and the last is that there is no room to keep the command.
+/// Refuses the command, or makes its change in the store, which stays one of valid documents. The causes are tried from
+/// the left, and the last is that there is no room to keep the command.
 #[tactic(auto, using(crate::proofs::Taken::decided_valid))]
 pub fn change<S: Store>(alloc: Global, store: &mut S, command: Command, has_room: bool) -> Decision
     requires valid { AreValid (S.documents store.old) }

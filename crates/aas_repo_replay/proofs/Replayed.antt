@@ -1,5 +1,6 @@
 -- What payloads replay to grows at their end, is one state, and is valid.
-use Rattle.std.proofs.Common.{◌≡◌, inl, inr, ℕ, zero, suc, ◌+◌, ◌<◌, Bool, true, false, List, [], ◌∷◌, ◌++◌, Some, None, refl, sym, ◌∙◌, subst, length, take, get_or, arith}
+use Rattle.std.proofs.Common.{◌≡◌, inl, inr, ℕ, zero, suc, ◌+◌, ◌<◌, Bool, true, false, List, [], ◌∷◌, ◌++◌, Some, None}
+use Rattle.std.proofs.Common.{refl, sym, ◌∙◌, subst, length, take, get_or, arith}
 use Rattle.std.proofs.lemmas.Bool.{cases_order}
 use Rattle.std.proofs.lemmas.List.{take-take, take_more}
 use Rattle.std.proofs.lemmas.Option.{get_or_from_slice_get, slice_get_within, same_Some}
@@ -53,19 +54,22 @@ accepted_adds room r c new formed fields steps = (
 more_from : (old : Documents) (payloads : List (List ℕ)) (d : Documents) (payload : List ℕ) (new : Documents)
     → ReplaysFrom old payloads d → Adds d payload new → ReplaysFrom old (payloads ++ payload ∷ []) new
 more_from old [] d payload new is adds = (new, subst (λ (x : Documents). Adds x payload new) is adds, refl)
-more_from old (first ∷ payloads) d payload new (next, made, rest) adds = (next, made, more_from next payloads d payload new rest adds)
+more_from old (first ∷ payloads) d payload new (next, made, rest) adds =
+    (next, made, more_from next payloads d payload new rest adds)
 
 pub accepted_replay : AcceptedReplay
 accepted_replay room r c new before formed fields steps =
     more_from empty r.records r.documents (payload_of c) new before (accepted_adds room r c new formed fields steps)
 
-pub next_replays : (payloads : List (List ℕ)) (n : ℕ) (d : Documents) (payload : List ℕ) (new : Documents) → Replays (take n payloads) d
+pub next_replays : (payloads : List (List ℕ)) (n : ℕ) (d : Documents) (payload : List ℕ) (new : Documents)
+    → Replays (take n payloads) d
     → slice_get payloads n ≡ Some payload → Adds d payload new → Replays (take (n + 1) payloads) new
 next_replays payloads n d payload new before is adds =
     let within : n < length payloads = slice_get_within payloads n payload is in
     let grown : take (n + 1) payloads ≡ take n payloads ++ get_or payloads n [] ∷ [] = take_more payloads n [] within in
     let same : get_or payloads n [] ≡ payload = get_or_from_slice_get payloads n payload [] is in
-    subst (λ (l : List (List ℕ)). Replays l new) (sym (grown ∙ cc)) (more_from empty (take n payloads) d payload new before adds)
+    subst (λ (l : List (List ℕ)). Replays l new) (sym (grown ∙ cc))
+    (more_from empty (take n payloads) d payload new before adds)
 
 -- ---- the n-th payload
 
@@ -76,7 +80,8 @@ record Reached (old : Documents) (payloads : List (List ℕ)) (n : ℕ) (payload
   next : Documents
   adds : Adds mid payload next
 
-reached : (old : Documents) (payloads : List (List ℕ)) (n : ℕ) (payload : List ℕ) (d : Documents) → ReplaysFrom old payloads d
+reached : (old : Documents) (payloads : List (List ℕ)) (n : ℕ) (payload : List ℕ) (d : Documents)
+    → ReplaysFrom old payloads d
     → slice_get payloads n ≡ Some payload → Reached old payloads n payload
 reached old [] n payload d is e = absurd (cc)
 reached old (first ∷ payloads) zero payload d (next, made, rest) e = record {
@@ -94,7 +99,8 @@ next_in_front : (payloads : List (List ℕ)) (m n : ℕ) (payload : List ℕ) �
 next_in_front [] m n payload low e = absurd (cc)
 next_in_front (first ∷ payloads) m zero payload low e = absurd (omega arith)
 next_in_front (first ∷ payloads) zero (suc n) payload low e = e
-next_in_front (first ∷ payloads) (suc m) (suc n) payload low e = next_in_front payloads m n payload (omega (arith, low)) e
+next_in_front (first ∷ payloads) (suc m) (suc n) payload low e =
+    next_in_front payloads m n payload (omega (arith, low)) e
 
 -- ---- valid documents
 
@@ -102,9 +108,11 @@ adds_valid : (old : Documents) (payload : List ℕ) (new : Documents) → AreVal
 unfolding Steps
 adds_valid old payload new valid (c, is, steps) = stays_valid true old new c is.well_formed valid steps
 
-valid_from : (old : Documents) (payloads : List (List ℕ)) (d : Documents) → AreValid old → ReplaysFrom old payloads d → AreValid d
+valid_from : (old : Documents) (payloads : List (List ℕ)) (d : Documents)
+    → AreValid old → ReplaysFrom old payloads d → AreValid d
 valid_from old [] d valid is = subst AreValid (sym is) valid
-valid_from old (payload ∷ payloads) d valid (next, adds, rest) = valid_from next payloads d (adds_valid old payload next valid adds) rest
+valid_from old (payload ∷ payloads) d valid (next, adds, rest) =
+    valid_from next payloads d (adds_valid old payload next valid adds) rest
 
 pub replays_valid : ReplaysValid
 replays_valid payloads d is = valid_from empty payloads d empty_valid is
@@ -112,7 +120,8 @@ replays_valid payloads d is = valid_from empty payloads d empty_valid is
 -- ---- one state
 
 -- the command that a payload adds in some documents comes to what it adds
-adds_by : IsOfOneCommand → (d : Documents) (payload : List ℕ) (c : Command) (new : Documents) → IsRecord payload c → Adds d payload new
+adds_by : IsOfOneCommand → (d : Documents) (payload : List ℕ) (c : Command) (new : Documents)
+    → IsRecord payload c → Adds d payload new
     → ComesTo true d c (accepted new)
 unfolding Steps
 adds_by one d payload c new is (other, too, comes) =
@@ -121,15 +130,19 @@ adds_by one d payload c new is (other, too, comes) =
 module _ (one_command : IsOfOneCommand) (one_result : OneResult) where
   one_in : (d : Documents) (c : Command) (a b : Result) → AreValid d → ComesTo true d c a → ComesTo true d c b → a ≡ b
   unfolding Steps
-  one_in d c a b valid first second = one_result always_room (record { documents = d; records = [] }) c a b valid first second
+  one_in d c a b valid first second =
+      one_result always_room (record { documents = d; records = [] }) c a b valid first second
 
-  adds_once : (d : Documents) (payload : List ℕ) (a b : Documents) → AreValid d → Adds d payload a → Adds d payload b → a ≡ b
+  adds_once : (d : Documents) (payload : List ℕ) (a b : Documents)
+      → AreValid d → Adds d payload a → Adds d payload b → a ≡ b
   unfolding Steps
   adds_once d payload a b valid (c, is, steps) adds =
-      let e : accepted a ≡ accepted b = one_in d c (accepted a) (accepted b) valid steps (adds_by one_command d payload c b is adds) in
+      let e : accepted a ≡ accepted b =
+      one_in d c (accepted a) (accepted b) valid steps (adds_by one_command d payload c b is adds) in
       cc
 
-  from_once : (old : Documents) (payloads : List (List ℕ)) (a b : Documents) → AreValid old → ReplaysFrom old payloads a → ReplaysFrom old payloads b → a ≡ b
+  from_once : (old : Documents) (payloads : List (List ℕ)) (a b : Documents)
+      → AreValid old → ReplaysFrom old payloads a → ReplaysFrom old payloads b → a ≡ b
   from_once old [] a b valid first second = first ∙ sym second
   from_once old (payload ∷ payloads) a b valid (next, made, rest) (other, too, others) =
       from_once next payloads a b (adds_valid old payload next valid made) rest
@@ -146,7 +159,8 @@ module _ (one_command : IsOfOneCommand) (one_result : OneResult) where
       let same : at.mid ≡ e = from_once empty (take n payloads) at.mid e empty_valid at.before stop.before in
       stop.nothing at.next (subst (λ (x : Documents). Adds x stop.payload at.next) same at.adds)
 
-  never_later : (payloads : List (List ℕ)) (m n : ℕ) (d e : Documents) → m < n → StopsAt payloads m d → ¬ (StopsAt payloads n e)
+  never_later : (payloads : List (List ℕ)) (m n : ℕ) (d e : Documents)
+      → m < n → StopsAt payloads m d → ¬ (StopsAt payloads n e)
   never_later payloads m n d e low first second = never_both (take n payloads) m e d second.before (record {
     before = subst (λ (l : List (List ℕ)). Replays l d) (sym (take-take m n payloads (omega arith))) first.before;
     payload = first.payload;
@@ -168,10 +182,12 @@ module _ (one_command : IsOfOneCommand) (one_result : OneResult) where
 
   -- ---- the command of one payload
 
-  pub refused_adds_nothing : (d : Documents) (payload : List ℕ) (c : Command) (why : Refusal) → AreValid d → IsRecord payload c
+  pub refused_adds_nothing : (d : Documents) (payload : List ℕ) (c : Command) (why : Refusal)
+      → AreValid d → IsRecord payload c
       → ComesTo true d c (refused why) → AddsNothing d payload
   refused_adds_nothing d payload c why valid is comes new adds =
-      let e : refused why ≡ accepted new = one_in d c (refused why) (accepted new) valid comes (adds_by one_command d payload c new is adds) in
+      let e : refused why ≡ accepted new =
+      one_in d c (refused why) (accepted new) valid comes (adds_by one_command d payload c new is adds) in
       cc
 
 pub accepted_record_adds : (d : Documents) (payload : List ℕ) (c : Command) (new : Documents) → IsRecord payload c

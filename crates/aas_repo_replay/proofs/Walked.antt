@@ -1,5 +1,6 @@
 -- The walk over the payloads of a journal, and where it stops.
-use Rattle.std.proofs.Common.{◌≡◌, ◌⊎◌, inl, inr, ℕ, ◌+◌, ◌<◌, List, [], ◌++◌, Some, Ok, Err, refl, sym, ap, ◌∙◌, subst, length, take, arith}
+use Rattle.std.proofs.Common.{◌≡◌, ◌⊎◌, inl, inr, ℕ, ◌+◌, ◌<◌, List, [], ◌++◌, Some, Ok, Err, refl, sym, ap, ◌∙◌, subst}
+use Rattle.std.proofs.Common.{length, take, arith}
 use Rattle.std.proofs.lemmas.Option.{slice_get_within}
 use Rattle.std.specs.Prelude.{IsErrAnd, MatchResult, Result}
 use Rattle.aas_journal.specs.Given.{GivesNext}
@@ -13,19 +14,24 @@ use Rattle.aas_repo_replay.specs.Replaying.{HasDone, IsReplayFault}
 use Rattle.aas_repo_replay.proofs.Replayed.{next_replays}
 
 -- the next payload is added
-pub next_done : (payloads : List (List ℕ)) (gate next : ℕ) (before items : List ℕ) (old new : Documents) (done : HasDone payloads gate old)
+pub next_done : (payloads : List (List ℕ)) (gate next : ℕ)
+    (before items : List ℕ) (old new : Documents) (done : HasDone payloads gate old)
     → before ≡ [] → GivesNext payloads done.n before items (Some next) → Adds old items new → HasDone payloads next new
 next_done payloads gate next before items old new done cleared (payload, is, read, place) adds =
     let within : done.n < length payloads = slice_get_within payloads done.n payload is in
     let same : items ≡ payload = read ∙ ap (λ (l : List ℕ). l ++ payload) cleared in record {
       n = done.n + 1;
       at = record { within = omega arith; at_is = place };
-      replays = next_replays payloads done.n old payload new done.replays is (subst (λ (x : List ℕ). Adds old x new) same adds);
+      replays =
+          next_replays payloads done.n old payload new done.replays is
+          (subst (λ (x : List ℕ). Adds old x new) same adds);
     }
 
 -- the next payload adds nothing
-pub stop_done : (payloads : List (List ℕ)) (gate next : ℕ) (before items : List ℕ) (old new : Documents) (done : HasDone payloads gate old)
-    → before ≡ [] → GivesNext payloads done.n before items (Some next) → AddsNothing old items → new ≡ old → StopsAt payloads done.n new
+pub stop_done : (payloads : List (List ℕ)) (gate next : ℕ)
+    (before items : List ℕ) (old new : Documents) (done : HasDone payloads gate old)
+    → before ≡ [] → GivesNext payloads done.n before items (Some next)
+    → AddsNothing old items → new ≡ old → StopsAt payloads done.n new
 stop_done payloads gate next before items old new done cleared (payload, is, read, place) nothing stays =
     let same : items ≡ payload = read ∙ ap (λ (l : List ℕ). l ++ payload) cleared in record {
       before = subst (λ (x : Documents). Replays (take done.n payloads) x) (sym stays) done.replays;

@@ -11,7 +11,8 @@ use Rattle.aas_repo_replay.specs.Replay.{Replays, StopsAt}
 
 -- The payloads of accepted commands replay to what these made. A command has fields where it has a frame.
 abbrev pub AcceptedReplay : Type 0
-AcceptedReplay = (room : Room) (r : Repository Documents) (c : Command) (new : Documents) → Replays r.records r.documents
+AcceptedReplay =
+    (room : Room) (r : Repository Documents) (c : Command) (new : Documents) → Replays r.records r.documents
     → IsWellFormed c → HasFields c → Steps room r c (accepted new) → Replays (r.records ++ payload_of c ∷ []) new
 
 -- Payloads replay to one state at most.
@@ -24,5 +25,7 @@ ReplaysValid = (payloads : List (List ℕ)) (d : Documents) → Replays payloads
 
 -- They replay, or stop at one place.
 pub record OneStop : Type 0 where
-  pub replay_or_stop : (payloads : List (List ℕ)) (n : ℕ) (d e : Documents) → Replays payloads d → ¬ (StopsAt payloads n e)
-  pub one_place : (payloads : List (List ℕ)) (m n : ℕ) (d e : Documents) → StopsAt payloads m d → StopsAt payloads n e → m ≡ n
+  pub replay_or_stop : (payloads : List (List ℕ)) (n : ℕ) (d e : Documents)
+      → Replays payloads d → ¬ (StopsAt payloads n e)
+  pub one_place : (payloads : List (List ℕ)) (m n : ℕ) (d e : Documents)
+      → StopsAt payloads m d → StopsAt payloads n e → m ≡ n

@@ -1,4 +1,5 @@
--- What payloads replay to: what their commands make, one after another, of no documents at all. This profile's own rule.
+-- What payloads replay to: what their commands make, one after another,
+-- of no documents at all. This profile's own rule.
 use Rattle.std.specs.Prelude.{◌≡◌, ℕ, true, List, [], ◌∷◌, Some, slice_get, take}
 use Rattle.aas_command.specs.declared.command.Command.{Command}
 use Rattle.aas_record.specs.Records.{IsRecord}
@@ -9,9 +10,11 @@ use Rattle.aas_store.specs.Documents.{Documents, empty}
 abbrev pub always_room : Room
 always_room records n = true
 
--- The payload is that of a command, which makes the new documents of the old ones. That there is no room is no cause here.
+-- The payload is that of a command, which makes the new documents of the old ones.
+-- That there is no room is no cause here.
 abbrev pub Adds : (old : Documents) (payload : List ℕ) (new : Documents) → Type 0
-Adds old payload new = (c : Command) × IsRecord payload c × Steps always_room (record { documents = old; records = [] }) c (accepted new)
+Adds old payload new =
+    (c : Command) × IsRecord payload c × Steps always_room (record { documents = old; records = [] }) c (accepted new)
 
 -- one after another, from these documents on
 abbrev pub ReplaysFrom : (old : Documents) (payloads : List (List ℕ)) (new : Documents) → Type 0

@@ -1,11 +1,12 @@
 // How the payloads of a journal are replayed in a store.
 ghost use Rattle.std.specs.Prelude.{◌≡◌, ◌≢◌, ◌<◌, ◌≤◌, ◌⊎◌, List, ℕ, true, Err, Ok};
-ghost use Rattle.std.specs.Prelude.{IfOk, IfSome, IsErrAnd, MatchBool, MatchResult};
+ghost use Rattle.std.specs.Prelude.{IfOk, IfSome, IsErrAnd, MatchBool, MatchResult, OnOk};
 ghost use Rattle.aas_command.specs.Commands.{IsWellFormed};
 ghost use Rattle.aas_journal.specs.Image.{gate_of};
 ghost use Rattle.aas_journal.specs.Reads.{OnlyReads};
 ghost use Rattle.aas_journal.specs.Shown.{disk_of};
-ghost use Rattle.aas_journal.specs.declared.fault.OpenFault.TheVariants.{Damaged, Failed, NoMemory as OutOfMemory, NotInitialised};
+ghost use Rattle.aas_journal.specs.declared.fault.OpenFault.TheVariants.{Damaged, Failed, NoMemory as OutOfMemory};
+ghost use Rattle.aas_journal.specs.declared.fault.OpenFault.TheVariants.{NotInitialised};
 ghost use Rattle.aas_outside.specs.Faults.{Rose};
 ghost use Rattle.aas_record.specs.Records.{IsRecord};
 ghost use Rattle.aas_step.specs.Valid.{AreValid};
@@ -15,7 +16,7 @@ ghost use Rattle.aas_repo_replay.specs.Replaying.{HasDone, HasDoneNext, IsReplay
 
 use crate::laws::payloads_stop_at_one_place;
 use aas_command::Command;
-use aas_journal::{Journal, OpenFault};
+use aas_journal::{FIRST_GATE, Journal, OpenFault};
 use aas_model::NoMemory;
 use aas_outside::Keeper;
 use aas_outside_disk::Disk;
@@ -25,16 +26,13 @@ use aas_step::{commands_come_to_one_result, no_documents_are_valid};
 use aas_store::Store;
 use std::alloc::Global;
 
-/// The place of the first gate of a journal, in bytes from the front of its file.
-const FIRST_GATE: u64 = 8;
-
 /// Makes the documents of a journal's commands in an empty store. This profile's own rule.
 ///
 /// # Errors
 ///
-/// `Damaged` with the place of the gate of the first payload that is that of no command, or of one that is refused; `Failed`,
-/// where the disk's count of faults rises too; `NoMemory`. The store then has the documents of the commands before it.
-/// `NotInitialised` never comes.
+/// `Damaged` with the place of the gate of the first payload that is that of no command, or of one that is refused;
+/// `Failed`, where the disk's count of faults rises too; `NoMemory`. The store then has the documents of the commands
+/// before it. `NotInitialised` never comes.
 pub fn replay<S: Store, D: Disk>(
     alloc: Global,
     store: &mut S,
@@ -57,6 +55,7 @@ pub fn replay<S: Store, D: Disk>(
 
     ensures failed { result ≡ Err Failed → Rose (D.faults (disk_of journal.old)) (D.faults (disk_of journal.new)) }
     ensures later { D.faults (disk_of journal.old) ≤ D.faults (disk_of journal.new) }
+    ensures calm { OnOk result (D.faults (disk_of journal.new) ≡ D.faults (disk_of journal.old)) }
     ensures reads { OnlyReads D.seen D.moment D.left_at (disk_of journal.old) (disk_of journal.new) }
     ensures kept { (payloads : List (List ℕ)) → ⟦<Journal<D> as Keeper>⟧.kept journal.old payloads →
         ⟦<Journal<D> as Keeper>⟧.kept journal.new payloads }
@@ -74,8 +73,8 @@ pub fn replay<S: Store, D: Disk>(
     Ok(())
 }
 
-/// Adds the payload behind the gate at this place, and answers the place of the next gate, or `None` at the closed one. The
-/// vector is used to read the payload.
+/// Adds the payload behind the gate at this place, and answers the place of the next gate, or `None` at the closed one.
+/// The vector is used to read the payload.
 fn add_at<S: Store, D: Disk>(
     alloc: Global,
     store: &mut S,
@@ -95,6 +94,7 @@ fn add_at<S: Store, D: Disk>(
     ensures valid { AreValid (S.documents store.new) }
     ensures failed { result ≡ Err Failed → Rose (D.faults (disk_of journal.old)) (D.faults (disk_of journal.new)) }
     ensures later { D.faults (disk_of journal.old) ≤ D.faults (disk_of journal.new) }
+    ensures calm { OnOk result (D.faults (disk_of journal.new) ≡ D.faults (disk_of journal.old)) }
     ensures reads { OnlyReads D.seen D.moment D.left_at (disk_of journal.old) (disk_of journal.new) }
     ensures kept { (payloads : List (List ℕ)) → ⟦<Journal<D> as Keeper>⟧.kept journal.old payloads →
         ⟦<Journal<D> as Keeper>⟧.kept journal.new payloads }

@@ -1,5 +1,5 @@
 -- A repository that takes requests one by one. This profile's own rule.
-use Rattle.std.specs.Prelude.{ℕ, Bool, List, ◌++◌}
+use Rattle.std.specs.Prelude.{◌≡◌, ℕ, Bool, List, [], ◌∷◌, ◌++◌}
 
 -- the documents, and the payloads of the commands that were accepted
 pub record Repository (D : Type 0) : Type 0 where
@@ -11,6 +11,10 @@ pub record Outcome (D Reply : Type 0) : Type 0 where
   pub reply : Reply
   pub documents : D
   pub kept : List (List ℕ)
+
+-- A command is accepted, and this is its payload.
+abbrev pub HasCommand : {D Reply : Type 0} → Outcome D Reply → Type 0
+HasCommand outcome = (payload : List ℕ) × (outcome.kept ≡ payload ∷ [])
 
 -- Behind these payloads there is room for one of so many bytes. A keeper has such a rule of its own.
 abbrev pub Room : Type 0

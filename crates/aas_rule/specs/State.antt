@@ -23,13 +23,15 @@ abbrev pub repository_of : {D I : Type 0} → State D I → List (List ℕ) → 
 repository_of state records = record { documents = state.documents; records = records }
 
 -- The machine holds this repository. Since a moment these payloads were kept one by one behind the records.
-pub record Holds {D I : Type 0} (stands_for : I → List (List ℕ) → Type 0) (records payloads : List (List ℕ)) (repository : Repository D) (from : ℕ) (now : State D I) : Type 0 where
+pub record Holds {D I : Type 0} (stands_for : I → List (List ℕ) → Type 0)
+    (records payloads : List (List ℕ)) (repository : Repository D) (from : ℕ) (now : State D I) : Type 0 where
   pub documents : now.documents ≡ repository.documents
   pub kept : now.kept repository.records
   pub in_turn : InTurn stands_for now.left_at from now.moment records payloads []
 
 -- The machine's keeper failed. Its documents are these. Since a moment these payloads were kept one by one behind the
 -- records, and then the failed ones, of which there is one at most, were kept or not.
-pub record IsFaulted {D I : Type 0} (stands_for : I → List (List ℕ) → Type 0) (records payloads failed : List (List ℕ)) (d : D) (from : ℕ) (now : State D I) : Type 0 where
+pub record IsFaulted {D I : Type 0} (stands_for : I → List (List ℕ) → Type 0)
+    (records payloads failed : List (List ℕ)) (d : D) (from : ℕ) (now : State D I) : Type 0 where
   pub documents : now.documents ≡ d
   pub in_turn : InTurn stands_for now.left_at from now.moment records payloads failed

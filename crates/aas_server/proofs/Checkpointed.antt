@@ -1,5 +1,6 @@
 -- What a checkpoint of the repository that was opened on a disk comes to.
-use Rattle.std.proofs.Common.{◌≡◌, ◌⊎◌, ⊎_elim, ◌≤◌, ℕ, List, [], ◌∷◌, Option, Some, Result, Ok, Err, refl, ap, subst, sym, ◌∙◌, inl, inr, arith}
+use Rattle.std.proofs.Common.{◌≡◌, ◌⊎◌, ⊎_elim, ◌≤◌, ℕ, List, [], ◌∷◌, Option, Some, Result, Ok, Err, refl, ap, subst}
+use Rattle.std.proofs.Common.{sym, ◌∙◌, inl, inr, arith}
 use Rattle.std.specs.Prelude.{IfSome, MatchResult}
 use Rattle.std.proofs.lemmas.Bool.{cases_lt}
 use Rattle.aas_journal.specs.Bank.{IsBankImage}
@@ -14,7 +15,8 @@ use Rattle.aas_rule.specs.Rule.{Repository}
 use Rattle.aas_rule.specs.State.{State, IsSettledState}
 use Rattle.aas_store.specs.Documents.{Documents}
 use Rattle.aas_server.specs.Answer.{Answer, Says, disk_failed, done, journal_full}
-use Rattle.aas_server.specs.Checkpointing.{Checkpoints, IsCheckpointAnswer, IsCheckpointed, IsOneRecord, OpensMeanwhile, StaysOpen, checkpoint_size, whole_payload}
+use Rattle.aas_server.specs.Checkpointing.{Checkpoints, IsCheckpointAnswer, IsCheckpointed, IsOneRecord, OpensMeanwhile}
+use Rattle.aas_server.specs.Checkpointing.{StaysOpen, checkpoint_size, whole_payload}
 use Rattle.aas_server.specs.Ends.{ConsoleState, DiskState, IsUnwritten}
 use Rattle.aas_server.specs.Making.{IsSaidThen, IsUnmadeBy, size_line}
 use Rattle.aas_server.specs.Opening.{OpensTo}
@@ -26,7 +28,8 @@ use Rattle.aas_server.proofs.Held.{IsOpened, has_begun, here, same}
 -- ---- at each moment
 
 -- the image of what replays to these documents, or of the one record that does
-pub either_opens : (d : Documents) (payloads : List (List ℕ)) (record_of : List ℕ) (image : Files) → Replays payloads d → Replays (record_of ∷ []) d
+pub either_opens : (d : Documents) (payloads : List (List ℕ)) (record_of : List ℕ) (image : Files)
+    → Replays payloads d → Replays (record_of ∷ []) d
     → IsBankImage image payloads ⊎ IsBankImage image (record_of ∷ []) → OpensTo d image
 either_opens d payloads record_of image replays alone either =
     ⊎_elim (λ before. (payloads, (before, replays))) (λ after. (record_of ∷ [], (after, alone))) either
@@ -55,7 +58,8 @@ module _ {V J : Type 0} (items : V → List ℕ) (view : J → DiskState) (start
       (IsUnmadeBy (λ j. (view j).faults) d old new)
 
   abbrev Stays : Type 0
-  Stays = (payloads : List (List ℕ)) → Replays payloads d → IsSettledState IsBankImage opened payloads → OpensMeanwhile d mid.moment last
+  Stays = (payloads : List (List ℕ))
+      → Replays payloads d → IsSettledState IsBankImage opened payloads → OpensMeanwhile d mid.moment last
 
   module _ (one_list : HaveOneList) (one_replay : OneReplay) (is_opened : IfSome start.seen (IsOpened opened))
       (reads : IsUnwritten start mid) (later : start.faults ≤ mid.faults)
@@ -66,18 +70,25 @@ module _ {V J : Type 0} (items : V → List ℕ) (view : J → DiskState) (start
 
     one_record : IsOneRecord (whole_payload d) mid last → IsOneRecord (whole_payload d) start last
     one_record is = record {
-      seen = subst (λ (seen : Option Files). IfSome seen (λ files. last.seen ≡ Some (checkpointed (whole_payload d) files))) reads.seen is.seen;
+      seen =
+          subst (λ (seen : Option Files).
+          IfSome seen (λ files. last.seen ≡ Some (checkpointed (whole_payload d) files)))
+          reads.seen is.seen;
       images = is.images;
     }
 
-    stays_open : (payloads : List (List ℕ)) → Replays payloads d → IsSettledState IsBankImage opened payloads → StaysOpen d start last
+    stays_open : (payloads : List (List ℕ))
+        → Replays payloads d → IsSettledState IsBankImage opened payloads → StaysOpen d start last
     stays_open payloads replays settled = λ anyway t since until image left. ⊎_elim
-        (λ low. anyway image (reads.images t since (omega (arith, low)) image ((passed.past t (omega (arith, low)) image).0 left)))
+        (λ low. anyway image
+        (reads.images t since (omega (arith, low)) image ((passed.past t (omega (arith, low)) image).0 left)))
         (λ high. stays payloads replays settled t high until image left)
         (cases_lt t mid.moment)
 
     abbrev Answered : Type 0
-    Answered = (answer : Answer) × IsCheckpointAnswer d start last answer × Says (λ said. said ≡ answer) status console_old console_new
+    Answered =
+        (answer : Answer) × IsCheckpointAnswer d start last answer
+        × Says (λ said. said ≡ answer) status console_old console_new
 
     is_checkpointed : (status ≡ 10 → ⊥) → (status ≡ 3 → Rose console_old.faults console_new.faults)
         → (status ≡ 4 → Rose mid.faults last.faults) → ((payloads : List (List ℕ)) → kept payloads → Answered)
@@ -117,4 +128,5 @@ module _ {V J : Type 0} (items : V → List ℕ) (view : J → DiskState) (start
         (λ ten. let no = unsaid ten in cc) says.fault failed (λ payloads keeps.
         (disk_failed, inr (inr (refl, omega (arith, later, outcome payloads keeps))), says))))
     checkpoints (Err unmade.NoMemory) outcome forgone says silent unsaid failed =
-        let none = silent refl in inr (inl (record { status_is = none.0; silent = none.1; unwritten = unwritten (forgone refl) }))
+        let none = silent refl in
+        inr (inl (record { status_is = none.0; silent = none.1; unwritten = unwritten (forgone refl) }))

@@ -14,13 +14,15 @@ use Rattle.aas_server.specs.Early.{EndsEarly, IsNotBegun}
 use Rattle.aas_server.specs.Ends.{ConsoleState, DiskState, IsUnwritten}
 use Rattle.aas_server.proofs.Given.{says_weaker}
 
-pub replay_cause : (payloads : List (List ℕ)) (f : OpenFault) (d : Documents) → IsReplayFault payloads f d → IsCauseIn payloads f
+pub replay_cause : (payloads : List (List ℕ)) (f : OpenFault) (d : Documents)
+    → IsReplayFault payloads f d → IsCauseIn payloads f
 replay_cause payloads fault.NotInitialised d is = is
 replay_cause payloads (fault.Damaged at) d (n, stops, at_is) = (n, d, stops, at_is)
 replay_cause payloads fault.Failed d is = tt
 replay_cause payloads fault.NoMemory d is = tt
 
-pub files_cause : (files : Files) (payloads : List (List ℕ)) (f : OpenFault) → IsBankImage files payloads → IsCauseIn payloads f → IsCause files f
+pub files_cause : (files : Files) (payloads : List (List ℕ)) (f : OpenFault)
+    → IsBankImage files payloads → IsCauseIn payloads f → IsCause files f
 files_cause files payloads fault.NotInitialised image is = absurd is
 files_cause files payloads (fault.Damaged at) image is = inr (payloads, image, is)
 files_cause files payloads fault.Failed image is = tt
@@ -33,11 +35,15 @@ not_begun (fault.Damaged at) old new answer cause failed is = inr (inr (at, is, 
 not_begun fault.Failed old new answer cause failed is = inl (is, failed refl)
 not_begun fault.NoMemory old new answer cause failed is = absurd is
 
-pub early : (f : OpenFault) (status : ℕ) (old new : ConsoleState) (disk_old disk_new : DiskState) → IfSome disk_old.seen (λ files. IsCause files f)
-    → (f ≡ fault.Failed → Rose disk_old.faults disk_new.faults) → Says (IsAnswerTo f) status old new → new.left ≡ old.left → (status ≡ 10 → new ≡ old)
+pub early : (f : OpenFault) (status : ℕ) (old new : ConsoleState) (disk_old disk_new : DiskState)
+    → IfSome disk_old.seen (λ files. IsCause files f)
+    → (f ≡ fault.Failed → Rose disk_old.faults disk_new.faults)
+    → Says (IsAnswerTo f) status old new → new.left ≡ old.left → (status ≡ 10 → new ≡ old)
     → IsUnwritten disk_old disk_new → EndsEarly status old new disk_old disk_new
 early f status old new disk_old disk_new cause failed says unread silent unwritten = record {
-  says = says_weaker (IsAnswerTo f) (IsNotBegun disk_old disk_new) status old new (λ answer is. not_begun f disk_old disk_new answer cause failed is) says;
+  says =
+      says_weaker (IsAnswerTo f) (IsNotBegun disk_old disk_new) status old new
+      (λ answer is. not_begun f disk_old disk_new answer cause failed is) says;
   unread = unread;
   silent = silent;
   unwritten = unwritten;

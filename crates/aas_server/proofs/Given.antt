@@ -1,5 +1,6 @@
 -- What was given to the console, and with which status a run ends.
-use Rattle.std.proofs.Common.{◌≡◌, ◌≢◌, ◌⊎◌, ⊎_elim, ℕ, zero, suc, List, [], ◌∷◌, Option, refl, subst, sym, ◌∙◌, inl, inr, arith, lit<}
+use Rattle.std.proofs.Common.{◌≡◌, ◌≢◌, ◌⊎◌, ⊎_elim, ℕ, zero, suc, List, [], ◌∷◌, Option, refl, subst, sym, ◌∙◌, inl}
+use Rattle.std.proofs.Common.{inr, arith, lit<}
 use Rattle.std.specs.Prelude.{Contains}
 use Rattle.std.specs.Io.KnownBytes.{append_known}
 use Rattle.aas_command.specs.declared.refusal.Refusal.{Refusal}
@@ -11,17 +12,21 @@ use Rattle.aas_server.specs.Ends.{ConsoleState}
 use Rattle.aas_server.specs.Telling.{statuses_with}
 
 -- after a call that gave nothing, of a text that is another's
-pub front_moved : (old mid new : Option (List ℕ)) (text items : List ℕ) → mid ≡ old → text ≡ items → GivesFront mid new text → GivesFront old new items
+pub front_moved : (old mid new : Option (List ℕ)) (text items : List ℕ)
+    → mid ≡ old → text ≡ items → GivesFront mid new text → GivesFront old new items
 front_moved old mid new text items nothing same front =
-    subst (λ (before : Option (List ℕ)). GivesFront before new items) nothing (subst (λ (bytes : List ℕ). GivesFront mid new bytes) same front)
+    subst (λ (before : Option (List ℕ)). GivesFront before new items) nothing
+    (subst (λ (bytes : List ℕ). GivesFront mid new bytes) same front)
 
 -- ---- what was said
 
-front_weaker : (P Q : Answer → Type 0) (old new : Option (List ℕ)) → ((answer : Answer) → P answer → Q answer) → GivesFrontOf P old new → GivesFrontOf Q old new
+front_weaker : (P Q : Answer → Type 0) (old new : Option (List ℕ))
+    → ((answer : Answer) → P answer → Q answer) → GivesFrontOf P old new → GivesFrontOf Q old new
 front_weaker P Q old new then (inl nothing) = inl nothing
 front_weaker P Q old new then (inr (answer, is, front)) = inr (answer, then answer is, front)
 
-pub says_weaker : (P Q : Answer → Type 0) (status : ℕ) (old new : ConsoleState) → ((answer : Answer) → P answer → Q answer)
+pub says_weaker : (P Q : Answer → Type 0) (status : ℕ) (old new : ConsoleState)
+    → ((answer : Answer) → P answer → Q answer)
     → Says P status old new → Says Q status old new
 says_weaker P Q status old new then says = record {
   given = λ not3 not10. let given = says.given not3 not10 in (given.0, then given.0 given.1, given.2, given.3);
@@ -44,8 +49,10 @@ says_nothing P old = record {
 
 -- a line that takes no memory
 pub says_line : (answer : Answer) (status : ℕ) (old new : ConsoleState) → answer.status ≢ 10
-    → (status ≢ 3 → (status ≡ answer.status) × (new.sent ≡ append_known old.sent answer.text)) → (status ≡ 3 → GivesFront old.sent new.sent answer.text)
-    → (status ≡ 3 → Rose old.faults new.faults) → (status ≡ 3) ⊎ (status ≡ answer.status) → Says (λ said. said ≡ answer) status old new
+    → (status ≢ 3 → (status ≡ answer.status) × (new.sent ≡ append_known old.sent answer.text))
+    → (status ≡ 3 → GivesFront old.sent new.sent answer.text)
+    → (status ≡ 3 → Rose old.faults new.faults) → (status ≡ 3) ⊎ (status ≡ answer.status)
+    → Says (λ said. said ≡ answer) status old new
 says_line answer status old new never given front fault statuses = record {
   given = λ not3 not10. let all = given not3 in (answer, refl, all.0, all.1);
   front = λ is. inr (answer, refl, front is);
@@ -53,12 +60,15 @@ says_line answer status old new never given front fault statuses = record {
   memory = λ ten. absurd (⊎_elim (λ three. three_or_ten status three ten) (λ is. never (sym is ∙ ten)) statuses);
 }
 
-pub says_damage : (at status : ℕ) (old new : ConsoleState) → (status ≡ 6 → new.sent ≡ append_known old.sent (damage at).text)
-    → (status ≡ 3 → GivesFront old.sent new.sent (damage at).text) → (status ≡ 3 → Rose old.faults new.faults) → (status ≡ 10 → new.sent ≡ old.sent)
+pub says_damage : (at status : ℕ) (old new : ConsoleState)
+    → (status ≡ 6 → new.sent ≡ append_known old.sent (damage at).text)
+    → (status ≡ 3 → GivesFront old.sent new.sent (damage at).text)
+    → (status ≡ 3 → Rose old.faults new.faults) → (status ≡ 10 → new.sent ≡ old.sent)
     → (status ≡ 3) ⊎ (status ≡ 6) ⊎ (status ≡ 10) → Says (λ said. said ≡ damage at) status old new
 says_damage at status old new given front fault silent statuses = record {
   given = λ not3 not10.
-      let six : status ≡ 6 = ⊎_elim (λ three. absurd (not3 three)) (λ rest. ⊎_elim (λ six. six) (λ ten. absurd (not10 ten)) rest) statuses in
+      let six : status ≡ 6 =
+      ⊎_elim (λ three. absurd (not3 three)) (λ rest. ⊎_elim (λ six. six) (λ ten. absurd (not10 ten)) rest) statuses in
       (damage at, refl, six, given six);
   front = λ is. inr (damage at, refl, front is);
   fault = fault;
@@ -67,11 +77,14 @@ says_damage at status old new given front fault silent statuses = record {
 
 pub says_refused : (r : Refusal) (status : ℕ) (old new : ConsoleState)
     → (status ≡ 7 → (r ≢ refusal.NoMemory) × (new.sent ≡ append_known old.sent (refused r).text))
-    → (status ≡ 3 → (r ≢ refusal.NoMemory) × GivesFront old.sent new.sent (refused r).text) → (status ≡ 3 → Rose old.faults new.faults)
-    → (status ≡ 10 → new.sent ≡ old.sent) → (status ≡ 3) ⊎ (status ≡ 7) ⊎ (status ≡ 10) → Says (λ said. said ≡ refused r) status old new
+    → (status ≡ 3 → (r ≢ refusal.NoMemory) × GivesFront old.sent new.sent (refused r).text)
+    → (status ≡ 3 → Rose old.faults new.faults)
+    → (status ≡ 10 → new.sent ≡ old.sent) → (status ≡ 3) ⊎ (status ≡ 7) ⊎ (status ≡ 10)
+    → Says (λ said. said ≡ refused r) status old new
 says_refused r status old new given front fault silent statuses = record {
   given = λ not3 not10.
-      let seven : status ≡ 7 = ⊎_elim (λ three. absurd (not3 three)) (λ rest. ⊎_elim (λ seven. seven) (λ ten. absurd (not10 ten)) rest) statuses in
+      let seven : status ≡ 7 = ⊎_elim (λ three. absurd (not3 three))
+      (λ rest. ⊎_elim (λ seven. seven) (λ ten. absurd (not10 ten)) rest) statuses in
       (refused r, refl, seven, (given seven).1);
   front = λ is. inr (refused r, refl, (front is).1);
   fault = fault;
@@ -121,7 +134,8 @@ early_status n (suc (suc (suc (suc zero))), low, is) = (4, lit< tt, is)
 early_status n (suc (suc (suc (suc (suc zero)))), low, is) = (6, lit< tt, is)
 early_status n (suc (suc (suc (suc (suc (suc k))))), low, is) = absurd (omega (arith, low))
 
-pub early_import_status : (n : ℕ) → Contains (0 ∷ 3 ∷ 4 ∷ 5 ∷ 6 ∷ 10 ∷ []) n → Contains (0 ∷ 3 ∷ 4 ∷ 5 ∷ 6 ∷ 7 ∷ 9 ∷ 10 ∷ []) n
+pub early_import_status : (n : ℕ)
+    → Contains (0 ∷ 3 ∷ 4 ∷ 5 ∷ 6 ∷ 10 ∷ []) n → Contains (0 ∷ 3 ∷ 4 ∷ 5 ∷ 6 ∷ 7 ∷ 9 ∷ 10 ∷ []) n
 early_import_status n (zero, low, is) = (0, lit< tt, is)
 early_import_status n (suc zero, low, is) = (1, lit< tt, is)
 early_import_status n (suc (suc zero), low, is) = (2, lit< tt, is)
@@ -148,7 +162,8 @@ done_demo_status n (inl is) = (1, lit< tt, sym is)
 done_demo_status n (inr is) = (0, lit< tt, sym is)
 
 -- of an import that isn't refused
-pub demo_status : (n : ℕ) → (n ≡ 7 → ⊥) → Contains (0 ∷ 3 ∷ 4 ∷ 5 ∷ 6 ∷ 7 ∷ 9 ∷ 10 ∷ []) n → Contains (0 ∷ 3 ∷ 4 ∷ 5 ∷ 6 ∷ 9 ∷ 10 ∷ []) n
+pub demo_status : (n : ℕ)
+    → (n ≡ 7 → ⊥) → Contains (0 ∷ 3 ∷ 4 ∷ 5 ∷ 6 ∷ 7 ∷ 9 ∷ 10 ∷ []) n → Contains (0 ∷ 3 ∷ 4 ∷ 5 ∷ 6 ∷ 9 ∷ 10 ∷ []) n
 demo_status n never (zero, low, is) = (0, lit< tt, is)
 demo_status n never (suc zero, low, is) = (1, lit< tt, is)
 demo_status n never (suc (suc zero), low, is) = (2, lit< tt, is)

@@ -18,7 +18,8 @@ abbrev pub IsOpened : State Documents Files → Files → Type 0
 IsOpened state files = (payloads : List (List ℕ)) × Opens files (begun (repository_of state payloads))
     × IsSettledState IsBankImage state payloads
 
-pub has_begun : (start : DiskState) (state : State Documents Files) → IfSome start.seen (IsOpened state) → HasBegun start
+pub has_begun : (start : DiskState) (state : State Documents Files)
+    → IfSome start.seen (IsOpened state) → HasBegun start
 has_begun start state opened = IfSome_then start.seen opened (λ files is. (repository_of state is.0, is.1))
 
 module _ (one_list : HaveOneList) (one_replay : OneReplay) (start : DiskState) (opened : State Documents Files)

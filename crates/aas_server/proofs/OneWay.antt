@@ -18,7 +18,8 @@ pub same_repository : HaveOneList → OneReplay → (files : Files) (a b : Repos
 same_repository one_list one_replay files a b (image, replays) (other, too) =
     let records : a.records ≡ b.records = one_list files a.records b.records image other in
     let documents : a.documents ≡ b.documents =
-    one_replay b.records a.documents b.documents (subst (λ (l : List (List ℕ)). Replays l a.documents) records replays) too in
+    one_replay b.records a.documents b.documents
+    (subst (λ (l : List (List ℕ)). Replays l a.documents) records replays) too in
     λ i. record { documents = documents i; records = records i }
 
 -- ---- one thing
@@ -29,27 +30,33 @@ module _ (one_list : HaveOneList) (one_condition : HaveOneCondition) (one_stop :
       let place : n ≡ m = one_stop.one_place b n m d e (subst (λ (l : List (List ℕ)). StopsAt l n d) same stop) other in
       is ∙ ap (λ (l : List (List ℕ)). gate_of l n) same ∙ ap (λ (k : ℕ). gate_of b k) place ∙ sym too
 
-  never_both : (payloads : List (List ℕ)) (r : Repository Documents) (at : ℕ) → payloads ≡ r.records → StopsAtGate payloads at
+  never_both : (payloads : List (List ℕ)) (r : Repository Documents) (at : ℕ)
+      → payloads ≡ r.records → StopsAtGate payloads at
       → ¬ (Replays r.records r.documents)
   never_both payloads r at same (n, d, stop, is) replays =
       one_stop.replay_or_stop r.records n r.documents d replays (subst (λ (l : List (List ℕ)). StopsAt l n d) same stop)
 
-  damaged_or_begun : (files : Files) (at : ℕ) (r : Repository Documents) → Opens files (damaged at) → ¬ (Opens files (begun r))
-  damaged_or_begun files at r (inl passes) (image, replays) = one_condition.image_undamaged files r.records at image passes
+  damaged_or_begun : (files : Files) (at : ℕ) (r : Repository Documents)
+      → Opens files (damaged at) → ¬ (Opens files (begun r))
+  damaged_or_begun files at r (inl passes) (image, replays) =
+      one_condition.image_undamaged files r.records at image passes
   damaged_or_begun files at r (inr (payloads, other, stops)) (image, replays) =
       never_both payloads r at (one_list files payloads r.records other image) stops replays
 
   not_or_damaged : (files : Files) (at : ℕ) → Opens files not_initialised → ¬ (Opens files (damaged at))
   not_or_damaged files at none (inl passes) = one_condition.damaged_initialised (chosen_file files) at passes none
-  not_or_damaged files at none (inr (payloads, image, stops)) = one_condition.image_initialised files payloads image none
+  not_or_damaged files at none (inr (payloads, image, stops)) =
+      one_condition.image_initialised files payloads image none
 
   not_or_begun : (files : Files) (r : Repository Documents) → Opens files not_initialised → ¬ (Opens files (begun r))
   not_or_begun files r none (image, replays) = one_condition.image_initialised files r.records image none
 
   damaged_once : (files : Files) (x y : ℕ) → Opens files (damaged x) → Opens files (damaged y) → x ≡ y
   damaged_once files x y (inl passes) (inl too) = one_condition.damaged_once (chosen_file files) x y passes too
-  damaged_once files x y (inl passes) (inr (payloads, image, stops)) = absurd (one_condition.image_undamaged files payloads x image passes)
-  damaged_once files x y (inr (payloads, image, stops)) (inl passes) = absurd (one_condition.image_undamaged files payloads y image passes)
+  damaged_once files x y (inl passes) (inr (payloads, image, stops)) =
+      absurd (one_condition.image_undamaged files payloads x image passes)
+  damaged_once files x y (inr (payloads, image, stops)) (inl passes) =
+      absurd (one_condition.image_undamaged files payloads y image passes)
   damaged_once files x y (inr (payloads, image, stops)) (inr (others, other, too)) =
       same_gate files payloads others x y (one_list files payloads others image other) stops too
 

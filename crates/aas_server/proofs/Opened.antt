@@ -1,6 +1,6 @@
 -- What serving the repository that was opened on a disk comes to.
 use Rattle.std.proofs.Common.{◌≡◌, ◌≤◌, ◌+◌, ℕ, List, [], ◌∷◌, Some, sym, subst, ◌∙◌, arith, lit<}
-use Rattle.std.specs.Prelude.{Contains, IfSome}
+use Rattle.std.specs.Prelude.{◌≢◌, Contains, IfSome}
 use Rattle.aas_journal.specs.Bank.{IsBankImage}
 use Rattle.aas_journal.specs.Kept.{has_room_behind}
 use Rattle.aas_journal.specs.Laws.{HaveOneList}
@@ -25,7 +25,7 @@ use Rattle.aas_server.specs.Ends.{ConsoleState, DiskState, WireState}
 use Rattle.aas_server.specs.OnDisk.{StandsFor, state_on}
 use Rattle.aas_server.specs.Opening.{OpensAs}
 use Rattle.aas_server.specs.Pipe.{IsConsoleServed, IsPiped, pipe_status}
-use Rattle.aas_server.specs.Serve.{IsServed, IsWireServed, serve_status}
+use Rattle.aas_server.specs.Serve.{ServesClients, IsWireServed, serve_status}
 use Rattle.aas_server.proofs.Held.{IsOpened, has_begun, here, same}
 use Rattle.aas_server.proofs.Replayed.{AreRead}
 use Rattle.aas_server.proofs.Since.{all_since, served_since}
@@ -35,8 +35,10 @@ use Rattle.aas_server.proofs.Standing.{image_stands, kept_opens, stood_before}
 module _ (one_list : HaveOneList) (one_replay : OneReplay) (accepted_replay : AcceptedReplay)
     (start last : DiskState) (opened : State Documents Files) (d : Documents)
     (kept : List (List ℕ) → Type 0)
-    (told : (payloads : List (List ℕ)) → kept payloads → (files : Files) × (last.seen ≡ Some files) × IsBankImage files payloads)
-    (is_opened : IfSome start.seen (IsOpened opened)) (reads : Passes start.moment start.left_at opened.moment opened.left_at)
+    (told : (payloads : List (List ℕ))
+    → kept payloads → (files : Files) × (last.seen ≡ Some files) × IsBankImage files payloads)
+    (is_opened : IfSome start.seen (IsOpened opened))
+    (reads : Passes start.moment start.left_at opened.moment opened.left_at)
     (images : Meanwhile start.moment opened.moment start.left_at opened.left_at AddsNone)
     (passed : Passes opened.moment opened.left_at last.moment last.left_at) (valid : AreValid d) where
   abbrev now : State Documents Files
@@ -46,7 +48,8 @@ module _ (one_list : HaveOneList) (one_replay : OneReplay) (accepted_replay : Ac
 
   abbrev Session : Repository Documents → List ℕ → Ended → ConsoleState → ConsoleState → Type 0
   Session r input end old new =
-      Served (Turns has_room_behind) IsBankImage r input opened.moment now old.sent new.sent (Rose old.faults new.faults) end
+      Served (Turns has_room_behind) IsBankImage r input opened.moment now old.sent new.sent
+      (Rose old.faults new.faults) end
 
   abbrev ServesConsole : Ended → ConsoleState → ConsoleState → Type 0
   ServesConsole end old new = (input : List ℕ) (records : List (List ℕ)) → old.left ≡ Some input
@@ -74,7 +77,8 @@ module _ (one_list : HaveOneList) (one_replay : OneReplay) (accepted_replay : Ac
     read : AreRead r
     read = opens.2.1
 
-    piped : (end : Ended) (old new : ConsoleState) → ServesConsole end old new → (input : List ℕ) → old.left ≡ Some input
+    piped : (end : Ended) (old new : ConsoleState)
+        → ServesConsole end old new → (input : List ℕ) → old.left ≡ Some input
         → IsPiped end input r old new start last
     piped end old new serves input left = record {
       documents = d;
@@ -86,8 +90,9 @@ module _ (one_list : HaveOneList) (one_replay : OneReplay) (accepted_replay : Ac
       valid = valid;
     }
 
-    served : (count : ℕ) (end : WireEnded) (old new : WireState) → ServesWire count end old new → (c : Connections) (sent : List ℕ)
-        → old.connections ≡ Some c → old.sent ≡ Some sent → IsServed count end c sent r old new start last
+    served : (count : ℕ) (end : WireEnded) (old new : WireState)
+        → ServesWire count end old new → (c : Connections) (sent : List ℕ)
+        → old.connections ≡ Some c → old.sent ≡ Some sent → ServesClients count end c sent r old new start last
     served count end old new serves c sent known known_sent = record {
       documents = d;
       served = all_since accepted_replay has_room_behind IsBankImage (StandsFor start r) (image_stands start r)
@@ -99,38 +104,47 @@ module _ (one_list : HaveOneList) (one_replay : OneReplay) (accepted_replay : Ac
       valid = valid;
     }
 
-  pub console_served : (status : ℕ) (end : Ended) (old new : ConsoleState) → status ≡ pipe_status end → ServesConsole end old new
+  pub console_served : (status : ℕ) (end : Ended) (old new : ConsoleState)
+      → status ≡ pipe_status end → ServesConsole end old new
       → (end ≡ ended.LinkFault → Rose old.faults new.faults) → (end ≡ ended.KeeperFault → Rose start.faults last.faults)
-      → IsConsoleServed status old new start last
-  console_served status end old new is serves link_fault keeper_fault = record {
+      → (end ≢ ended.KeeperFault → last.faults ≡ start.faults) → IsConsoleServed status old new start last
+  console_served status end old new is serves link_fault keeper_fault no_keeper_fault = record {
     ended = end;
     status_is = is;
     has_begun = has_begun start opened is_opened;
     piped = λ input r left opens. piped r opens end old new serves input left;
     link_fault = link_fault;
     keeper_fault = keeper_fault;
+    no_keeper_fault = no_keeper_fault;
   }
 
   -- the wire served is as it was before it listened
   pub wire_served : (count status : ℕ) (end : WireEnded) (old mid new : WireState) → mid.connections ≡ old.connections
-      → mid.sent ≡ old.sent → mid.clients ≡ old.clients → mid.faults ≡ old.faults → old.wire_faults ≤ mid.wire_faults → status ≡ serve_status end
-      → ServesWire count end mid new → new.clients ≤ mid.clients + count → (end ≡ wire.WireFault → Rose mid.wire_faults new.wire_faults) → (end ≡ wire.KeeperFault → Rose start.faults last.faults)
-      → IsWireServed count status old new start last
-  wire_served count status end old mid new connections sent clients faults later is serves few wire_fault keeper_fault = record {
-    ended = end;
-    status_is = is;
-    has_begun = has_begun start opened is_opened;
-    served = λ c bytes r known known_sent opens.
-        let s = served r opens count end mid new serves c bytes (connections ∙ known) (sent ∙ known_sent) in record {
-          documents = s.documents;
-          served = subst (λ (n : ℕ). ServesAll (Turns has_room_behind) (StandsFor start r) r c (sent_on_all c bytes) count
-              start.moment (state_on last s.documents) new.connections new.sent n new.faults end) faults s.served;
-          valid = s.valid;
-        };
-    few = omega (arith, few, clients);
-    wire_fault = λ failed. omega (arith, later, wire_fault failed);
-    keeper_fault = keeper_fault;
-  }
+      → mid.sent ≡ old.sent → mid.clients ≡ old.clients → mid.faults ≡ old.faults
+      → old.wire_faults ≤ mid.wire_faults → status ≡ serve_status end
+      → ServesWire count end mid new → new.clients ≤ mid.clients + count
+      → (end ≡ wire.WireFault → Rose mid.wire_faults new.wire_faults)
+      → (end ≡ wire.KeeperFault → Rose start.faults last.faults)
+      → (end ≢ wire.KeeperFault → last.faults ≡ start.faults) → IsWireServed count status old new start last
+  wire_served count status end old mid new connections sent clients faults
+      later is serves few wire_fault keeper_fault no_keeper_fault = record {
+        ended = end;
+        status_is = is;
+        has_begun = has_begun start opened is_opened;
+        served = λ c bytes r known known_sent opens.
+            let s = served r opens count end mid new serves c bytes (connections ∙ known) (sent ∙ known_sent) in
+            record {
+              documents = s.documents;
+              served = subst (λ (n : ℕ).
+                  ServesAll (Turns has_room_behind) (StandsFor start r) r c (sent_on_all c bytes) count
+                  start.moment (state_on last s.documents) new.connections new.sent n new.faults end) faults s.served;
+              valid = s.valid;
+            };
+        few = omega (arith, few, clients);
+        wire_fault = λ failed. omega (arith, later, wire_fault failed);
+        keeper_fault = keeper_fault;
+        no_keeper_fault = no_keeper_fault;
+      }
 
 -- ---- statuses
 
@@ -140,7 +154,8 @@ pipe_statuses ended.LinkFault status is = (1, lit< tt, sym is)
 pipe_statuses ended.KeeperFault status is = (2, lit< tt, sym is)
 pipe_statuses ended.NoMemory status is = (5, lit< tt, sym is)
 
-pub serve_statuses : (e : WireEnded) (status : ℕ) → status ≡ serve_status e → Contains (0 ∷ 3 ∷ 4 ∷ 5 ∷ 6 ∷ 10 ∷ []) status
+pub serve_statuses : (e : WireEnded) (status : ℕ)
+    → status ≡ serve_status e → Contains (0 ∷ 3 ∷ 4 ∷ 5 ∷ 6 ∷ 10 ∷ []) status
 serve_statuses wire.Done status is = (0, lit< tt, sym is)
 serve_statuses wire.WireFault status is = (1, lit< tt, sym is)
 serve_statuses wire.KeeperFault status is = (2, lit< tt, sym is)

@@ -1,5 +1,6 @@
 -- What importing into the repository that was opened on a disk comes to.
-use Rattle.std.proofs.Common.{◌≡◌, ◌≢◌, ◌⊎◌, ◌≤◌, ℕ, List, [], ◌∷◌, ◌++◌, Option, Some, Result, Ok, Err, refl, subst, ◌∙◌, inl, inr, arith}
+use Rattle.std.proofs.Common.{◌≡◌, ◌≢◌, ◌⊎◌, ◌≤◌, ℕ, List, [], ◌∷◌, ◌++◌, Option, Some, Result, Ok, Err, refl, subst}
+use Rattle.std.proofs.Common.{◌∙◌, inl, inr, arith}
 use Rattle.std.specs.Prelude.{IfSome, length}
 use Rattle.std.proofs.lemmas.Option.{IfSome_then}
 use Rattle.aas_command.specs.Commands.{IsWellFormed, payload_of}
@@ -26,7 +27,8 @@ use Rattle.aas_step.specs.Step.{Steps, accepted}
 use Rattle.aas_store.specs.Documents.{Documents}
 use Rattle.aas_server.specs.Answer.{Answer, GivesAnswer, GivesFrontOf, Says, done}
 use Rattle.aas_server.specs.Ends.{ConsoleState, DiskState, IsCaused, IsUnwritten}
-use Rattle.aas_server.specs.Importing.{ImportsDemo, ImportsInput, IsFaultAnswer, IsPutIn, IsRefusal, IsTooLong, PutsIn, counts_text, demo_input, demo_text, import_limit}
+use Rattle.aas_server.specs.Importing.{ImportsDemo, ImportsInput, IsFaultAnswer, IsPutIn, IsRefusal, IsTooLong, PutsIn}
+use Rattle.aas_server.specs.Importing.{counts_text, demo_input, demo_text, import_limit}
 use Rattle.aas_server.specs.OnDisk.{StandsFor, state_on}
 use Rattle.aas_server.specs.Opening.{OpensAs}
 use Rattle.aas_server.proofs.Held.{IsOpened, has_begun, here, same}
@@ -43,7 +45,8 @@ spelled_well e bytes is = spelled_whole (reading bytes) e is
 -- ---- what came of it and what is said
 
 -- but for a fault of the keeper everything is as before
-refused_holds : {I : Type 0} (room : Room) (stands : I → List (List ℕ) → Type 0) (r : Repository Documents) (bytes : List ℕ) (from : ℕ)
+refused_holds : {I : Type 0} (room : Room) (stands : I → List (List ℕ) → Type 0)
+    (r : Repository Documents) (bytes : List ℕ) (from : ℕ)
     (now : State Documents I) (f : ImportFault) → Imports room stands r bytes from now (Err f) → f ≢ fault.Storage
     → Holds stands r.records [] r from now
 refused_holds room stands r bytes from now (fault.Read f) is other = is.2
@@ -54,13 +57,15 @@ refused_holds room stands r bytes from now fault.Full is other = is.1
 refused_holds room stands r bytes from now fault.Storage is other = absurd (other refl)
 refused_holds room stands r bytes from now fault.NoMemory is other = is
 
-module _ {I : Type 0} (text : Counts → List ℕ) (stands : I → List (List ℕ) → Type 0) (r : Repository Documents) (input : List ℕ)
+module _ {I : Type 0} (text : Counts → List ℕ)
+    (stands : I → List (List ℕ) → Type 0) (r : Repository Documents) (input : List ℕ)
     (from : ℕ) (now : State Documents I) (status : ℕ) (old new : ConsoleState) where
   abbrev Came : List ℕ → Result Counts ImportFault → Type 0
   Came bytes outcome = Imports has_room_behind stands r bytes from now outcome
 
   pub put_well : (counts : Counts) (bytes : List ℕ) → bytes ≡ input → Came bytes (Ok counts)
-      → Says (λ answer. answer ≡ done (text counts)) status old new → (status ≡ 10 → ⊥) → IsPutIn text stands r input from now status old new
+      → Says (λ answer. answer ≡ done (text counts)) status old new → (status ≡ 10 → ⊥)
+      → IsPutIn text stands r input from now status old new
   put_well counts bytes same is says never = record {
     outcome = Ok counts;
     imports = subst (λ (b : List ℕ). Came b (Ok counts)) same is;
@@ -80,18 +85,23 @@ module _ {I : Type 0} (text : Counts → List ℕ) (stands : I → List (List �
       }
 
 -- what was read to its end, of an input that is told
-pub all_read : (left : Option (List ℕ)) (items input : List ℕ) → IfSome left (λ all. items ≡ all) → left ≡ Some input → items ≡ input
+pub all_read : (left : Option (List ℕ)) (items input : List ℕ)
+    → IfSome left (λ all. items ≡ all) → left ≡ Some input → items ≡ input
 all_read left items input whole told = subst (λ (l : Option (List ℕ)). IfSome l (λ all. items ≡ all)) told whole
 
-pub all_within : (left : Option (List ℕ)) (items : List ℕ) (limit : ℕ) → IfSome left (λ all. items ≡ all) → length items ≤ limit
+pub all_within : (left : Option (List ℕ)) (items : List ℕ) (limit : ℕ)
+    → IfSome left (λ all. items ≡ all) → length items ≤ limit
     → IfSome left (λ all. length all ≤ limit)
-all_within left items limit whole within = IfSome_then left whole (λ all is. subst (λ (l : List ℕ). length l ≤ limit) is within)
+all_within left items limit whole within =
+    IfSome_then left whole (λ all is. subst (λ (l : List ℕ). length l ≤ limit) is within)
 
 -- after a call that gave nothing
-pub says_moved : (P : Answer → Type 0) (status : ℕ) (old mid new : ConsoleState) → mid.sent ≡ old.sent → old.faults ≤ mid.faults
+pub says_moved : (P : Answer → Type 0) (status : ℕ) (old mid new : ConsoleState)
+    → mid.sent ≡ old.sent → old.faults ≤ mid.faults
     → Says P status mid new → Says P status old new
 says_moved P status old mid new nothing later says = record {
-  given = λ not3 not10. subst (λ (sent : Option (List ℕ)). GivesAnswer P status sent new.sent) nothing (says.given not3 not10);
+  given = λ not3 not10.
+      subst (λ (sent : Option (List ℕ)). GivesAnswer P status sent new.sent) nothing (says.given not3 not10);
   front = λ is. subst (λ (sent : Option (List ℕ)). GivesFrontOf P sent new.sent) nothing (says.front is);
   fault = λ is. omega (arith, later, says.fault is);
   memory = λ is. says.memory is ∙ nothing;
@@ -100,7 +110,8 @@ says_moved P status old mid new nothing later says = record {
 -- ---- from an earlier moment on
 
 module _ (accepted_replay : AcceptedReplay) (room : Room) {I : Type 0} (stands stands_then : I → List (List ℕ) → Type 0)
-    (weaker : (image : I) (payloads : List (List ℕ)) → Replay payloads → stands image payloads → stands_then image payloads)
+    (weaker : (image : I) (payloads : List (List ℕ))
+    → Replay payloads → stands image payloads → stands_then image payloads)
     (d : Documents) (moment : ℕ) (left_at : ℕ → I → Type 0) (kept kept_then : List (List ℕ) → Type 0)
     (told : (payloads : List (List ℕ)) → Replays payloads d → kept payloads → kept_then payloads)
     (from mid : ℕ) (r : Repository Documents) (read : AreRead r) (earlier : from ≤ mid)
@@ -112,17 +123,24 @@ module _ (accepted_replay : AcceptedReplay) (room : Room) {I : Type 0} (stands s
   then = record { documents = d; kept = kept_then; moment = moment; left_at = left_at }
 
   pub unchanged_since : Holds stands r.records [] r mid now → Holds stands_then r.records [] r from then
-  unchanged_since h = held_since stands stands_then weaker d moment left_at kept kept_then told from mid r earlier before [] r (none_more r read) h
+  unchanged_since h =
+      held_since stands stands_then weaker d moment left_at kept kept_then told from mid r earlier before [] r
+      (none_more r read) h
 
   abbrev next_of : Environment → Documents → Repository Documents
   next_of e new = record { documents = new; records = r.records ++ payload_of (Import e) ∷ [] }
 
-  behind : (e : Environment) (bytes : List ℕ) (new : Documents) → Spell bytes e → Steps room r (Import e) (accepted new) → HasFields (Import e)
+  behind : (e : Environment) (bytes : List ℕ) (new : Documents)
+      → Spell bytes e → Steps room r (Import e) (accepted new) → HasFields (Import e)
       → IsBehind r (payload_of (Import e) ∷ []) (next_of e new)
   behind e bytes new spelled steps fields =
-      record { records = refl; read = accepted_replay room r (Import e) new read (spelled_well e bytes spelled) fields steps }
+      record {
+        records = refl;
+        read = accepted_replay room r (Import e) new read (spelled_well e bytes spelled) fields steps;
+      }
 
-  pub imports_since : (bytes : List ℕ) (outcome : Result Counts ImportFault) → Imports room stands r bytes mid now outcome
+  pub imports_since : (bytes : List ℕ) (outcome : Result Counts ImportFault)
+      → Imports room stands r bytes mid now outcome
       → Imports room stands_then r bytes from then outcome
   imports_since bytes (Ok counts) is =
       let a = is.accepted in record {
@@ -151,7 +169,8 @@ module _ (accepted_replay : AcceptedReplay) (room : Room) {I : Type 0} (stands s
           new = t.new;
           steps = t.steps;
           fields = t.fields;
-          faulted = faulted_since stands stands_then weaker d moment left_at kept kept_then told from mid r earlier before []
+          faulted =
+              faulted_since stands stands_then weaker d moment left_at kept kept_then told from mid r earlier before []
               (payload_of (Import is.environment) ∷ []) (next_of is.environment t.new)
               (behind is.environment bytes t.new is.spelled t.steps t.fields) t.faulted;
         };
@@ -162,8 +181,10 @@ module _ (accepted_replay : AcceptedReplay) (room : Room) {I : Type 0} (stands s
 
 module _ (one_list : HaveOneList) (one_replay : OneReplay) (accepted_replay : AcceptedReplay)
     (start last : DiskState) (opened : State Documents Files) (d : Documents) (kept : List (List ℕ) → Type 0)
-    (told : (payloads : List (List ℕ)) → kept payloads → (files : Files) × (last.seen ≡ Some files) × IsBankImage files payloads)
-    (is_opened : IfSome start.seen (IsOpened opened)) (reads : Passes start.moment start.left_at opened.moment opened.left_at)
+    (told : (payloads : List (List ℕ))
+    → kept payloads → (files : Files) × (last.seen ≡ Some files) × IsBankImage files payloads)
+    (is_opened : IfSome start.seen (IsOpened opened))
+    (reads : Passes start.moment start.left_at opened.moment opened.left_at)
     (images : Meanwhile start.moment opened.moment start.left_at opened.left_at AddsNone)
     (passed : Passes opened.moment opened.left_at last.moment last.left_at) where
   abbrev end : State Documents Files
@@ -173,26 +194,32 @@ module _ (one_list : HaveOneList) (one_replay : OneReplay) (accepted_replay : Ac
   IsPut text input status old new r = IsPutIn text IsBankImage r input opened.moment end status old new
 
   module _ (text : Counts → List ℕ) (input : List ℕ) (status : ℕ) (old new : ConsoleState) where
-    put_since : (r : Repository Documents) → AreRead r → IsPut text input status old new r → PutsIn text input r status old new start last
+    put_since : (r : Repository Documents)
+        → AreRead r → IsPut text input status old new r → PutsIn text input r status old new start last
     put_since r read is = (
       d,
       record {
         outcome = is.outcome;
         imports = imports_since accepted_replay has_room_behind IsBankImage (StandsFor start r) (image_stands start r)
             d last.moment last.left_at kept (state_on last d).kept (kept_opens last d kept told)
-            start.moment opened.moment r read reads.later (stood_before start last opened r read images passed) input is.outcome is.imports;
+            start.moment opened.moment r read reads.later
+            (stood_before start last opened r read images passed) input is.outcome is.imports;
         says = is.says;
-        silent = λ ten. unchanged_since accepted_replay has_room_behind IsBankImage (StandsFor start r) (image_stands start r)
+        silent = λ ten.
+            unchanged_since accepted_replay has_room_behind IsBankImage (StandsFor start r) (image_stands start r)
             d last.moment last.left_at kept (state_on last d).kept (kept_opens last d kept told)
-            start.moment opened.moment r read reads.later (stood_before start last opened r read images passed) (is.silent ten);
+            start.moment opened.moment r read reads.later
+            (stood_before start last opened r read images passed) (is.silent ten);
       },
     )
 
-    puts_in : ((records : List (List ℕ)) → IsSettledState IsBankImage opened records → IsPut text input status old new (repository_of opened records))
+    puts_in : ((records : List (List ℕ))
+        → IsSettledState IsBankImage opened records → IsPut text input status old new (repository_of opened records))
         → (r : Repository Documents) → OpensAs start r → PutsIn text input r status old new start last
     puts_in put r opens =
         let held = here one_list one_replay start opened is_opened r opens in
-        put_since r opens.2.1 (subst (IsPut text input status old new) (same one_list one_replay start opened is_opened r opens)
+        put_since r opens.2.1
+        (subst (IsPut text input status old new) (same one_list one_replay start opened is_opened r opens)
         (put held.0 held.2))
 
   pub input_imported : (unchanged : Type 0) (status : ℕ) (old new : ConsoleState)
@@ -209,13 +236,15 @@ module _ (one_list : HaveOneList) (one_replay : OneReplay) (accepted_replay : Ac
   input_imported unchanged status old new (inr taken) refused unwritten causes = inr (inr (record {
     has_begun = has_begun start opened is_opened;
     within = taken.0;
-    put_in = λ input r left opens. puts_in counts_text input status old new (λ records settled. taken.1 input records left settled) r opens;
+    put_in = λ input r left opens.
+        puts_in counts_text input status old new (λ records settled. taken.1 input records left settled) r opens;
     refused = λ is. unwritten (refused is);
     causes = causes;
   }))
 
   pub demo_imported : (unchanged : Type 0) (count status : ℕ) (old new : ConsoleState)
-      → ((status ≡ 10) × (new ≡ old) × unchanged) ⊎ ((records : List (List ℕ)) → IsSettledState IsBankImage opened records
+      → ((status ≡ 10) × (new ≡ old) × unchanged)
+      ⊎ ((records : List (List ℕ)) → IsSettledState IsBankImage opened records
       → IsPut (λ counts. demo_text count) (demo_input count) status old new (repository_of opened records))
       → (IsRefusal status → unchanged) → (unchanged → IsUnwritten start last) → new.left ≡ old.left
       → IsCaused status old new start last

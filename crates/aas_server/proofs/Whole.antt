@@ -11,7 +11,15 @@ use Rattle.aas_step.specs.Valid.{AreValid}
 use Rattle.aas_store.specs.Documents.{Documents}
 use Rattle.aas_server.specs.Checkpointing.{whole_payload}
 
-pub whole_replays : ExportsComeBack → (d : Documents) → AreValid d → HasFields (Import (environment_of d)) → Replays (whole_payload d ∷ []) d
+pub whole_replays : ExportsComeBack → (d : Documents)
+    → AreValid d → HasFields (Import (environment_of d)) → Replays (whole_payload d ∷ []) d
 unfolding Steps
-whole_replays come_back d valid fields =
-    (d, (Import (environment_of d), record { well_formed = well_formed d valid; fields = fields; same = refl }, come_back d valid), refl)
+whole_replays come_back d valid fields = (
+  d,
+  (
+    Import (environment_of d),
+    record { well_formed = well_formed d valid; fields = fields; same = refl },
+    come_back d valid,
+  ),
+  refl,
+)

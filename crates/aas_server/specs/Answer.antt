@@ -1,5 +1,6 @@
 -- What a command answers. This profile's own rule.
-use Rattle.std.specs.Prelude.{◌≡◌, ◌≢◌, ◌⊎◌, ◌^◌, ℕ, List, [], ◌∷◌, ◌++◌, codes, decimal, length, nat_lt, Option, if◌then◌else◌}
+use Rattle.std.specs.Prelude.{◌≡◌, ◌≢◌, ◌⊎◌, ◌^◌, ℕ, List, [], ◌∷◌, ◌++◌, codes, decimal, length, nat_lt}
+use Rattle.std.specs.Prelude.{Option, if◌then◌else◌}
 use Rattle.std.specs.Io.KnownBytes.{append_known}
 use Rattle.aas_command.specs.Refusals.{code_of, text_of}
 use Rattle.aas_command.specs.declared.refusal.Refusal.{Refusal}
@@ -57,14 +58,15 @@ exported text = if nat_lt (length text) (2 ^ 64) then done text else too_long
 
 -- the status and what was given are those of an answer with P
 abbrev pub GivesAnswer : (Answer → Type 0) → ℕ → Option (List ℕ) → Option (List ℕ) → Type 0
-GivesAnswer P status old new = (answer : Answer) × P answer × (status ≡ answer.status) × (new ≡ append_known old answer.text)
+GivesAnswer P status old new =
+    (answer : Answer) × P answer × (status ≡ answer.status) × (new ≡ append_known old answer.text)
 
 -- nothing was given, or a front of the text of an answer with P
 abbrev pub GivesFrontOf : (Answer → Type 0) → Option (List ℕ) → Option (List ℕ) → Type 0
 GivesFrontOf P old new = (new ≡ old) ⊎ ((answer : Answer) × P answer × GivesFront old new answer.text)
 
--- The console gets the text of an answer with P, whose status is the run's, or a front of it where the console fails, or
--- nothing for want of memory.
+-- The console gets the text of an answer with P, whose status is the run's, or a front of it where the console fails,
+-- or nothing for want of memory.
 pub record Says (P : Answer → Type 0) (status : ℕ) (old new : ConsoleState) : Type 0 where
   pub given : status ≢ 3 → status ≢ 10 → GivesAnswer P status old.sent new.sent
   pub front : status ≡ 3 → GivesFrontOf P old.sent new.sent

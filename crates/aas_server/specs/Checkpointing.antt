@@ -1,5 +1,7 @@
--- What `checkpoint` does: one record, the import of all documents, is put in the place of those in the journal. This profile's own rule.
-use Rattle.std.specs.Prelude.{◌≡◌, ◌≢◌, ◌⊎◌, ℕ, ◌+◌, ◌<◌, ◌≤◌, List, [], ◌∷◌, ◌++◌, codes, decimal, length, Some, IfSome}
+-- What `checkpoint` does: one record, the import of all documents,
+-- is put in the place of those in the journal. This profile's own rule.
+use Rattle.std.specs.Prelude.{◌≡◌, ◌≢◌, ◌⊎◌, ℕ, ◌+◌, ◌<◌, ◌≤◌, List, [], ◌∷◌, ◌++◌, codes, decimal, length}
+use Rattle.std.specs.Prelude.{Some, IfSome}
 use Rattle.aas_command.specs.Commands.{payload_of}
 use Rattle.aas_command.specs.declared.command.Command.TheVariants.{Import}
 use Rattle.aas_environment.specs.Environments.{environment_of}
@@ -31,23 +33,27 @@ pub record IsOneRecord (payload : List ℕ) (old new : DiskState) : Type 0 where
 -- what is answered: the record is kept, or has no room, or the disk failed
 abbrev pub IsCheckpointAnswer : Documents → DiskState → DiskState → Answer → Type 0
 IsCheckpointAnswer d old new answer =
-    ((answer ≡ done (line (codes "checkpoint " ++ decimal (checkpoint_size d)))) × IsOneRecord (whole_payload d) old new)
+    ((answer ≡ done (line (codes "checkpoint " ++ decimal (checkpoint_size d))))
+    × IsOneRecord (whole_payload d) old new)
     ⊎ ((answer ≡ journal_full) × (most_bytes < checkpoint_size d) × IsUnwritten old new)
     ⊎ ((answer ≡ disk_failed) × Rose old.faults new.faults)
 
 -- whatever a stop at a moment from this one to now leaves opens as these documents
 abbrev pub OpensMeanwhile : Documents → ℕ → DiskState → Type 0
-OpensMeanwhile d from new = (t : ℕ) → from ≤ t → t ≤ new.moment → (image : Files) → new.left_at t image → OpensTo d image
+OpensMeanwhile d from new =
+    (t : ℕ) → from ≤ t → t ≤ new.moment → (image : Files) → new.left_at t image → OpensTo d image
 
--- Where whatever a stop at the start may have left opens as these documents, so does whatever one at a moment since leaves.
+-- Where whatever a stop at the start may have left opens as these documents,
+-- so does whatever one at a moment since leaves.
 abbrev pub StaysOpen : Documents → DiskState → DiskState → Type 0
 StaysOpen d old new = OpensAnyway old d → OpensMeanwhile d old.moment new
 
--- The documents are those from before, in one record. Memory is asked for before the disk is written, so no want of it is
--- told here.
+-- The documents are those from before, in one record. Memory is asked for before the disk is written, so no want of it
+-- is told here.
 pub record IsCheckpointed (status : ℕ) (old new : ConsoleState) (disk_old disk_new : DiskState) : Type 0 where
   pub has_begun : HasBegun disk_old
-  pub says : (r : Repository Documents) → OpensAs disk_old r → (answer : Answer) × IsCheckpointAnswer r.documents disk_old disk_new answer
+  pub says : (r : Repository Documents)
+      → OpensAs disk_old r → (answer : Answer) × IsCheckpointAnswer r.documents disk_old disk_new answer
       × Says (λ said. said ≡ answer) status old new
   pub stays : (r : Repository Documents) → OpensAs disk_old r → StaysOpen r.documents disk_old disk_new
   pub unread : new.left ≡ old.left

@@ -1,8 +1,10 @@
--- The words of the command line: which commands there are, what a run of each does, and how it may end. This profile's own rule.
+-- The words of the command line: which commands there are, what a run of each does,
+-- and how it may end. This profile's own rule.
 use Rattle.std.specs.Prelude.{◌≡◌, ◌≤◌, ℕ, List, [], ◌∷◌, ◌==◌, Bool, false, codes, decimal, Option, Some, None, IfSome}
 use Rattle.std.specs.List.{list_any}
 use Rattle.aas_server.specs.declared.command_line.CommandLine.{CommandLine}
-use Rattle.aas_server.specs.declared.command_line.CommandLine.TheVariants.{Value, Init, Pipe, Serve, Check, Export, Import, Demo, Checkpoint, Conform}
+use Rattle.aas_server.specs.declared.command_line.CommandLine.TheVariants.{Value, Init, Pipe, Serve, Check, Export}
+use Rattle.aas_server.specs.declared.command_line.CommandLine.TheVariants.{Import, Demo, Checkpoint, Conform}
 use Rattle.aas_environment.specs.Environments.{export_text}
 use Rattle.aas_server.specs.Answer.{Says, done, exported, not_a_command}
 use Rattle.aas_server.specs.CheckText.{check_text}
@@ -43,21 +45,25 @@ AreWordsOf (Demo count) words = IsCount most_properties count × (words ≡ code
 AreWordsOf (Serve count) words =
     IsCount most_clients count × ((address : List ℕ) × (words ≡ codes "serve" ∷ address ∷ decimal count ∷ []))
 
--- What a run of each command, or of no command, does: its status, and the console, the wire and the disk before and after it,
--- of which the disk is seen so.
-abbrev pub Does : {D : Type 0} → (D → DiskState) → Option CommandLine → ℕ → ConsoleState → ConsoleState → WireState → WireState → D → D → Type 0
+-- What a run of each command, or of no command, does: its status, and the console, the wire and the disk before and
+-- after it, of which the disk is seen so.
+abbrev pub Does : {D : Type 0}
+    → (D → DiskState) → Option CommandLine → ℕ → ConsoleState → ConsoleState → WireState → WireState → D → D → Type 0
 Does view None status old new wire_old wire_new disk_old disk_new =
     Says (λ answer. answer ≡ not_a_command) status old new × (wire_new ≡ wire_old) × (disk_new ≡ disk_old)
 Does view (Some Value) status old new wire_old wire_new disk_old disk_new =
-    Says (λ answer. IfSome old.left (λ input. IsValueAnswer input answer)) status old new × (wire_new ≡ wire_old) × (disk_new ≡ disk_old)
+    Says (λ answer. IfSome old.left (λ input. IsValueAnswer input answer)) status old new
+    × (wire_new ≡ wire_old) × (disk_new ≡ disk_old)
 Does view (Some Init) status old new wire_old wire_new disk_old disk_new =
     Inits status old new (view disk_old) (view disk_new) × (wire_new ≡ wire_old)
 Does view (Some Pipe) status old new wire_old wire_new disk_old disk_new =
     Pipes status old new (view disk_old) (view disk_new) × (wire_new ≡ wire_old)
 Does view (Some Check) status old new wire_old wire_new disk_old disk_new =
-    Tells (λ d answer. answer ≡ done (check_text d)) status old new (view disk_old) (view disk_new) × (wire_new ≡ wire_old)
+    Tells (λ d answer. answer ≡ done (check_text d)) status old new (view disk_old) (view disk_new)
+    × (wire_new ≡ wire_old)
 Does view (Some Export) status old new wire_old wire_new disk_old disk_new =
-    Tells (λ d answer. answer ≡ exported (export_text d)) status old new (view disk_old) (view disk_new) × (wire_new ≡ wire_old)
+    Tells (λ d answer. answer ≡ exported (export_text d)) status old new (view disk_old) (view disk_new)
+    × (wire_new ≡ wire_old)
 Does view (Some Import) status old new wire_old wire_new disk_old disk_new =
     ImportsInput status old new (view disk_old) (view disk_new) × (wire_new ≡ wire_old)
 Does view (Some (Demo count)) status old new wire_old wire_new disk_old disk_new =
@@ -65,7 +71,8 @@ Does view (Some (Demo count)) status old new wire_old wire_new disk_old disk_new
 Does view (Some Checkpoint) status old new wire_old wire_new disk_old disk_new =
     Checkpoints status old new (view disk_old) (view disk_new) × (wire_new ≡ wire_old)
 Does view (Some (Conform template instance)) status old new wire_old wire_new disk_old disk_new =
-    Tells (IsConformAnswer template.now instance.now) status old new (view disk_old) (view disk_new) × (wire_new ≡ wire_old)
+    Tells (IsConformAnswer template.now instance.now) status old new (view disk_old) (view disk_new)
+    × (wire_new ≡ wire_old)
 Does view (Some (Serve count)) status old new wire_old wire_new disk_old disk_new =
     Serves count status old new wire_old wire_new (view disk_old) (view disk_new)
 

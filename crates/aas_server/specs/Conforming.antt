@@ -13,7 +13,8 @@ use Rattle.aas_store.specs.Documents.{Documents}
 use Rattle.aas_template.specs.Differences.{submodel_differences}
 use Rattle.aas_template.specs.declared.difference.Difference.{Difference}
 use Rattle.aas_template.specs.declared.difference.Reason.{Reason}
-use Rattle.aas_template.specs.declared.difference.Reason.TheVariants.{KindDiffers, TypeDiffers, SemanticDiffers, CountDiffers}
+use Rattle.aas_template.specs.declared.difference.Reason.TheVariants.{KindDiffers, TypeDiffers, SemanticDiffers}
+use Rattle.aas_template.specs.declared.difference.Reason.TheVariants.{CountDiffers}
 use Rattle.aas_server.specs.Answer.{Answer, done, line, refused}
 use Rattle.aas_server.specs.declared.conforming.Unfit.{Unfit}
 use Rattle.aas_server.specs.declared.conforming.Unfit.TheVariants.{Refused, NotTemplate}
@@ -37,7 +38,8 @@ conform_text (Some d) = line (codes "differs at " ++ fault_path_text d.path.step
 abbrev pub compared_answer : Option Submodel → Option Submodel → Answer
 compared_answer None d = refused (NotFound absent.Submodel)
 compared_answer (Some t) None = refused (NotFound absent.Submodel)
-compared_answer (Some t) (Some d) = if is_template t.kind then done (conform_text (first (submodel_differences t d))) else not_a_template
+compared_answer (Some t) (Some d) =
+    if is_template t.kind then done (conform_text (first (submodel_differences t d))) else not_a_template
 
 abbrev pub submodel_at : Documents → List ℕ → Option Submodel
 submodel_at d id = map.get d.submodels (encode_utf8_all id)
@@ -49,13 +51,16 @@ StandsForNone word = (id : List ℕ) → ¬ IsIdentifierCode (encode_utf8_all wo
 -- the words stand for identifiers as segments do that aren't percent-coded
 abbrev pub AreComparedAs : List ℕ → List ℕ → Documents → Answer → Type 0
 AreComparedAs template instance d answer =
-    (t i : List ℕ) × IsIdentifierCode (encode_utf8_all template) t × IsIdentifierCode (encode_utf8_all instance) i × (answer ≡ compared_answer (submodel_at d t) (submodel_at d i))
+    (t i : List ℕ) × IsIdentifierCode (encode_utf8_all template) t × IsIdentifierCode (encode_utf8_all instance) i
+    × (answer ≡ compared_answer (submodel_at d t) (submodel_at d i))
 
 abbrev pub IsConformAnswer : List ℕ → List ℕ → Documents → Answer → Type 0
 IsConformAnswer template instance d answer =
-    ((StandsForNone template ⊎ StandsForNone instance) × (answer ≡ refused BadIdentifier)) ⊎ AreComparedAs template instance d answer
+    ((StandsForNone template ⊎ StandsForNone instance) × (answer ≡ refused BadIdentifier))
+    ⊎ AreComparedAs template instance d answer
 
 -- what is said where they aren't compared; nothing of want of memory
 abbrev pub IsUnfit : List ℕ → List ℕ → Documents → Unfit → Type 0
-IsUnfit template instance d (Refused refusal) = refusal ≢ NoMemory → IsConformAnswer template instance d (refused refusal)
+IsUnfit template instance d (Refused refusal) =
+    refusal ≢ NoMemory → IsConformAnswer template instance d (refused refusal)
 IsUnfit template instance d NotTemplate = IsConformAnswer template instance d not_a_template

@@ -6,7 +6,8 @@ use Rattle.aas_outside.specs.Surroundings.{Connections, Surroundings}
 use Rattle.aas_outside_disk.specs.Disk.{AddsNone, Meanwhile}
 use Rattle.aas_outside_disk.specs.Files.{Files}
 
--- the bytes that are left on the console and those that were given, where it tells them, and how many of its calls failed
+-- the bytes that are left on the console and those that were given,
+-- where it tells them, and how many of its calls failed
 pub record ConsoleState : Type 0 where
   pub left : Option (List ℕ)
   pub sent : Option (List ℕ)
@@ -37,8 +38,8 @@ wire_of left sent faults surroundings wire = record {
   wire_faults = (surroundings wire).faults;
 }
 
--- What reads give of a disk's files, where it tells them; its time, what a stop at a moment up to now may have left, and how
--- many of its calls failed.
+-- What reads give of a disk's files, where it tells them; its time, what a stop at a moment up to now may have left,
+-- and how many of its calls failed.
 pub record DiskState : Type 1 where
   pub seen : Option Files
   pub moment : ℕ

@@ -1,5 +1,7 @@
--- What `import` and `demo` do: the documents of one environment are put in as one command, or none is. This profile's own rule.
-use Rattle.std.specs.Prelude.{◌≡◌, ◌⊎◌, ℕ, ◌+◌, ◌<◌, ◌≤◌, List, [], ◌++◌, codes, decimal, length, Option, Some, IfSome, Result, Ok, Err}
+-- What `import` and `demo` do: the documents of one environment are put in as one command, or none is.
+-- This profile's own rule.
+use Rattle.std.specs.Prelude.{◌≡◌, ◌⊎◌, ℕ, ◌+◌, ◌<◌, ◌≤◌, List, [], ◌++◌, codes, decimal, length, Option, Some, IfSome}
+use Rattle.std.specs.Prelude.{Result, Ok, Err}
 use Rattle.std.specs.Str.{encode_utf8_all}
 use Rattle.aas_command.specs.Refusals.{code_of, refusal_of_fault, refusal_of_read, text_of}
 use Rattle.aas_command.specs.declared.refusal.Refusal.{Refusal}
@@ -32,7 +34,8 @@ import_limit = 268435456
 abbrev pub refused_at : List ℕ → Refusal → Answer
 refused_at pointer r = record {
   status = 7;
-  text = line (codes "aasd: refused " ++ decimal (code_of r) ++ codes " " ++ encode_utf8_all pointer ++ codes " " ++ text_of r);
+  text = line (codes "aasd: refused " ++ decimal (code_of r)
+      ++ codes " " ++ encode_utf8_all pointer ++ codes " " ++ text_of r);
 }
 
 -- it is the answer to this fault; to want of memory there is none
@@ -64,17 +67,20 @@ demo_text count = line (codes "elements " ++ decimal count) ++ line (codes "sum 
 
 -- ---- what is done
 
--- The input was imported, and it was said what came of it. Where for want of memory nothing is said, everything is as before.
-pub record IsPutIn {I : Type 0} (text : Counts → List ℕ) (stands_for : I → List (List ℕ) → Type 0) (r : Repository Documents) (input : List ℕ)
+-- The input was imported, and it was said what came of it.
+-- Where for want of memory nothing is said, everything is as before.
+pub record IsPutIn {I : Type 0} (text : Counts → List ℕ)
+    (stands_for : I → List (List ℕ) → Type 0) (r : Repository Documents) (input : List ℕ)
     (from : ℕ) (now : State Documents I) (status : ℕ) (old new : ConsoleState) : Type 0 where
   pub outcome : Result Counts ImportFault
   pub imports : Imports has_room_behind stands_for r input from now outcome
   pub says : Says (IsImportAnswer text outcome) status old new
   pub silent : status ≡ 10 → Holds stands_for r.records [] r from now
 
--- The same of a disk. From the start of the run on it is said for which payloads what a stop leaves stands, and as which
--- documents it opens.
-abbrev pub PutsIn : (Counts → List ℕ) → List ℕ → Repository Documents → ℕ → ConsoleState → ConsoleState → DiskState → DiskState → Type 0
+-- The same of a disk. From the start of the run on it is said for which payloads what a stop leaves stands, and as
+-- which documents it opens.
+abbrev pub PutsIn : (Counts → List ℕ) → List ℕ → Repository Documents
+    → ℕ → ConsoleState → ConsoleState → DiskState → DiskState → Type 0
 PutsIn text input r status old new disk_old disk_new = (d : Documents)
     × IsPutIn text (StandsFor disk_old r) r input disk_old.moment (state_on disk_new d) status old new
 

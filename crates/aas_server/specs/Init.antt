@@ -8,8 +8,8 @@ use Rattle.aas_outside_disk.specs.Files.{Files}
 use Rattle.aas_server.specs.Answer.{Answer, Says, already_there, disk_failed, done, line}
 use Rattle.aas_server.specs.Ends.{ConsoleState, DiskState, IsUnwritten, MayLeave}
 
--- The files were empty and are those of a new journal. Where a stop before left empty ones, a stop now leaves the image of
--- no payloads.
+-- The files were empty and are those of a new journal. Where a stop before left empty ones, a stop now leaves the image
+-- of no payloads.
 pub record IsMade (old new : DiskState) : Type 0 where
   pub files : IfSome old.seen (λ files. AreEmpty files × (new.seen ≡ Some initial_files))
   pub images : IfSome old.seen (λ _. ((image : Files) → MayLeave old image → AreEmpty image)

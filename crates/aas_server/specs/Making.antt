@@ -19,7 +19,8 @@ use Rattle.aas_server.specs.Checkpointing.{checkpoint_size, whole_payload}
 abbrev pub size_line : ℕ → List ℕ
 size_line size = line (codes "checkpoint " ++ decimal size)
 
--- The record is the import of all documents, and alone replays to them. The line says how many bytes the file will have.
+-- The record is the import of all documents, and alone replays to them.
+-- The line says how many bytes the file will have.
 pub record IsPreparedOf (d : Documents) (prepared : Prepared) : Type 0 where
   pub record_is : prepared.record ≡ whole_payload d
   pub line_is : prepared.line.items ≡ size_line (checkpoint_size d)

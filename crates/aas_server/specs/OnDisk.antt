@@ -18,10 +18,11 @@ state_on disk d = record {
   left_at = disk.left_at;
 }
 
--- In a run that begins with this repository, what a stop leaves stands for these payloads: they replay to some documents,
--- and it is their image, or they are the records of the repository and a stop at the start may have left it.
+-- In a run that begins with this repository, what a stop leaves stands for these payloads: they replay to some
+-- documents, and it is their image, or they are the records of the repository and a stop at the start may have left it.
 -- Where whatever a stop at the start may have left opens as the repository's documents, it opens as these documents.
-pub record StandsFor (start : DiskState) (r : Repository Documents) (image : Files) (payloads : List (List ℕ)) : Type 0 where
+pub record StandsFor (start : DiskState) (r : Repository Documents) (image : Files) (payloads : List (List ℕ)) :
+    Type 0 where
   pub documents : Documents
   pub replays : Replays payloads documents
   pub left : IsBankImage image payloads ⊎ ((payloads ≡ r.records) × MayLeave start image)

@@ -17,14 +17,16 @@ pub data Opened : Type 0 where
   -- a repository
   begun : Repository Documents → Opened
 
--- The payload behind the gate of this place is that of no command, or of one that is refused, and those before it replay.
+-- The payload behind the gate of this place is that of no command,
+-- or of one that is refused, and those before it replay.
 abbrev pub StopsAtGate : List (List ℕ) → ℕ → Type 0
 StopsAtGate payloads at = (n : ℕ) × (d : Documents) × StopsAt payloads n d × (at ≡ gate_of payloads n)
 
 abbrev pub Opens : Files → Opened → Type 0
 Opens files not_initialised = IsNotInitialised (chosen_file files)
 Opens files (damaged at) =
-    IsDamaged (chosen_file files) at ⊎ ((payloads : List (List ℕ)) × IsBankImage files payloads × StopsAtGate payloads at)
+    IsDamaged (chosen_file files) at
+    ⊎ ((payloads : List (List ℕ)) × IsBankImage files payloads × StopsAtGate payloads at)
 Opens files (begun r) = IsBankImage files r.records × Replays r.records r.documents
 
 -- they open as some repository of these documents

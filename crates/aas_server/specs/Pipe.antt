@@ -1,5 +1,5 @@
 -- What `pipe` does: it serves one connection, the console, from the repository on the disk. This profile's own rule.
-use Rattle.std.specs.Prelude.{◌≡◌, ◌⊎◌, ℕ, List, Some}
+use Rattle.std.specs.Prelude.{◌≡◌, ◌≢◌, ◌⊎◌, ℕ, List, Some}
 use Rattle.aas_journal.specs.Kept.{has_room_behind}
 use Rattle.aas_outside.specs.Faults.{Rose}
 use Rattle.aas_rule.specs.Rule.{Repository}
@@ -21,12 +21,13 @@ pipe_status LinkFault = 3
 pipe_status KeeperFault = 4
 pipe_status NoMemory = 10
 
--- Of the session on the input from this repository this was done, and the documents that it left are valid. From the start
--- of the run on it is said for which payloads what a stop leaves stands, and as which documents it opens.
+-- Of the session on the input from this repository this was done, and the documents that it left are valid. From the
+-- start of the run on it is said for which payloads what a stop leaves stands, and as which documents it opens.
 pub record IsPiped (ended : Ended) (input : List ℕ) (r : Repository Documents) (old new : ConsoleState)
     (disk_old disk_new : DiskState) : Type 0 where
   pub documents : Documents
-  pub served : Served (Turns has_room_behind) (StandsFor disk_old r) r input disk_old.moment (state_on disk_new documents)
+  pub served : Served (Turns has_room_behind)
+      (StandsFor disk_old r) r input disk_old.moment (state_on disk_new documents)
       old.sent new.sent (Rose old.faults new.faults) ended
   pub valid : AreValid documents
 
@@ -39,6 +40,7 @@ pub record IsConsoleServed (status : ℕ) (old new : ConsoleState) (disk_old dis
       → IsPiped ended input r old new disk_old disk_new
   pub link_fault : ended ≡ LinkFault → Rose old.faults new.faults
   pub keeper_fault : ended ≡ KeeperFault → Rose disk_old.faults disk_new.faults
+  pub no_keeper_fault : ended ≢ KeeperFault → disk_new.faults ≡ disk_old.faults
 
 -- no repository was begun, or the connection was served
 abbrev pub Pipes : ℕ → ConsoleState → ConsoleState → DiskState → DiskState → Type 0

@@ -1,6 +1,6 @@
--- What `serve` does: it serves the visits of a wire one after another, each from the repository that the one before left,
--- the first from that on the disk. This profile's own rule.
-use Rattle.std.specs.Prelude.{◌≡◌, ◌≤◌, ◌+◌, ◌⊎◌, ℕ, List, Some}
+-- What `serve` does: it serves the visits of a wire one after another, each from the repository that the one before
+-- left, the first from that on the disk. This profile's own rule.
+use Rattle.std.specs.Prelude.{◌≡◌, ◌≢◌, ◌≤◌, ◌+◌, ◌⊎◌, ℕ, List, Some}
 use Rattle.aas_journal.specs.Kept.{has_room_behind}
 use Rattle.aas_outside.specs.Faults.{Rose}
 use Rattle.aas_outside.specs.Surroundings.{Connections, sent_on_all}
@@ -21,7 +21,8 @@ serve_status Done = 0
 serve_status WireFault = 3
 serve_status KeeperFault = 4
 
--- A repository was begun, but the wire can't listen. Nothing was begun, taken or given on it, and the disk was only read.
+-- A repository was begun, but the wire can't listen. Nothing was begun,
+-- taken or given on it, and the disk was only read.
 pub record IsUnserved (status : ℕ) (old new : WireState) (disk_old disk_new : DiskState) : Type 0 where
   pub status_is : status ≡ 3
   pub has_begun : HasBegun disk_old
@@ -35,7 +36,7 @@ pub record IsUnserved (status : ℕ) (old new : WireState) (disk_old disk_new : 
 -- From this repository on this was done of the visits that were to come to so many clients, and the documents that they
 -- left are valid. From the start of the run on it is said for which payloads what a stop leaves stands, and as which
 -- documents it opens.
-pub record IsServed (count : ℕ) (ended : WireEnded) (c : Connections) (sent : List ℕ) (r : Repository Documents)
+pub record ServesClients (count : ℕ) (ended : WireEnded) (c : Connections) (sent : List ℕ) (r : Repository Documents)
     (old new : WireState) (disk_old disk_new : DiskState) : Type 0 where
   pub documents : Documents
   pub served : ServesAll (Turns has_room_behind) (StandsFor disk_old r) r c (sent_on_all c sent) count
@@ -47,11 +48,13 @@ pub record IsWireServed (count status : ℕ) (old new : WireState) (disk_old dis
   pub ended : WireEnded
   pub status_is : status ≡ serve_status ended
   pub has_begun : HasBegun disk_old
-  pub served : (c : Connections) (sent : List ℕ) (r : Repository Documents) → old.connections ≡ Some c → old.sent ≡ Some sent
-      → OpensAs disk_old r → IsServed count ended c sent r old new disk_old disk_new
+  pub served : (c : Connections) (sent : List ℕ) (r : Repository Documents)
+      → old.connections ≡ Some c → old.sent ≡ Some sent
+      → OpensAs disk_old r → ServesClients count ended c sent r old new disk_old disk_new
   pub few : new.clients ≤ old.clients + count
   pub wire_fault : ended ≡ WireFault → Rose old.wire_faults new.wire_faults
   pub keeper_fault : ended ≡ KeeperFault → Rose disk_old.faults disk_new.faults
+  pub no_keeper_fault : ended ≢ KeeperFault → disk_new.faults ≡ disk_old.faults
 
 -- no repository was begun, or the wire can't listen, or its clients were served
 abbrev pub Serves : ℕ → ℕ → ConsoleState → ConsoleState → WireState → WireState → DiskState → DiskState → Type 0

@@ -1,7 +1,8 @@
 -- The exit statuses of the program. This profile's own rule.
 use Rattle.std.specs.Prelude.{ℕ}
 use Rattle.aas_server.specs.declared.status.Status.{Status}
-use Rattle.aas_server.specs.declared.status.Status.TheVariants.{Done, NotACommand, LinkFault, DiskFault, NotInitialised, Damaged}
+use Rattle.aas_server.specs.declared.status.Status.TheVariants.{Done, NotACommand, LinkFault, DiskFault}
+use Rattle.aas_server.specs.declared.status.Status.TheVariants.{NotInitialised, Damaged}
 use Rattle.aas_server.specs.declared.status.Status.TheVariants.{Refused, AlreadyThere, JournalFull, NoMemory, TooLong}
 
 abbrev pub exit_code : Status → ℕ

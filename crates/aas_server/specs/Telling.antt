@@ -8,7 +8,8 @@ use Rattle.aas_server.specs.Ends.{ConsoleState, DiskState, IsCaused, IsUnwritten
 use Rattle.aas_server.specs.Opening.{HasBegun, OpensAs}
 
 -- An answer about the documents was given. The console wasn't read, and the disk only was.
-pub record IsTold (IsAnswer : Documents → Answer → Type 0) (status : ℕ) (old new : ConsoleState) (disk_old disk_new : DiskState) : Type 0 where
+pub record IsTold (IsAnswer : Documents → Answer → Type 0) (status : ℕ)
+    (old new : ConsoleState) (disk_old disk_new : DiskState) : Type 0 where
   pub has_begun : HasBegun disk_old
   pub says : (r : Repository Documents) → OpensAs disk_old r → Says (IsAnswer r.documents) status old new
   pub unread : new.left ≡ old.left

@@ -35,7 +35,9 @@ read_answer (Err fault) = refused (refusal_of_read fault)
 -- the answer to the element at level 1 that the bytes spell, or to their first fault
 unfoldable pub IsReadAnswer : List ℕ → Answer → Type 0
 IsReadAnswer input answer =
-    (r : Result Element ReadFault) × ReadsBytes elements limits r input × (r ≢ Err read.NoMemory) × (answer ≡ read_answer r)
+    (r : Result Element ReadFault) × ReadsBytes elements limits r input
+    × (r ≢ Err read.NoMemory) × (answer ≡ read_answer r)
 
 abbrev pub IsValueAnswer : List ℕ → Answer → Type 0
-IsValueAnswer input answer = MatchBool (nat_lt input_limit (length input)) (answer ≡ refused TooLarge) (IsReadAnswer input answer)
+IsValueAnswer input answer =
+    MatchBool (nat_lt input_limit (length input)) (answer ≡ refused TooLarge) (IsReadAnswer input answer)

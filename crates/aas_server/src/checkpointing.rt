@@ -8,7 +8,8 @@ ghost use Rattle.aas_repo_replay.specs.Replay.{Replays};
 ghost use Rattle.aas_step.specs.Valid.{AreValid};
 ghost use Rattle.aas_store.specs.Documents.{Documents, empty};
 ghost use Rattle.aas_server.specs.Answer.{Says, done};
-ghost use Rattle.aas_server.specs.Checkpointing.{Checkpoints, IsOneRecord, OpensMeanwhile, checkpoint_size, whole_payload};
+ghost use Rattle.aas_server.specs.Checkpointing.{Checkpoints, IsOneRecord, OpensMeanwhile};
+ghost use Rattle.aas_server.specs.Checkpointing.{checkpoint_size, whole_payload};
 ghost use Rattle.aas_server.specs.CommandLine.{statuses_of};
 ghost use Rattle.aas_server.specs.Ends.{console_of, disk_of};
 ghost use Rattle.aas_server.specs.Making.{IsPrepared, IsSaidThen, IsUnmadeBy, size_line};
@@ -77,8 +78,8 @@ impl From<CheckpointFault> for Unmade {
     }
 }
 
-/// Puts one record, the import of all documents, in the place of those in the journal. All that takes memory comes before the
-/// disk is written.
+/// Puts one record, the import of all documents, in the place of those in the journal. All that takes memory comes
+/// before the disk is written.
 pub(crate) fn checkpoint<S: Store + Drop, C: Link, D: Disk>(
     alloc: Global,
     store: S,

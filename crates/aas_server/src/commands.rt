@@ -52,7 +52,8 @@ pub fn run<C: Link, W: Wire, D: Disk>(
 ) -> Ran<D>
     ensures does { ForAsked words.now (λ asked. Does (disk_of D.seen D.moment D.left_at D.faults) asked result.status
         (console_of C.left C.sent C.faults console.old) (console_of C.left C.sent C.faults console.new)
-        (wire_of W.left W.sent W.faults W.surroundings wire.old) (wire_of W.left W.sent W.faults W.surroundings wire.new)
+        (wire_of W.left W.sent W.faults W.surroundings wire.old)
+        (wire_of W.left W.sent W.faults W.surroundings wire.new)
         disk result.disk) }
     ensures statuses { ForAsked words.now (λ asked. Contains (statuses_of asked) result.status) }
     // The disk's time goes on, what a stop may have left before stays, and its count of faults never falls.
@@ -62,8 +63,8 @@ pub fn run<C: Link, W: Wire, D: Disk>(
     run_over(alloc, SheetStore::new(alloc), words, console, wire, disk)
 }
 
-/// The same over a store of any kind, which has no documents before; `run` is over tables. Where it is served an index stands
-/// beside it.
+/// The same over a store of any kind, which has no documents before; `run` is over tables. Where it is served an index
+/// stands beside it.
 pub fn run_over<S: Store + Drop, C: Link, W: Wire, D: Disk>(
     alloc: Global,
     store: S,
@@ -75,7 +76,8 @@ pub fn run_over<S: Store + Drop, C: Link, W: Wire, D: Disk>(
     requires empty { S.documents store ≡ empty }
     ensures does { ForAsked words.now (λ asked. Does (disk_of D.seen D.moment D.left_at D.faults) asked result.status
         (console_of C.left C.sent C.faults console.old) (console_of C.left C.sent C.faults console.new)
-        (wire_of W.left W.sent W.faults W.surroundings wire.old) (wire_of W.left W.sent W.faults W.surroundings wire.new)
+        (wire_of W.left W.sent W.faults W.surroundings wire.old)
+        (wire_of W.left W.sent W.faults W.surroundings wire.new)
         disk result.disk) }
     ensures statuses { ForAsked words.now (λ asked. Contains (statuses_of asked) result.status) }
     // The disk's time goes on, what a stop may have left before stays, and its count of faults never falls.

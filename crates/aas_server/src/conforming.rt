@@ -5,7 +5,8 @@ ghost use Rattle.aas_constraint_rules.specs.Faults.{is_template};
 ghost use Rattle.aas_page.specs.Segment.{IsIdentifierCode};
 ghost use Rattle.aas_path_trees.specs.Places.{SiblingsDiffer};
 ghost use Rattle.aas_server.specs.Answer.{done};
-ghost use Rattle.aas_server.specs.Conforming.{IsConformAnswer, IsUnfit, StandsForNone, compared_answer, conform_text, not_a_template, reason_name, submodel_at};
+ghost use Rattle.aas_server.specs.Conforming.{IsConformAnswer, IsUnfit, StandsForNone, compared_answer, conform_text};
+ghost use Rattle.aas_server.specs.Conforming.{not_a_template, reason_name, submodel_at};
 ghost use Rattle.aas_step.specs.Valid.{AreValid};
 
 use crate::console::{end_refused, end_with};
@@ -111,7 +112,8 @@ impl From<NoMemory> for Unfit {
 /// The identifier for which the word stands, as a segment does that isn't percent-coded.
 fn id_from_word(alloc: Global, word: &Text) -> Result<Text, Refusal>
     ensures ok { IfOk result (λ id. IsIdentifierCode (encode_utf8_all word.now) id) }
-    ensures bad { IfErr result (λ refusal. refusal ≢ Refusal.NoMemory → (refusal ≡ Refusal.BadIdentifier) × StandsForNone word.now) }
+    ensures bad { IfErr result (λ refusal.
+        refusal ≢ Refusal.NoMemory → (refusal ≡ Refusal.BadIdentifier) × StandsForNone word.now) }
 {
     match id_from_base64url(alloc, word.as_str().as_bytes())? {
         Some(id) => Ok(id),
@@ -138,7 +140,8 @@ fn is_template(kind: Option<ModellingKind>) -> bool
     matches!(kind, Some(ModellingKind::Template))
 }
 
-/// In what the submodel of the second word differs from the template of the first, as a line, or why they aren't compared.
+/// In what the submodel of the second word differs from the template of the first,
+/// as a line, or why they aren't compared.
 fn compared_text<S: Store>(
     alloc: Global,
     store: &S,
@@ -146,7 +149,8 @@ fn compared_text<S: Store>(
     instance: &Text,
 ) -> Result<Vec<u8>, Unfit>
     requires { AreValid (S.documents store.now) }
-    ensures done { IfOk result (λ text. IsConformAnswer template.now instance.now (S.documents store.now) (done text.items)) }
+    ensures done { IfOk result (λ text.
+        IsConformAnswer template.now instance.now (S.documents store.now) (done text.items)) }
     ensures unfit { IfErr result (IsUnfit template.now instance.now (S.documents store.now)) }
 {
     valid_siblings_differ();

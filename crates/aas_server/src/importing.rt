@@ -1,5 +1,6 @@
 // The commands that put the documents of one environment into those on a disk.
-ghost use Rattle.std.specs.Prelude.{◌≡◌, ◌≢◌, ◌⊎◌, ◌<◌, ◌≤◌, ◌^◌, ℕ, List, false, Contains, IfOk, IfSome, OnOk, Some, length};
+ghost use Rattle.std.specs.Prelude.{◌≡◌, ◌≢◌, ◌⊎◌, ◌<◌, ◌≤◌, ◌^◌, ℕ, List, false, Contains, IfOk, IfSome, OnOk};
+ghost use Rattle.std.specs.Prelude.{Some, length};
 ghost use Rattle.aas_demo.specs.Demo.{environment_of};
 ghost use Rattle.aas_environment.specs.Imports.{Spell};
 ghost use Rattle.aas_environment.specs.declared.import_fault.ImportFault.TheVariants.{Storage};
@@ -12,7 +13,8 @@ ghost use Rattle.aas_rule.specs.State.{IsSettledState, repository_of};
 ghost use Rattle.aas_server.specs.Answer.{Says};
 ghost use Rattle.aas_server.specs.CommandLine.{IsCount, most_properties, statuses_of};
 ghost use Rattle.aas_server.specs.Ends.{console_of, disk_of};
-ghost use Rattle.aas_server.specs.Importing.{ImportsDemo, ImportsInput, IsFaultAnswer, IsPutIn, IsRefusal, IsTooLong, counts_text, demo_input, demo_text, import_limit, refused_at};
+ghost use Rattle.aas_server.specs.Importing.{ImportsDemo, ImportsInput, IsFaultAnswer, IsPutIn, IsRefusal, IsTooLong};
+ghost use Rattle.aas_server.specs.Importing.{counts_text, demo_input, demo_text, import_limit, refused_at};
 ghost use Rattle.aas_server.specs.Status.{exit_code};
 ghost use Rattle.aas_store.specs.Documents.{empty};
 
@@ -124,7 +126,8 @@ fn import_input<S: Store, C: Link, D: Disk>(
 ) -> Status
     requires { repo.old.stopped ≡ false }
     ensures does { (Says (IsTooLong (C.left console.old)) (exit_code result)
-        (console_of C.left C.sent C.faults console.old) (console_of C.left C.sent C.faults console.new) × (repo.new ≡ repo.old))
+        (console_of C.left C.sent C.faults console.old) (console_of C.left C.sent C.faults console.new)
+        × (repo.new ≡ repo.old))
         ⊎ (IfSome (C.left console.old) (λ input. length input ≤ import_limit)
         × ((input : List ℕ) (records : List (List ℕ)) → C.left console.old ≡ Some input →
         IsSettledState IsBankImage (state_of ⟦<Journal<D> as Keeper>⟧.kept ⟦<Journal<D> as Keeper>⟧.moment
@@ -137,7 +140,8 @@ fn import_input<S: Store, C: Link, D: Disk>(
     ensures statuses { Contains (statuses_of (Some CommandLine.Import)) (exit_code result) }
     ensures refused { IsRefusal (exit_code result) → repo.new ≡ repo.old }
     ensures console_fault { exit_code result ≡ 3 → Rose (C.faults console.old) (C.faults console.new) }
-    ensures disk_fault { exit_code result ≡ 4 → Rose (D.faults (disk_in repo.old.keeper)) (D.faults (disk_in repo.new.keeper)) }
+    ensures disk_fault { exit_code result ≡ 4
+        → Rose (D.faults (disk_in repo.old.keeper)) (D.faults (disk_in repo.new.keeper)) }
     ensures past { Passes (D.moment (disk_in repo.old.keeper)) (D.left_at (disk_in repo.old.keeper))
         (D.moment (disk_in repo.new.keeper)) (D.left_at (disk_in repo.new.keeper)) }
     ensures later { D.faults (disk_in repo.old.keeper) ≤ D.faults (disk_in repo.new.keeper) }
@@ -184,7 +188,8 @@ fn import_demo<S: Store, C: Link, D: Disk>(
     ensures statuses { Contains (statuses_of (Some (CommandLine.Demo count))) (exit_code result) }
     ensures refused { IsRefusal (exit_code result) → repo.new ≡ repo.old }
     ensures console_fault { exit_code result ≡ 3 → Rose (C.faults console.old) (C.faults console.new) }
-    ensures disk_fault { exit_code result ≡ 4 → Rose (D.faults (disk_in repo.old.keeper)) (D.faults (disk_in repo.new.keeper)) }
+    ensures disk_fault { exit_code result ≡ 4
+        → Rose (D.faults (disk_in repo.old.keeper)) (D.faults (disk_in repo.new.keeper)) }
     ensures past { Passes (D.moment (disk_in repo.old.keeper)) (D.left_at (disk_in repo.old.keeper))
         (D.moment (disk_in repo.new.keeper)) (D.left_at (disk_in repo.new.keeper)) }
     ensures later { D.faults (disk_in repo.old.keeper) ≤ D.faults (disk_in repo.new.keeper) }
@@ -229,8 +234,8 @@ fn counts_line(counts: Counts) -> Success
     line
 }
 
-/// The lines that say of how many properties a demo is, what the sum of their numbers is, and how long its input with a line
-/// feed is.
+/// The lines that say of how many properties a demo is, what the sum of their numbers is, and how long its input with a
+/// line feed is.
 fn demo_line(count: u32, size: u64) -> Success
     requires bytes { size ≡ length (demo_input count) }
     requires fits { size < 2 ^ 63 }

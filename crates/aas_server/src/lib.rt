@@ -26,7 +26,8 @@
 //! - Where the disk didn't fail, the files that reads give at the end open as the documents that the run left.
 //! - The records behind any visits that were served, and any turns of the next one, replay to the documents then.
 //! - What was done where the console, the wire, a connection or the disk failed. Whatever the ends tell, a call of
-//!   the console or the wire failed where status 3 says so, and one of the disk where status 4 does.
+//!   the console or the wire failed where status 3 says so, and one of the disk where status 4 does; on `pipe` and
+//!   `serve`, once a repository is there, the disk's count of failed calls is as it was at every other end.
 //! - On `check` and `export` the console gets exactly the lines of the references that lead nowhere, or the
 //!   canonical text of all documents, and the files are only read.
 //! - An export of 2^64 bytes or more has a status and a line of its own, and nothing of it is given.

@@ -21,8 +21,8 @@ use aas_repo_replay::replay;
 use aas_store::Store;
 use std::alloc::Global;
 
-/// The repository that the journal on a disk replays to, in a store that has no documents before, or why there is none. The
-/// disk is only read.
+/// The repository that the journal on a disk replays to, in a store that has no documents before, or why there is none.
+/// The disk is only read.
 pub fn open<S: Store + Drop, D: Disk>(
     alloc: Global,
     store: S,
@@ -39,6 +39,7 @@ pub fn open<S: Store + Drop, D: Disk>(
     ensures failed { IfErr result (λ it. it.fault ≡ DiskFailed → Rose (D.faults disk) (D.faults it.disk)) }
     ensures later { MatchResult result (λ repo. D.faults disk ≤ D.faults (disk_of repo.keeper))
         (λ it. D.faults disk ≤ D.faults it.disk) }
+    ensures calm { IfOk result (λ repo. D.faults (disk_of repo.keeper) ≡ D.faults disk) }
     ensures reads { MatchResult result
         (λ repo. OnlyReads D.seen D.moment D.left_at disk (disk_of repo.keeper))
         (λ it. OnlyReads D.seen D.moment D.left_at disk it.disk) }
@@ -69,6 +70,7 @@ fn replayed<S: Store + Drop, D: Disk>(
     ensures failed { IfErr result (λ it. it.fault ≡ DiskFailed → Rose (D.faults (disk_of journal)) (D.faults it.disk)) }
     ensures later { MatchResult result (λ repo. D.faults (disk_of journal) ≤ D.faults (disk_of repo.keeper))
         (λ it. D.faults (disk_of journal) ≤ D.faults it.disk) }
+    ensures calm { IfOk result (λ repo. D.faults (disk_of repo.keeper) ≡ D.faults (disk_of journal)) }
     ensures reads { MatchResult result
         (λ repo. OnlyReads D.seen D.moment D.left_at (disk_of journal) (disk_of repo.keeper))
         (λ it. OnlyReads D.seen D.moment D.left_at (disk_of journal) it.disk) }

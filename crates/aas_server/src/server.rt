@@ -30,8 +30,8 @@ pub struct Server<S: Store, D: Disk> {
 }
 
 impl<S: Store + Drop, D: Disk> Server<S, D> {
-    /// Opens the repository on the disk, in a store that has no documents before, or tells why there is none. The disk is only
-    /// read.
+    /// Opens the repository on the disk, in a store that has no documents before, or tells why there is none. The disk
+    /// is only read.
     pub fn open(alloc: Global, store: S, disk: D) -> Result<Server<S, D>, NotOpened<D>>
         requires empty { S.documents store ≡ empty }
         ensures begun { IfOk result (λ server. IfSome (D.seen disk) (λ files. (payloads : List (List ℕ)) ×
@@ -44,6 +44,7 @@ impl<S: Store + Drop, D: Disk> Server<S, D> {
         ensures failed { IfErr result (λ it. it.fault ≡ DiskFailed → Rose (D.faults disk) (D.faults it.disk)) }
         ensures later { MatchResult result (λ server. D.faults disk ≤ D.faults (disk_of server.service.repo.keeper))
             (λ it. D.faults disk ≤ D.faults it.disk) }
+        ensures calm { IfOk result (λ server. D.faults (disk_of server.service.repo.keeper) ≡ D.faults disk) }
         ensures reads { MatchResult result
             (λ server. OnlyReads D.seen D.moment D.left_at disk (disk_of server.service.repo.keeper))
             (λ it. OnlyReads D.seen D.moment D.left_at disk it.disk) }

@@ -69,7 +69,8 @@ pub fn serve<S: Lookup + Drop, C: Link, W: Wire, D: Disk>(
     requires empty { S.documents store ≡ empty }
     ensures does { Serves count result.status
         (console_of C.left C.sent C.faults console.old) (console_of C.left C.sent C.faults console.new)
-        (wire_of W.left W.sent W.faults W.surroundings wire.old) (wire_of W.left W.sent W.faults W.surroundings wire.new)
+        (wire_of W.left W.sent W.faults W.surroundings wire.old)
+        (wire_of W.left W.sent W.faults W.surroundings wire.new)
         (disk_of D.seen D.moment D.left_at D.faults disk) (disk_of D.seen D.moment D.left_at D.faults result.disk) }
     ensures statuses { Contains (statuses_of (Some (CommandLine.Serve count))) result.status }
     ensures past { Passes (D.moment disk) (D.left_at disk) (D.moment result.disk) (D.left_at result.disk) }

@@ -26,7 +26,8 @@ pub fn answer_value(alloc: Global, input: &[u8]) -> Result<Vec<u8>, Refusal>
 
 fn answer_element(alloc: Global, element: &Element) -> Result<Vec<u8>, Refusal>
     ensures done { IfOk result (λ text. element_answer element.now ≡ done text.items) }
-    ensures refused { IfErr result (λ refusal. refusal ≢ Refusal.NoMemory → element_answer element.now ≡ refused refusal) }
+    ensures refused { IfErr result (λ refusal.
+        refusal ≢ Refusal.NoMemory → element_answer element.now ≡ refused refusal) }
 {
     if !has_value_form(element.kind()) {
         return Err(Refusal::NoValueForm);

@@ -6,10 +6,16 @@ use Rattle.bytes.proofs.Ranges.{slice_range_grown, take-append_past}
 
 module _ (items xs buf post : List ℕ) (s e len : ℕ) (ordered : s ≤ e) (within : e ≤ length xs) (is : xs ≡ items)
     (whole : length (take e xs ++ (buf ++ post)) ≡ len) where
-  full : take len ((take e xs ++ (buf ++ post)) ++ drop (length (take e xs ++ (buf ++ post))) items) ≡ take e xs ++ (buf ++ post)
-  full = take-append-le len (take e xs ++ (buf ++ post)) _ (omega (arith, whole)) ∙ take_all len (take e xs ++ (buf ++ post)) (omega (arith, whole))
+  full : take len ((take e xs ++ (buf ++ post)) ++ drop (length (take e xs ++ (buf ++ post))) items)
+      ≡ take e xs ++ (buf ++ post)
+  full =
+      take-append-le len (take e xs ++ (buf ++ post)) _ (omega (arith, whole))
+      ∙ take_all len (take e xs ++ (buf ++ post)) (omega (arith, whole))
 
-  pub grown : (n : ℕ) → n ≤ length buf → slice_range (take len ((take e xs ++ (buf ++ post)) ++ drop (length (take e xs ++ (buf ++ post))) items)) s (e + n) ≡ slice_range items s e ++ take n buf
+  pub grown : (n : ℕ) → n ≤ length buf
+      → slice_range (take len ((take e xs ++ (buf ++ post)) ++ drop (length (take e xs ++ (buf ++ post))) items)) s
+      (e + n)
+      ≡ slice_range items s e ++ take n buf
   grown n fits =
       ap (λ (l : List ℕ). slice_range l s (e + n)) full
       ∙ slice_range_grown xs (take e xs ++ (buf ++ post)) (take n buf) s e (e + n) ordered within

@@ -27,9 +27,11 @@ pub record ReceivesPiece (count : ℕ) (old new : List ℕ) (left_old left_new :
 -- there are so many bytes now, or nothing is left
 abbrev pub ReceivesUntil : ℕ → List ℕ → List ℕ → Option (List ℕ) → Option (List ℕ) → Bool → Type 0
 ReceivesUntil count old new left_old left_new true = Receives old new left_old left_new × (count ≤ length new)
-ReceivesUntil count old new left_old left_new false = Receives old new left_old left_new × (length new < count) × IsAtEnd left_new
+ReceivesUntil count old new left_old left_new false =
+    Receives old new left_old left_new × (length new < count) × IsAtEnd left_new
 
 -- more of a request that isn't whole was received, or nothing is left and it still isn't whole
 abbrev pub ReceivesMore : List ℕ → List ℕ → Option (List ℕ) → Option (List ℕ) → Bool → Type 0
 ReceivesMore old new left_old left_new true = Receives old new left_old left_new × (length old < length new)
-ReceivesMore old new left_old left_new false = Receives old new left_old left_new × IsAtEnd left_new × (AwaitsHead new ⊎ AwaitsBody new)
+ReceivesMore old new left_old left_new false =
+    Receives old new left_old left_new × IsAtEnd left_new × (AwaitsHead new ⊎ AwaitsBody new)

@@ -1,4 +1,5 @@
--- The replies that the server gives by itself, without memory. The connection closes behind each. This profile's own rule.
+-- The replies that the server gives by itself, without memory.
+-- The connection closes behind each. This profile's own rule.
 use Rattle.std.specs.Prelude.{ℕ, List, [], ◌++◌, codes, decimal, true}
 use Rattle.aas_http.specs.declared.replies.Reply.{Reply}
 use Rattle.aas_http.specs.ReplyText.{reply_text}
@@ -6,10 +7,12 @@ use Rattle.aas_http.specs.ReplyText.{reply_text}
 -- A result with one message (IDTA-01002-3-0), whose text has no character that JSON escapes.
 abbrev pub message_body : ℕ → List ℕ → List ℕ
 message_body code text =
-    codes "{\"messages\":[{\"code\":\"" ++ decimal code ++ codes "\",\"messageType\":\"Error\",\"text\":\"" ++ text ++ codes "\"}]}"
+    codes "{\"messages\":[{\"code\":\"" ++ decimal code
+    ++ codes "\",\"messageType\":\"Error\",\"text\":\"" ++ text ++ codes "\"}]}"
 
 abbrev pub closing_refusal : (status code : ℕ) → List ℕ → Reply
-closing_refusal status code text = record { status = status; body = message_body code text; later = 0; allow = []; close = true }
+closing_refusal status code text =
+    record { status = status; body = message_body code text; later = 0; allow = []; close = true }
 
 unfoldable pub out_of_memory : List ℕ
 out_of_memory = reply_text (closing_refusal 503 0 (codes "out of memory"))

@@ -1,7 +1,8 @@
 -- A session: what an abstract repository answers to the bytes of one connection, turn by turn. HTTP/1.1 (RFC 9112)
 -- within the limits of this profile.
 use Rattle.std.specs.Prelude.{◌≡◌, ◌⊎◌, ◌-◌, ◌==◌, ◌||◌, ℕ, Bool, List, [], ◌∷◌, if◌then◌else◌, flat_map}
-use Rattle.aas_http.specs.FirstRequest.{Message, FirstRequest, Nothing, Bad, TooLarge, NotImplemented, Whole, IsFirstRequest}
+use Rattle.aas_http.specs.FirstRequest.{Message, FirstRequest, Nothing, Bad, TooLarge, NotImplemented}
+use Rattle.aas_http.specs.FirstRequest.{Whole, IsFirstRequest}
 use Rattle.aas_http.specs.declared.replies.Reply.{Reply}
 use Rattle.aas_http.specs.ReplyText.{reply_text}
 use Rattle.aas_session.specs.Refusals.{bad_request, too_large, not_implemented, out_of_memory}
@@ -51,7 +52,8 @@ closes requests message = message.close || (requests == 1)
 abbrev pub behind : {D : Type 0} → ℕ → Message → Repository D → List ℕ → Place D
 behind requests message r rest = if closes requests message then over r Closed else going (requests - 1) r rest
 
--- One turn, by what the bytes begin with: a refusal of the bytes, an answer, or want of memory in the place of an answer.
+-- One turn, by what the bytes begin with: a refusal of the bytes,
+-- an answer, or want of memory in the place of an answer.
 abbrev pub TurnAt : {D : Type 0} → HttpRule D → ℕ → Repository D → FirstRequest → Turn → Place D → Type 0
 TurnAt rule requests r Nothing turn next = ⊥
 TurnAt rule requests r Bad turn next = (turn ≡ refusal bad_request) × (next ≡ over r Closed)
@@ -65,12 +67,14 @@ TurnAt {D} rule requests r (Whole message rest) turn next =
 -- a session that is over takes no turn
 abbrev pub Takes : {D : Type 0} → HttpRule D → Place D → Turn → Place D → Type 0
 Takes rule (over r end) turn next = ⊥
-Takes rule (going requests r bytes) turn next = (first : FirstRequest) × IsFirstRequest bytes first × TurnAt rule requests r first turn next
+Takes rule (going requests r bytes) turn next =
+    (first : FirstRequest) × IsFirstRequest bytes first × TurnAt rule requests r first turn next
 
 -- turns one after another
 abbrev pub TakesAll : {D : Type 0} → HttpRule D → Place D → List Turn → Place D → Type 0
 TakesAll rule place [] last = last ≡ place
-TakesAll {D} rule place (turn ∷ turns) last = (next : Place D) × Takes rule place turn next × TakesAll rule next turns last
+TakesAll {D} rule place (turn ∷ turns) last =
+    (next : Place D) × Takes rule place turn next × TakesAll rule next turns last
 
 -- the session ends here in this way: it is over, or nothing more comes
 abbrev pub EndsAs : {D : Type 0} → Place D → End → Type 0
@@ -85,7 +89,8 @@ abbrev pub commands : List Turn → List (List ℕ)
 commands turns = flat_map (λ t. t.kept) turns
 
 -- The session on these bytes leaves the repository so, gives these bytes and ends so.
-pub record IsSession {D : Type 0} (rule : HttpRule D) (old : Repository D) (bytes : List ℕ) (new : Repository D) (out : List ℕ) (end : End) : Type 0 where
+pub record IsSession {D : Type 0} (rule : HttpRule D) (old : Repository D)
+    (bytes : List ℕ) (new : Repository D) (out : List ℕ) (end : End) : Type 0 where
   pub turns : List Turn
   pub last : Place D
   pub taken : TakesAll rule (start old bytes) turns last

@@ -1,5 +1,6 @@
 // One connection served.
-ghost use Rattle.std.specs.Prelude.{◌≡◌, ◌≢◌, ◌≤◌, ◌⊎◌, ◌↔◌, ◌++◌, List, ℕ, false, Some, Err, IfOk, IsTrue, OnOk, OnErr};
+ghost use Rattle.std.specs.Prelude.{◌≡◌, ◌≢◌, ◌≤◌, ◌⊎◌, ◌↔◌, ◌++◌, List, ℕ, false, Some, Err, IfOk, IsTrue};
+ghost use Rattle.std.specs.Prelude.{OnOk, OnErr};
 ghost use Rattle.std.specs.Io.KnownBytes.{append_known};
 ghost use Rattle.aas_http.specs.Steps.{AwaitsHead, AwaitsBody, message_of};
 ghost use Rattle.aas_out.specs.Held.{held_by, HoldsNothing};
@@ -12,7 +13,7 @@ ghost use Rattle.aas_session.specs.Safe.{IsSafe};
 ghost use Rattle.aas_session.specs.Served.{Served};
 ghost use Rattle.aas_session.specs.Steps.{ServesOne, ClosesWith};
 
-use crate::given::Given;
+use crate::given::WholeAnswer;
 use crate::intake::Intake;
 use crate::machine::{Machine, Stop};
 use crate::refusals::{bad_request, not_implemented, out_of_memory, storage_fault, too_large};
@@ -65,6 +66,7 @@ pub fn serve_connection<M: Machine, L: Link>(
     ensures stopped { result ≢ Ended.KeeperFault → M.stopped machine.new ≡ false }
     ensures surroundings { L.surroundings link.new ≡ L.surroundings link.old }
     ensures later_keeper { M.faults machine.old ≤ M.faults machine.new }
+    ensures calm_keeper { result ≢ Ended.KeeperFault → M.faults machine.new ≡ M.faults machine.old }
     ensures later_link { L.faults link.old ≤ L.faults link.new }
     ensures keeper_fault { result ≡ Ended.KeeperFault →
         Rose (M.faults machine.old) (M.faults machine.new) }
@@ -169,6 +171,7 @@ fn serve_one<M: Machine, L: Link>(
     ensures left { L.left out.new.link.now ≡ L.left out.old.link.now }
     ensures stopped { result ≢ Err Ended.KeeperFault → M.stopped machine.new ≡ false }
     ensures later_keeper { M.faults machine.old ≤ M.faults machine.new }
+    ensures calm_keeper { result ≢ Err Ended.KeeperFault → M.faults machine.new ≡ M.faults machine.old }
     ensures later_link { L.faults out.old.link.now ≤ L.faults out.new.link.now }
     ensures keeper_fault { result ≡ Err Ended.KeeperFault →
         Rose (M.faults machine.old) (M.faults machine.new) }
@@ -182,7 +185,7 @@ fn serve_one<M: Machine, L: Link>(
     match machine.answer(request) {
         Ok(mut answer) => {
             answer.reply.close = close;
-            let given = Given {
+            let given = WholeAnswer {
                 machine: &*machine,
                 answer: &answer,
             };

@@ -8,13 +8,13 @@ use aas_outside::Failed;
 
 /// An answer, with the machine that pours what follows its reply.
 #[derive(Drop)]
-pub(crate) struct Given<'a, M: Machine> {
+pub(crate) struct WholeAnswer<'a, M: Machine> {
     pub machine: &'a M,
     pub answer: &'a Answer<M::Plan>,
     ghost measured: { IsMeasured (M.poured machine.now) answer.now },
 }
 
-impl<'a, M: Machine> Pour for Given<'a, M> {
+impl<'a, M: Machine> Pour for WholeAnswer<'a, M> {
     ghost use Rattle.aas_http.specs.ReplyText.{reply_text};
     ghost use Rattle.aas_session.specs.WholeReply.{whole_reply};
 

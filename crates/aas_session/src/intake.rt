@@ -128,9 +128,9 @@ impl Intake {
         Ok(count)
     }
 
-    /// Makes room behind what was received, where there is none: moves it to the front of the storage where it is at most
-    /// as long as what was taken before it, and else uses more of the storage, or moves it where there is no more. So all
-    /// that is moved is at most as long as the input, and each request besides is moved once at most.
+    /// Makes room behind what was received, where there is none: moves it to the front of the storage where it is at
+    /// most as long as what was taken before it, and else uses more of the storage, or moves it where there is no more.
+    /// So all that is moved is at most as long as the input, and each request besides is moved once at most.
     fn make_room(&mut self)
         requires { length self.old.unread < intake_size }
         ensures same { self.new.unread ≡ self.old.unread }

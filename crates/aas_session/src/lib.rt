@@ -9,6 +9,9 @@
 //!   abstract repository that takes the requests of its bytes one by one, in whatever pieces they come.
 //! - A reply is given with what the machine pours behind its body.
 //! - Exactly what was done where the link or the machine's keeper failed, and that each such end has its cause.
+//! - A connection or a run over which the keeper failed ends as the keeper's fault, also where the link failed too: at
+//!   every other end no call of the keeper has failed.
+//! - The keeper fails over a command that is accepted, and over nothing else.
 //! - The same over the visits of a wire in order, to no more clients than were asked for.
 //! - What a stop at each moment leaves.
 //! - The link's surroundings stay.

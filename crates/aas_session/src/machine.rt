@@ -82,6 +82,7 @@ pub trait Machine {
         ensures past { PassesTo (state self.old) (state self.new) }
         ensures stopped { result ≢ Err StorageFault → stopped self.new ≡ false }
         ensures later { faults self.old ≤ faults self.new }
+        ensures calm { result ≢ Err StorageFault → faults self.new ≡ faults self.old }
         ensures fault { result ≡ Err StorageFault → Rose (faults self.old) (faults self.new) }
 
         // A safe request changes nothing, and the keeper isn't asked.

@@ -61,6 +61,7 @@ pub fn serve<M: Machine, W: Wire>(
     ensures past { PassesTo (M.state machine.old) (M.state machine.new) }
     ensures stopped { result ≢ WireEnded.KeeperFault → M.stopped machine.new ≡ false }
     ensures later_keeper { M.faults machine.old ≤ M.faults machine.new }
+    ensures calm_keeper { result ≢ WireEnded.KeeperFault → M.faults machine.new ≡ M.faults machine.old }
     ensures later_wire { (W.surroundings wire.old).faults ≤ (W.surroundings wire.new).faults }
     ensures keeper_fault { result ≡ WireEnded.KeeperFault →
         Rose (M.faults machine.old) (M.faults machine.new) }
@@ -105,6 +106,7 @@ fn serve_next<M: Machine, W: Wire>(
     ensures again { result ≡ Next.Again → (W.surroundings wire.new).clients ≡ (W.surroundings wire.old).clients }
     ensures stopped { result ≢ Next.KeeperFault → M.stopped machine.new ≡ false }
     ensures later_keeper { M.faults machine.old ≤ M.faults machine.new }
+    ensures calm_keeper { result ≢ Next.KeeperFault → M.faults machine.new ≡ M.faults machine.old }
     ensures later_link { W.faults wire.old ≤ W.faults wire.new }
     ensures later_wire { (W.surroundings wire.old).faults ≤ (W.surroundings wire.new).faults }
     ensures keeper_fault { result ≡ Next.KeeperFault →

@@ -7,4 +7,5 @@ use Rattle.aas_api_service.proofs.laws.own_replies_are_of_refusals.Goals as goal
 
 pub returns : goal.returns
 unfolding out_of_memory bad_request too_large not_implemented storage_fault refusal_reply escape_byte digits
-returns c = record { out_of_memory = refl; bad_request = refl; too_large = refl; not_implemented = refl; storage_fault = refl }
+returns c =
+    record { out_of_memory = refl; bad_request = refl; too_large = refl; not_implemented = refl; storage_fault = refl }

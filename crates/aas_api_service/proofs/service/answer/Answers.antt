@@ -23,4 +23,5 @@ returns-in-Err-clause-answered g c = λ records settled.
     let P : Result Reply Stop → Type 0 =
     λ a. Answers (CallComesTo room) K.stands_for (repository_of state records) c.args.call state.moment state a in
     subst P (sym (c.whole.ensures.whole (plan_text c.args.repo.now.documents)))
-    (answers_unreached room K.stands_for state records settled c.args.call c.in-Err.refusal c.refuse.result c.in-Err.ensures c.refuse.ensures.refused)
+    (answers_unreached room K.stands_for state records settled c.args.call
+    c.in-Err.refusal c.refuse.result c.in-Err.ensures c.refuse.ensures.refused)

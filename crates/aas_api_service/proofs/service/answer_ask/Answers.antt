@@ -12,6 +12,8 @@ returns-in-Answer-clause-answered g c = λ records settled.
     let K = g.K.Keeper in
     let q = c.in-Answer.question in
     let state = state_of K.kept K.moment K.left_at c.args.repo.now in
-    let told = subst (λ (d : Documents). IsReply (answer_reply q (answer_of d q)) (whole_of d c.tell.result)) c.store.ensures.documents c.tell.ensures.told in
+    let told = subst (λ (d : Documents). IsReply (answer_reply q (answer_of d q)) (whole_of d c.tell.result))
+    c.store.ensures.documents c.tell.ensures.told in
     rw c.in-Answer.is
-    (answers_question (K.room_behind c.args.repo.now.keeper) K.stands_for state records settled q (whole_of c.args.repo.now.documents c.tell.result) told)
+    (answers_question (K.room_behind c.args.repo.now.keeper) K.stands_for state records settled q
+    (whole_of c.args.repo.now.documents c.tell.result) told)

@@ -15,7 +15,8 @@ invariant_of-result g c =
     record {
       within = λ files told.
           let found = known files (D.seen c.args.disk) _ (sym made.reads.same ∙ told) made.found in
-          subst (λ (part : Part). c.in-Ok.end.gate < length (file part files)) (sym found.0) (closed_within (chosen_file files) c.in-Ok.end.gate found.1);
+          subst (λ (part : Part). c.in-Ok.end.gate < length (file part files))
+          (sym found.0) (closed_within (chosen_file files) c.in-Ok.end.gate found.1);
     }
 
 pub returns-in-Ok-clause-image : goal.returns-in-Ok-clause-image
@@ -26,7 +27,9 @@ returns-in-Ok-clause-image g c =
       files = files;
       told = made.reads.same ∙ told;
       image = image;
-      gate_is = closed_behind (chosen_file files) c.in-Ok.end.gate payloads (known files (D.seen c.args.disk) _ told made.found).1 image;
+      gate_is =
+          closed_behind (chosen_file files) c.in-Ok.end.gate payloads
+          (known files (D.seen c.args.disk) _ told made.found).1 image;
       part_is = (known files (D.seen c.args.disk) _ told made.found).0;
       selectors = known files (D.seen c.args.disk) _ told made.durable.0;
     })
@@ -42,10 +45,12 @@ pub returns-in-Err-clause-image : goal.returns-in-Err-clause-image
 returns-in-Err-clause-image g c =
     let D = g.D.Disk in
     where_told (D.seen c.args.disk) _ (λ files told payloads image.
-    image_fails (chosen_file files) payloads c.in-Err.fault image (known files (D.seen c.args.disk) _ told c.in-Err.ensures.fault))
+    image_fails (chosen_file files) payloads c.in-Err.fault image
+    (known files (D.seen c.args.disk) _ told c.in-Err.ensures.fault))
 
 pub returns-in-Err-clause-damaged : goal.returns-in-Err-clause-damaged
 returns-in-Err-clause-damaged g c =
     let D = g.D.Disk in
     where_told (D.seen c.args.disk) _ (λ files told at damaged.
-    damaged_fails (chosen_file files) at c.in-Err.fault damaged (known files (D.seen c.args.disk) _ told c.in-Err.ensures.fault))
+    damaged_fails (chosen_file files) at c.in-Err.fault damaged
+    (known files (D.seen c.args.disk) _ told c.in-Err.ensures.fault))

@@ -1,4 +1,4 @@
-use Rattle.std.proofs.Common.{◌∙◌, arith, drop, subst}
+use Rattle.std.proofs.Common.{◌∙◌, refl, drop, subst}
 use Rattle.aas_outside_disk.specs.Files.{file}
 use Rattle.aas_journal.specs.Gates.{IsBetween, StandsAt}
 use Rattle.aas_journal.specs.declared.walk.Gate.{Gate}
@@ -15,7 +15,7 @@ gates-init g c =
       within = c.requires.some;
       meets = λ files told. begun (file c.args.part files) (known files (D.seen disk) _ told c.requires.size).1;
       reads = reads_none D.seen D.moment D.left_at disk;
-      later = omega arith;
+      calm = refl;
     }
 
 pub gates-preserved : goal.gates-preserved
@@ -23,11 +23,15 @@ gates-preserved g c =
     let D = g.D.Disk in
     let disk = c.args.disk.now in
     let before = c.gates.invariant in
-    let between : IsBetween c.gates.gate c.args.size (Open c.in-Open.next) = subst (λ (gate : Gate). IsBetween c.gates.gate c.args.size gate) c.in-Open.is c.in_ok-gate_at.ensures.next in
+    let between : IsBetween c.gates.gate c.args.size (Open c.in-Open.next) =
+    subst (λ (gate : Gate). IsBetween c.gates.gate c.args.size gate) c.in-Open.is c.in_ok-gate_at.ensures.next in
     record {
       within = between.1;
       meets = λ files told. further (file c.args.part files) c.gates.gate (before.meets files told) c.in-Open.next
-          (subst (λ (gate : Gate). StandsAt (drop c.gates.gate (file c.args.part files)) c.gates.gate gate) c.in-Open.is (known files (D.seen c.gates.disk) _ (before.reads.same ∙ told) c.in_ok-gate_at.ensures.value));
-      reads = reads_then D.seen D.moment D.left_at disk c.gates.disk c.gate_at.new.disk before.reads c.gate_at.ensures.reads;
-      later = omega (arith, before.later, c.gate_at.ensures.cause.later);
+          (subst (λ (gate : Gate). StandsAt (drop c.gates.gate (file c.args.part files)) c.gates.gate gate) c.in-Open.is
+          (known files (D.seen c.gates.disk) _ (before.reads.same ∙ told) c.in_ok-gate_at.ensures.value));
+      reads =
+          reads_then D.seen D.moment D.left_at disk c.gates.disk
+          c.gate_at.new.disk before.reads c.gate_at.ensures.reads;
+      calm = c.in_ok-gate_at.ensures.calm ∙ before.calm;
     }

@@ -1,4 +1,4 @@
-use Rattle.std.proofs.Common.{◌<◌, ◌≤◌, ◌-◌}
+use Rattle.std.proofs.Common.{◌≡◌, ◌<◌, ◌-◌}
 use Rattle.std.specs.Option.{ForSome}
 use Rattle.aas_outside_disk.specs.Files.{file}
 use Rattle.aas_journal.specs.Reads.{OnlyReads}
@@ -10,7 +10,7 @@ invariant-gates g l = record {
   within : l.gate < l.size;
   meets : ForSome (g.D.Disk.seen l.fn.disk) (λ files. Meets (file l.part files) l.gate);
   reads : OnlyReads g.D.Disk.seen g.D.Disk.moment g.D.Disk.left_at l.fn.disk l.disk;
-  later : g.D.Disk.faults l.fn.disk ≤ g.D.Disk.faults l.disk;
+  calm : g.D.Disk.faults l.disk ≡ g.D.Disk.faults l.fn.disk;
 }
 
 abbrev pub decreases-gates : goal.decreases-gates

@@ -8,5 +8,6 @@ abbrev pub invariant-loop-place : goal.invariant-loop-place
 invariant-loop-place g l = record {
   known : HasTexts l.seen (map (λ x. id_of (g.D.Stored.document x)) (take l.place l.documents));
   rest : first_repeated (map (λ x. id_of (g.D.Stored.document x)) l.documents)
-      ≡ first_repeated_after (map (λ x. id_of (g.D.Stored.document x)) (take l.place l.documents)) (map (λ x. id_of (g.D.Stored.document x)) (drop l.place l.documents));
+      ≡ first_repeated_after (map (λ x. id_of (g.D.Stored.document x)) (take l.place l.documents))
+      (map (λ x. id_of (g.D.Stored.document x)) (drop l.place l.documents));
 }

@@ -13,4 +13,5 @@ returns-in_default-2 c =
     let r = out-Reference c.args.reference.now in
     let wanted : List Key = record { key_type = key_type.Submodel; value = c.args.submodel.now } ∷ [] in
     let read = ap length c.as_slice.ensures in
-    sym (and_right (not (is_external r.ref_type)) _ (same_keys_other r.keys wanted (λ same. omega (arith, same, read, c.in_default.len_at_least))))
+    sym (and_right (not (is_external r.ref_type)) _
+    (same_keys_other r.keys wanted (λ same. omega (arith, same, read, c.in_default.len_at_least))))

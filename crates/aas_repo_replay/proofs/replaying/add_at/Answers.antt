@@ -10,5 +10,9 @@ returns-in-Ok-true-clause-done g c = λ payloads kept done.
 pub returns-in-Ok-false-clause-done : goal.returns-in-Ok-false-clause-done
 returns-in-Ok-false-clause-done g c = λ payloads kept done.
     let given = rw c.in-Some.is at (c.in_ok-next.ensures.given payloads done.n kept done.at) in
-    let nothing = rw (c.in-Ok-false.field-0-test, c.as_slice.ensures.value) at c.in-Ok-false.ensures.added in
-    (done.n, stop_done payloads c.args.gate c.in-Some.next _ _ _ _ done c.clear.ensures.items given nothing (c.add.ensures.unchanged (λ added. cc)), done.at.at_is)
+    let nothing = rw (c.in-Ok-false.field-0-test, c.as_slice.ensures.value) at c.in-Ok-false.ensures.added in (
+      done.n,
+      stop_done payloads c.args.gate c.in-Some.next _ _ _ _ done c.clear.ensures.items given nothing
+          (c.add.ensures.unchanged (λ added. cc)),
+      done.at.at_is,
+    )

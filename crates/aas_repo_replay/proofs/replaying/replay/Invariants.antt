@@ -1,4 +1,4 @@
-use Rattle.std.proofs.Common.{◌≡◌, ◌≤◌, ◌-◌, ◌^◌, ℕ, List}
+use Rattle.std.proofs.Common.{◌≡◌, ◌-◌, ◌^◌, ℕ, List}
 use Rattle.aas_journal.specs.Kept.{fits}
 use Rattle.aas_journal.specs.Reads.{OnlyReads}
 use Rattle.aas_journal.specs.Shown.{disk_of, kept_by}
@@ -8,12 +8,13 @@ use Rattle.aas_repo_replay.proofs.replaying.replay.Given as goal
 
 abbrev pub invariant-gates : goal.invariant-gates
 invariant-gates g l = record {
-  done : (payloads : List (List ℕ)) → kept_by l.fn.journal payloads → HasDone payloads l.gate (g.S.Store.documents l.store);
+  done : (payloads : List (List ℕ))
+      → kept_by l.fn.journal payloads → HasDone payloads l.gate (g.S.Store.documents l.store);
   kept : (payloads : List (List ℕ)) → kept_by l.fn.journal payloads → kept_by l.journal payloads;
   room : fits l.journal.gate ≡ fits l.fn.journal.gate;
   valid : AreValid (g.S.Store.documents l.store);
   reads : OnlyReads g.D.Disk.seen g.D.Disk.moment g.D.Disk.left_at (disk_of l.fn.journal) (disk_of l.journal);
-  later : g.D.Disk.faults (disk_of l.fn.journal) ≤ g.D.Disk.faults (disk_of l.journal);
+  calm : g.D.Disk.faults (disk_of l.journal) ≡ g.D.Disk.faults (disk_of l.fn.journal);
 }
 
 abbrev pub decreases-gates : goal.decreases-gates

@@ -21,7 +21,11 @@ returns-in-Ok-clause-does g c =
     c.into_keeper-journal.result c.make-made.new.journal d (kept_by c.into_keeper-journal.result)
     c.have_one_list.ensures c.payloads_replay_to_one_state.ensures
     (rw same c.in-Ok.ensures.begun)
-    (rw same (record { seen = c.in-Ok.ensures.reads.same; images = c.in-Ok.ensures.reads.images; past = c.in-Ok.ensures.reads.past }))
+    (rw same (record {
+      seen = c.in-Ok.ensures.reads.same;
+      images = c.in-Ok.ensures.reads.images;
+      past = c.in-Ok.ensures.reads.past;
+    }))
     (rw same c.in-Ok.ensures.later)
     c.make-made.ensures.past
     (λ payloads replays settled. c.make-made.ensures.stays d payloads prepared replays settled)
@@ -43,9 +47,16 @@ returns-in-Err-clause-does g c =
     rw c.exit_code-in-Err.ensures
     (inl (early c.in-Err.field-0.fault (exit_code c.say_why.result)
     (console_of C.left C.sent C.faults c.args.console.now) (console_of C.left C.sent C.faults c.say_why.new.console)
-    (disk_of D.seen D.moment D.left_at D.faults c.args.disk) (disk_of D.seen D.moment D.left_at D.faults c.in-Err.field-0.disk)
-    c.in-Err.ensures.cause c.in-Err.ensures.failed c.say_why.ensures.says c.say_why.ensures.unread c.say_why.ensures.silent
-    (record { seen = c.in-Err.ensures.reads.same; images = c.in-Err.ensures.reads.images; past = c.in-Err.ensures.reads.past })))
+    (disk_of D.seen D.moment D.left_at D.faults c.args.disk)
+    (disk_of D.seen D.moment D.left_at D.faults c.in-Err.field-0.disk)
+    c.in-Err.ensures.cause c.in-Err.ensures.failed c.say_why.ensures.says
+    c.say_why.ensures.unread c.say_why.ensures.silent
+    (record {
+      seen = c.in-Err.ensures.reads.same;
+      images = c.in-Err.ensures.reads.images;
+      past = c.in-Err.ensures.reads.past;
+    })))
 
 pub returns-in-Err-clause-statuses : goal.returns-in-Err-clause-statuses
-returns-in-Err-clause-statuses g c = rw c.exit_code-in-Err.ensures (early_status (exit_code c.say_why.result) c.say_why.ensures.statuses)
+returns-in-Err-clause-statuses g c =
+    rw c.exit_code-in-Err.ensures (early_status (exit_code c.say_why.result) c.say_why.ensures.statuses)

@@ -9,7 +9,8 @@ use Rattle.aas_server.proofs.checkpointing.make.Goals as goal
 pub returns-in_err-checkpoint-clause-stays : goal.returns-in_err-checkpoint-clause-stays
 returns-in_err-checkpoint-clause-stays g c = λ d payloads prepared replays settled t since until image left.
     let whole = rw c.in_ok-record.was at prepared in
-    either_opens d payloads c.in_ok-record.field-0.record image replays (subst (λ (payload : List ℕ). Replays (payload ∷ []) d) (sym whole.record_is) whole.replays)
+    either_opens d payloads c.in_ok-record.field-0.record image replays
+    (subst (λ (payload : List ℕ). Replays (payload ∷ []) d) (sym whole.record_is) whole.replays)
     (c.checkpoint.ensures.meanwhile payloads settled t since until image left)
 
 pub returns-clause-made : goal.returns-clause-made
@@ -17,14 +18,19 @@ returns-clause-made g c = λ d payloads prepared keeps.
     let D = g.D.Disk in
     let whole = rw c.in_ok-record.was at prepared in (
       whole.line_is,
-      subst (λ (payload : List ℕ). IsOneRecord payload (disk_of D.seen D.moment D.left_at D.faults (disk_in c.args.journal.now))
+      subst (λ (payload : List ℕ).
+          IsOneRecord payload (disk_of D.seen D.moment D.left_at D.faults (disk_in c.args.journal.now))
           (disk_of D.seen D.moment D.left_at D.faults (disk_in c.checkpoint.new.self)))
           whole.record_is
-          (record { seen = c.in_ok-checkpoint.ensures.bytes payloads keeps; images = (c.in_ok-checkpoint.ensures.settled payloads keeps).alone }),
+          (record {
+            seen = c.in_ok-checkpoint.ensures.bytes payloads keeps;
+            images = (c.in_ok-checkpoint.ensures.settled payloads keeps).alone;
+          }),
     )
 
 pub returns-clause-stays : goal.returns-clause-stays
 returns-clause-stays g c = λ d payloads prepared replays settled t since until image left.
     let whole = rw c.in_ok-record.was at prepared in
-    either_opens d payloads c.in_ok-record.field-0.record image replays (subst (λ (payload : List ℕ). Replays (payload ∷ []) d) (sym whole.record_is) whole.replays)
+    either_opens d payloads c.in_ok-record.field-0.record image replays
+    (subst (λ (payload : List ℕ). Replays (payload ∷ []) d) (sym whole.record_is) whole.replays)
     (c.checkpoint.ensures.meanwhile payloads settled t since until image left)

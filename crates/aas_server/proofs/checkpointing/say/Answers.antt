@@ -9,7 +9,8 @@ use Rattle.aas_server.proofs.checkpointing.say.Goals as goal
 pub returns-in-Ok-clause-says : goal.returns-in-Ok-clause-says
 returns-in-Ok-clause-says g c = let C = g.C.Link in
     says_weaker _ (IsSaid (λ line. line.items) c.args.made) _ _ _
-    (λ answer is. subst (λ made. IsSaid (λ line. line.items) made answer) (sym c.in-Ok.is) (is ∙ ap done c.deref.ensures.value))
+    (λ answer is.
+    subst (λ made. IsSaid (λ line. line.items) made answer) (sym c.in-Ok.is) (is ∙ ap done c.deref.ensures.value))
     (says_line (done c.deref.result.now) (exit_code c.end_with.result)
     (console_of C.left C.sent C.faults c.args.console.now) (console_of C.left C.sent C.faults c.end_with.new.link)
     (λ e. cc) c.end_with.ensures.given c.end_with.ensures.front c.end_with.ensures.fault c.end_with.ensures.statuses)
@@ -17,4 +18,5 @@ returns-in-Ok-clause-says g c = let C = g.C.Link in
 pub returns-in-Err-clause-says : goal.returns-in-Err-clause-says
 returns-in-Err-clause-says g c = let C = g.C.Link in
     says_weaker _ (IsSaid (λ line. line.items) c.args.made) _ _ _
-    (λ answer is. subst (λ made. IsSaid (λ line. line.items) made answer) (sym c.in-Err.is) is) c.say_unmade.ensures.says
+    (λ answer is. subst (λ made. IsSaid (λ line. line.items) made answer) (sym c.in-Err.is) is)
+    c.say_unmade.ensures.says

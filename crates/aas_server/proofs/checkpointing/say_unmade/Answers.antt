@@ -9,14 +9,18 @@ use Rattle.aas_server.proofs.checkpointing.say_unmade.Goals as goal
 
 pub returns-in-Full-clause-says : goal.returns-in-Full-clause-says
 returns-in-Full-clause-says g c = let C = g.C.Link in
-    says_weaker _ (IsSaidThen c.args.unmade) _ _ _ (λ answer is. subst (λ (why : Unmade). IsSaidThen why answer) (sym c.in-Full.is) is)
+    says_weaker _ (IsSaidThen c.args.unmade) _ _ _ (λ answer is.
+    subst (λ (why : Unmade). IsSaidThen why answer) (sym c.in-Full.is) is)
     (says_line journal_full (exit_code c.end_with.result)
     (console_of C.left C.sent C.faults c.args.console.now) (console_of C.left C.sent C.faults c.end_with.new.link)
     (λ e. cc) c.end_with.ensures.given c.end_with.ensures.front c.end_with.ensures.fault c.end_with.ensures.statuses)
 
 pub returns-in-Failed-clause-says : goal.returns-in-Failed-clause-says
 returns-in-Failed-clause-says g c = let C = g.C.Link in
-    says_weaker _ (IsSaidThen c.args.unmade) _ _ _ (λ answer is. subst (λ (why : Unmade). IsSaidThen why answer) (sym c.in-Failed.is) is)
+    says_weaker _ (IsSaidThen c.args.unmade) _ _ _ (λ answer is.
+    subst (λ (why : Unmade). IsSaidThen why answer) (sym c.in-Failed.is) is)
     (says_line disk_failed (exit_code c.end_with-in-Failed.result)
-    (console_of C.left C.sent C.faults c.args.console.now) (console_of C.left C.sent C.faults c.end_with-in-Failed.new.link)
-    (λ e. cc) c.end_with-in-Failed.ensures.given c.end_with-in-Failed.ensures.front c.end_with-in-Failed.ensures.fault c.end_with-in-Failed.ensures.statuses)
+    (console_of C.left C.sent C.faults c.args.console.now)
+    (console_of C.left C.sent C.faults c.end_with-in-Failed.new.link)
+    (λ e. cc) c.end_with-in-Failed.ensures.given c.end_with-in-Failed.ensures.front
+    c.end_with-in-Failed.ensures.fault c.end_with-in-Failed.ensures.statuses)

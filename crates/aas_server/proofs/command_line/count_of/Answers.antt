@@ -3,16 +3,19 @@ use Rattle.std.specs.Str.{chars}
 use Rattle.std.proofs.lemmas.Str.{chars-IsAscii}
 use Rattle.aas_server.proofs.Words.{parsed}
 use Rattle.aas_server.proofs.command_line.count_of.Goals as goal
-use Rattle.aas_server.proofs.command_line.count_of.Goals.{then-count-eq0-via-then-count-eq0, then-count-eq0-via-else-count-eq0+then-count-most}
+use Rattle.aas_server.proofs.command_line.count_of.Goals.{then-count-eq0-via-then-count-eq0}
+use Rattle.aas_server.proofs.command_line.count_of.Goals.{then-count-eq0-via-else-count-eq0+then-count-most}
 
 pub returns-in_default : goal.returns-in_default
 returns-in_default c = λ n within is.
-    let read = parsed c.args.word.now c.as_str.result.now n c.args.most c.parse.result c.ranges.most.fits c.as_str.ensures.bytes c.parse.ensures.value.0 within is in
+    let read = parsed c.args.word.now c.as_str.result.now n c.args.most c.parse.result
+    c.ranges.most.fits c.as_str.ensures.bytes c.parse.ensures.value.0 within is in
     let ok : c.parse.result ≡ Ok n = read.0 in cc
 
 pub returns-then-count-eq0 : goal.returns-then-count-eq0
 returns-then-count-eq0 c = λ n within is.
-    let read = parsed c.args.word.now c.as_str.result.now n c.args.most c.parse.result c.ranges.most.fits c.as_str.ensures.bytes c.parse.ensures.value.0 within is in
+    let read = parsed c.args.word.now c.as_str.result.now n c.args.most c.parse.result
+    c.ranges.most.fits c.as_str.ensures.bytes c.parse.ensures.value.0 within is in
     let ok : c.parse.result ≡ Ok n = read.0 in
     let same : c.in-Ok.count ≡ n = cc in
     elim c.then-count-eq0.branch [
@@ -24,12 +27,14 @@ pub returns-then-eq : goal.returns-then-eq
 returns-then-eq c =
     let same : c.format.result.now ≡ c.as_str-2.result.now = search rules in
     let read : c.args.word.now ≡ decimal c.in-Ok.count =
-    sym c.as_str-2.ensures.characters ∙ ap chars (sym same) ∙ chars-IsAscii c.format.result.now c.format.ensures.ascii ∙ c.format.ensures.text in
+    sym c.as_str-2.ensures.characters ∙ ap chars (sym same)
+    ∙ chars-IsAscii c.format.result.now c.format.ensures.ascii ∙ c.format.ensures.text in
     ((omega arith, omega arith), read)
 
 pub returns-else-eq : goal.returns-else-eq
 returns-else-eq c = λ n within is.
-    let read = parsed c.args.word.now c.as_str.result.now n c.args.most c.parse.result c.ranges.most.fits c.as_str.ensures.bytes c.parse.ensures.value.0 within is in
+    let read = parsed c.args.word.now c.as_str.result.now n c.args.most c.parse.result
+    c.ranges.most.fits c.as_str.ensures.bytes c.parse.ensures.value.0 within is in
     let ok : c.parse.result ≡ Ok n = read.0 in
     let same : c.in-Ok.count ≡ n = cc in
     let text : c.format.result.now ≡ c.as_str-2.result.now =

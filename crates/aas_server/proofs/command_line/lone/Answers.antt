@@ -5,28 +5,35 @@ use Rattle.aas_server.proofs.command_line.lone.Goals as goal
 
 pub returns-in-value : goal.returns-in-value
 unfolding chars
-returns-in-value c = lone_word c.args.word.now (codes "value") (sym c.as_str.ensures.characters ∙ ap chars c.in-value.is) refl
+returns-in-value c =
+    lone_word c.args.word.now (codes "value") (sym c.as_str.ensures.characters ∙ ap chars c.in-value.is) refl
 
 pub returns-in-pipe : goal.returns-in-pipe
 unfolding chars
-returns-in-pipe c = lone_word c.args.word.now (codes "pipe") (sym c.as_str.ensures.characters ∙ ap chars c.in-pipe.is) refl
+returns-in-pipe c =
+    lone_word c.args.word.now (codes "pipe") (sym c.as_str.ensures.characters ∙ ap chars c.in-pipe.is) refl
 
 pub returns-in-init : goal.returns-in-init
 unfolding chars
-returns-in-init c = lone_word c.args.word.now (codes "init") (sym c.as_str.ensures.characters ∙ ap chars c.in-init.is) refl
+returns-in-init c =
+    lone_word c.args.word.now (codes "init") (sym c.as_str.ensures.characters ∙ ap chars c.in-init.is) refl
 
 pub returns-in-check : goal.returns-in-check
 unfolding chars
-returns-in-check c = lone_word c.args.word.now (codes "check") (sym c.as_str.ensures.characters ∙ ap chars c.in-check.is) refl
+returns-in-check c =
+    lone_word c.args.word.now (codes "check") (sym c.as_str.ensures.characters ∙ ap chars c.in-check.is) refl
 
 pub returns-in-export : goal.returns-in-export
 unfolding chars
-returns-in-export c = lone_word c.args.word.now (codes "export") (sym c.as_str.ensures.characters ∙ ap chars c.in-export.is) refl
+returns-in-export c =
+    lone_word c.args.word.now (codes "export") (sym c.as_str.ensures.characters ∙ ap chars c.in-export.is) refl
 
 pub returns-in-import : goal.returns-in-import
 unfolding chars
-returns-in-import c = lone_word c.args.word.now (codes "import") (sym c.as_str.ensures.characters ∙ ap chars c.in-import.is) refl
+returns-in-import c =
+    lone_word c.args.word.now (codes "import") (sym c.as_str.ensures.characters ∙ ap chars c.in-import.is) refl
 
 pub returns-in-checkpoint : goal.returns-in-checkpoint
 unfolding chars
-returns-in-checkpoint c = lone_word c.args.word.now (codes "checkpoint") (sym c.as_str.ensures.characters ∙ ap chars c.in-checkpoint.is) refl
+returns-in-checkpoint c =
+    lone_word c.args.word.now (codes "checkpoint") (sym c.as_str.ensures.characters ∙ ap chars c.in-checkpoint.is) refl

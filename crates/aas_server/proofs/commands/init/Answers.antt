@@ -20,8 +20,10 @@ returns-in-Err-AlreadyThere-clause-does g c = let C = g.C.Link in (
   already_there,
   inr (inl (refl, search rules, search rules)),
   says_line already_there (exit_code c.end_with-in-Err-AlreadyThere.result)
-      (console_of C.left C.sent C.faults c.args.console.now) (console_of C.left C.sent C.faults c.end_with-in-Err-AlreadyThere.new.link)
-      (λ e. cc) c.end_with-in-Err-AlreadyThere.ensures.given c.end_with-in-Err-AlreadyThere.ensures.front c.end_with-in-Err-AlreadyThere.ensures.fault
+      (console_of C.left C.sent C.faults c.args.console.now)
+      (console_of C.left C.sent C.faults c.end_with-in-Err-AlreadyThere.new.link)
+      (λ e. cc) c.end_with-in-Err-AlreadyThere.ensures.given
+      c.end_with-in-Err-AlreadyThere.ensures.front c.end_with-in-Err-AlreadyThere.ensures.fault
       c.end_with-in-Err-AlreadyThere.ensures.statuses,
 )
 
@@ -30,8 +32,10 @@ returns-in-Err-Failed-clause-does g c = let C = g.C.Link in (
   disk_failed,
   inr (inr (refl, search rules)),
   says_line disk_failed (exit_code c.end_with-in-Err-Failed.result)
-      (console_of C.left C.sent C.faults c.args.console.now) (console_of C.left C.sent C.faults c.end_with-in-Err-Failed.new.link)
-      (λ e. cc) c.end_with-in-Err-Failed.ensures.given c.end_with-in-Err-Failed.ensures.front c.end_with-in-Err-Failed.ensures.fault
+      (console_of C.left C.sent C.faults c.args.console.now)
+      (console_of C.left C.sent C.faults c.end_with-in-Err-Failed.new.link)
+      (λ e. cc) c.end_with-in-Err-Failed.ensures.given
+      c.end_with-in-Err-Failed.ensures.front c.end_with-in-Err-Failed.ensures.fault
       c.end_with-in-Err-Failed.ensures.statuses,
 )
 
@@ -39,4 +43,5 @@ pub returns-in-Ok-clause-statuses : goal.returns-in-Ok-clause-statuses
 returns-in-Ok-clause-statuses g c = made_status (exit_code c.end_with.result) c.end_with.ensures.statuses
 
 pub returns-in-Err-AlreadyThere-clause-statuses : goal.returns-in-Err-AlreadyThere-clause-statuses
-returns-in-Err-AlreadyThere-clause-statuses g c = there_status (exit_code c.end_with-in-Err-AlreadyThere.result) c.end_with-in-Err-AlreadyThere.ensures.statuses
+returns-in-Err-AlreadyThere-clause-statuses g c =
+    there_status (exit_code c.end_with-in-Err-AlreadyThere.result) c.end_with-in-Err-AlreadyThere.ensures.statuses

@@ -26,9 +26,14 @@ returns-in-Err-Refused-clause-says g c = record {
   given = λ not3 not10.
       let seven : exit_code c.end_refused.result ≡ 7 = search rules in
       let given = c.end_refused.ensures.given seven in
-      let all : g.C.Link.sent c.end_refused.new.link ≡ append_known (g.C.Link.sent c.args.console.now) (refused c.in-Err-Refused.refusal).text =
-      cc (given.1, c.value_text.ensures.sent) in
-      (refused c.in-Err-Refused.refusal, (rw c.in-Err-Refused.field-0-is at c.in-Err-Refused.ensures.refused) given.0, seven, all);
+      let all : g.C.Link.sent c.end_refused.new.link
+      ≡ append_known (g.C.Link.sent c.args.console.now) (refused c.in-Err-Refused.refusal).text =
+      cc (given.1, c.value_text.ensures.sent) in (
+        refused c.in-Err-Refused.refusal,
+        (rw c.in-Err-Refused.field-0-is at c.in-Err-Refused.ensures.refused) given.0,
+        seven,
+        all,
+      );
   front = λ is.
       let front = c.end_refused.ensures.front is in
       inr (
@@ -41,7 +46,8 @@ returns-in-Err-Refused-clause-says g c = record {
 }
 
 pub returns-in-Err-Refused-clause-statuses : goal.returns-in-Err-Refused-clause-statuses
-returns-in-Err-Refused-clause-statuses g c = refused_status (exit_code c.end_refused.result) c.end_refused.ensures.statuses
+returns-in-Err-Refused-clause-statuses g c =
+    refused_status (exit_code c.end_refused.result) c.end_refused.ensures.statuses
 
 pub returns-in-Ok-clause-statuses : goal.returns-in-Ok-clause-statuses
 returns-in-Ok-clause-statuses g c = done_status (exit_code c.end_with.result) c.end_with.ensures.statuses

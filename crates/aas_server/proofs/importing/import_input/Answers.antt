@@ -19,12 +19,14 @@ returns-in-Ok-import_bytes-clause-does g c =
     inr (
       all_within old.left c.in-Ok.input.items import_limit c.in-Ok.ensures.whole c.in-Ok.ensures.within,
       λ input records left settled. put_well _ _ _ _ _ _ _ _ _ c.in-Ok-import_bytes.counts
-          c.deref.result.now (c.deref.ensures.value ∙ all_read old.left c.in-Ok.input.items input c.in-Ok.ensures.whole left)
+          c.deref.result.now
+          (c.deref.ensures.value ∙ all_read old.left c.in-Ok.input.items input c.in-Ok.ensures.whole left)
           (c.in-Ok-import_bytes.ensures.imports records settled)
           (says_moved _ status old mid new c.in-Ok.ensures.sent c.in-Ok.ensures.later
           (subst (λ (text : List ℕ). Says (λ answer. answer ≡ done text) status mid new) given
           (says_line (done c.as_bytes.result.now) status mid new
-          (λ e. cc) c.end_with.ensures.given c.end_with.ensures.front c.end_with.ensures.fault c.end_with.ensures.statuses)))
+          (λ e. cc) c.end_with.ensures.given c.end_with.ensures.front
+          c.end_with.ensures.fault c.end_with.ensures.statuses)))
           (never_ten status c.end_with.ensures.statuses),
     )
 
@@ -37,15 +39,19 @@ returns-in-Ok-clause-does g c =
     inr (
       all_within old.left c.in-Ok.input.items import_limit c.in-Ok.ensures.whole c.in-Ok.ensures.within,
       λ input records left settled. put_not _ _ _ _ _ _ _ _ _ c.in-Err.fault
-          c.deref.result.now (c.deref.ensures.value ∙ all_read old.left c.in-Ok.input.items input c.in-Ok.ensures.whole left)
+          c.deref.result.now
+          (c.deref.ensures.value ∙ all_read old.left c.in-Ok.input.items input c.in-Ok.ensures.whole left)
           (c.in-Err.ensures.imports records settled)
-          (says_moved _ (exit_code c.say_fault.result) old mid new c.in-Ok.ensures.sent c.in-Ok.ensures.later c.say_fault.ensures.says)
+          (says_moved _ (exit_code c.say_fault.result) old mid
+          new c.in-Ok.ensures.sent c.in-Ok.ensures.later c.say_fault.ensures.says)
           (λ ten. c.say_fault.ensures.refused (inr (inr ten))),
     )
 
 pub returns-in-Ok-import_bytes-clause-statuses : goal.returns-in-Ok-import_bytes-clause-statuses
-returns-in-Ok-import_bytes-clause-statuses g c = done_import_status (exit_code c.end_with.result) c.end_with.ensures.statuses
+returns-in-Ok-import_bytes-clause-statuses g c =
+    done_import_status (exit_code c.end_with.result) c.end_with.ensures.statuses
 
 pub returns-in-Err-Refused-TooLarge-clause-statuses : goal.returns-in-Err-Refused-TooLarge-clause-statuses
 returns-in-Err-Refused-TooLarge-clause-statuses g c =
-    full_import_status (exit_code c.end_with-in-Err-Refused-TooLarge.result) c.end_with-in-Err-Refused-TooLarge.ensures.statuses
+    full_import_status (exit_code c.end_with-in-Err-Refused-TooLarge.result)
+    c.end_with-in-Err-Refused-TooLarge.ensures.statuses

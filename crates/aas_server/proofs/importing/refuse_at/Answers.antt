@@ -14,7 +14,8 @@ returns-in-Ok-clause-says g c =
     let answer = refused_at c.args.pointer.now c.args.refusal.now in
     let given : c.deref.result.now ≡ answer.text = c.deref.ensures.value ∙ c.in-Ok.ensures in
     says_line answer status old new
-    (λ e. cc) (rw given at c.end_with.ensures.given) (rw given at c.end_with.ensures.front) c.end_with.ensures.fault c.end_with.ensures.statuses
+    (λ e. cc) (rw given at c.end_with.ensures.given)
+    (rw given at c.end_with.ensures.front) c.end_with.ensures.fault c.end_with.ensures.statuses
 
 pub returns-in-Err-clause-says : goal.returns-in-Err-clause-says
 returns-in-Err-clause-says g c = says_nothing _ _

@@ -10,10 +10,12 @@ use Rattle.aas_server.proofs.importing.say_fault.Goals as goal
 pub returns-in-Read-clause-says : goal.returns-in-Read-clause-says
 returns-in-Read-clause-says g c = let C = g.C.Link in
     says_weaker _ (IsFaultAnswer c.args.fault) _ _ _
-    (λ answer is. subst (λ (f : ImportFault). IsFaultAnswer f answer) (sym c.in-Read.is) (is ∙ ap refused c.from.ensures))
+    (λ answer is.
+    subst (λ (f : ImportFault). IsFaultAnswer f answer) (sym c.in-Read.is) (is ∙ ap refused c.from.ensures))
     (says_refused c.from.result (exit_code c.end_refused.result)
     (console_of C.left C.sent C.faults c.args.console.now) (console_of C.left C.sent C.faults c.end_refused.new.link)
-    c.end_refused.ensures.given c.end_refused.ensures.front c.end_refused.ensures.fault (λ ten. ap C.sent (c.end_refused.ensures.memory ten)) c.end_refused.ensures.statuses)
+    c.end_refused.ensures.given c.end_refused.ensures.front c.end_refused.ensures.fault
+    (λ ten. ap C.sent (c.end_refused.ensures.memory ten)) c.end_refused.ensures.statuses)
 
 pub returns-in-Full-clause-says : goal.returns-in-Full-clause-says
 returns-in-Full-clause-says g c = let C = g.C.Link in
@@ -28,12 +30,16 @@ returns-in-Storage-clause-says g c = let C = g.C.Link in
     says_weaker _ (IsFaultAnswer c.args.fault) _ _ _
     (λ answer is. subst (λ (f : ImportFault). IsFaultAnswer f answer) (sym c.in-Storage.is) is)
     (says_line disk_failed (exit_code c.end_with-in-Storage.result)
-    (console_of C.left C.sent C.faults c.args.console.now) (console_of C.left C.sent C.faults c.end_with-in-Storage.new.link)
-    (λ e. cc) c.end_with-in-Storage.ensures.given c.end_with-in-Storage.ensures.front c.end_with-in-Storage.ensures.fault
+    (console_of C.left C.sent C.faults c.args.console.now)
+    (console_of C.left C.sent C.faults c.end_with-in-Storage.new.link)
+    (λ e. cc) c.end_with-in-Storage.ensures.given
+    c.end_with-in-Storage.ensures.front c.end_with-in-Storage.ensures.fault
     c.end_with-in-Storage.ensures.statuses)
 
 pub returns-in-Read-clause-statuses : goal.returns-in-Read-clause-statuses
-returns-in-Read-clause-statuses g c = refused_import_status (exit_code c.end_refused.result) c.end_refused.ensures.statuses
+returns-in-Read-clause-statuses g c =
+    refused_import_status (exit_code c.end_refused.result) c.end_refused.ensures.statuses
 
 pub returns-in-Rule-clause-statuses : goal.returns-in-Rule-clause-statuses
-returns-in-Rule-clause-statuses g c = refused_import_status (exit_code c.refuse_at-in-Rule.result) c.refuse_at-in-Rule.ensures.statuses
+returns-in-Rule-clause-statuses g c =
+    refused_import_status (exit_code c.refuse_at-in-Rule.result) c.refuse_at-in-Rule.ensures.statuses

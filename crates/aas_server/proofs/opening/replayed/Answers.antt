@@ -2,4 +2,5 @@ use Rattle.aas_server.proofs.Early.{replay_cause}
 use Rattle.aas_server.proofs.opening.replayed.Goals as goal
 
 pub returns-in-Err-clause-cause : goal.returns-in-Err-clause-cause
-returns-in-Err-clause-cause g c = λ payloads kept. replay_cause payloads c.in-Err.fault _ (c.in-Err.ensures.replayed payloads kept)
+returns-in-Err-clause-cause g c = λ payloads kept.
+    replay_cause payloads c.in-Err.fault _ (c.in-Err.ensures.replayed payloads kept)

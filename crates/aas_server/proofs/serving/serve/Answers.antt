@@ -19,7 +19,8 @@ returns-in-Ok-listen-clause-does g c =
     (inr (inr (
       wire_served c.have_one_list.ensures c.payloads_replay_to_one_state.ensures
           c.accepted_commands_replay.ensures
-          (disk_of D.seen D.moment D.left_at D.faults c.args.disk) (disk_of D.seen D.moment D.left_at D.faults (disk_in after.keeper))
+          (disk_of D.seen D.moment D.left_at D.faults c.args.disk)
+          (disk_of D.seen D.moment D.left_at D.faults (disk_in after.keeper))
           (record {
             documents = opened.documents;
             kept = kept_by opened.keeper;
@@ -27,18 +28,24 @@ returns-in-Ok-listen-clause-does g c =
             left_at = D.left_at opened.keeper.disk;
           })
           after.documents (kept_by after.keeper) (λ payloads keeps. (keeps.files, keeps.told, keeps.image))
-          c.in-Ok.ensures.begun c.in-Ok.ensures.reads.past c.in-Ok.ensures.reads.images c.serve-ended.ensures.past c.into_disk.ensures.valid
+          c.in-Ok.ensures.begun c.in-Ok.ensures.reads.past c.in-Ok.ensures.reads.images
+          c.serve-ended.ensures.past c.into_disk.ensures.valid
           c.args.count c.exit_code.result c.serve-ended.result
-          (wire_of L.left L.sent L.faults L.surroundings c.args.wire.now) (wire_of L.left L.sent L.faults L.surroundings c.listen.new.self)
+          (wire_of L.left L.sent L.faults L.surroundings c.args.wire.now)
+          (wire_of L.left L.sent L.faults L.surroundings c.listen.new.self)
           (wire_of L.left L.sent L.faults L.surroundings c.serve-ended.new.wire)
-          c.in-Ok-listen.ensures.connections c.in-Ok-listen.ensures.sent c.in-Ok-listen.ensures.clients c.in-Ok-listen.ensures.faults c.in-Ok-listen.ensures.cause.later
-          (c.exit_code.ensures ∙ c.from.ensures) c.serve-ended.ensures.served c.serve-ended.ensures.few c.serve-ended.ensures.wire_fault
-          (λ failed. omega (arith, c.in-Ok.ensures.later, c.serve-ended.ensures.keeper_fault failed)),
+          c.in-Ok-listen.ensures.connections c.in-Ok-listen.ensures.sent c.in-Ok-listen.ensures.clients
+          c.in-Ok-listen.ensures.faults c.in-Ok-listen.ensures.cause.later
+          (c.exit_code.ensures ∙ c.from.ensures) c.serve-ended.ensures.served
+          c.serve-ended.ensures.few c.serve-ended.ensures.wire_fault
+          (λ failed. omega (arith, c.in-Ok.ensures.later, c.serve-ended.ensures.keeper_fault failed))
+          (λ other. c.serve-ended.ensures.calm_keeper other ∙ c.in-Ok.ensures.calm),
       refl {a = console_of C.left C.sent C.faults c.args.console.now},
     )))
 
 pub returns-in-Ok-listen-clause-statuses : goal.returns-in-Ok-listen-clause-statuses
-returns-in-Ok-listen-clause-statuses g c = serve_statuses c.serve-ended.result c.exit_code.result (c.exit_code.ensures ∙ c.from.ensures)
+returns-in-Ok-listen-clause-statuses g c =
+    serve_statuses c.serve-ended.result c.exit_code.result (c.exit_code.ensures ∙ c.from.ensures)
 
 pub returns-in-Err-listen-clause-does : goal.returns-in-Err-listen-clause-does
 returns-in-Err-listen-clause-does g c =
@@ -62,7 +69,11 @@ returns-in-Err-listen-clause-does g c =
         clients = c.in-Err-listen.ensures.clients;
         left = c.in-Err-listen.ensures.left;
         sent = c.in-Err-listen.ensures.sent;
-        unwritten = record { seen = c.in-Ok.ensures.reads.same; images = c.in-Ok.ensures.reads.images; past = c.in-Ok.ensures.reads.past };
+        unwritten = record {
+          seen = c.in-Ok.ensures.reads.same;
+          images = c.in-Ok.ensures.reads.images;
+          past = c.in-Ok.ensures.reads.past;
+        };
       },
       refl {a = console_of C.left C.sent C.faults c.args.console.now},
     )))
@@ -78,10 +89,17 @@ returns-in-Err-clause-does g c =
     rw c.exit_code-in-Err.ensures
     (inl (
       early c.in-Err.field-0.fault (exit_code c.say_why.result)
-          (console_of C.left C.sent C.faults c.args.console.now) (console_of C.left C.sent C.faults c.say_why.new.console)
-          (disk_of D.seen D.moment D.left_at D.faults c.args.disk) (disk_of D.seen D.moment D.left_at D.faults c.in-Err.field-0.disk)
-          c.in-Err.ensures.cause c.in-Err.ensures.failed c.say_why.ensures.says c.say_why.ensures.unread c.say_why.ensures.silent
-          (record { seen = c.in-Err.ensures.reads.same; images = c.in-Err.ensures.reads.images; past = c.in-Err.ensures.reads.past }),
+          (console_of C.left C.sent C.faults c.args.console.now)
+          (console_of C.left C.sent C.faults c.say_why.new.console)
+          (disk_of D.seen D.moment D.left_at D.faults c.args.disk)
+          (disk_of D.seen D.moment D.left_at D.faults c.in-Err.field-0.disk)
+          c.in-Err.ensures.cause c.in-Err.ensures.failed c.say_why.ensures.says
+          c.say_why.ensures.unread c.say_why.ensures.silent
+          (record {
+            seen = c.in-Err.ensures.reads.same;
+            images = c.in-Err.ensures.reads.images;
+            past = c.in-Err.ensures.reads.past;
+          }),
       refl {a = wire_of L.left L.sent L.faults L.surroundings c.args.wire.now},
     ))
 

@@ -15,9 +15,11 @@ returns-in-Ok-clause-does g c =
     rw c.into_disk.ensures
     (rw c.into_keeper.ensures
     (rw c.exit_code.ensures
-    (inr (told c.have_one_list.ensures c.payloads_replay_to_one_state.ensures (g.R.Report.answers c.args.report.now) (exit_code c.give-status.result)
+    (inr (told c.have_one_list.ensures c.payloads_replay_to_one_state.ensures
+    (g.R.Report.answers c.args.report.now) (exit_code c.give-status.result)
     (console_of C.left C.sent C.faults c.args.console.now) (console_of C.left C.sent C.faults c.give-status.new.console)
-    (disk_of D.seen D.moment D.left_at D.faults c.args.disk) (disk_of D.seen D.moment D.left_at D.faults (disk_in opened.keeper))
+    (disk_of D.seen D.moment D.left_at D.faults c.args.disk)
+    (disk_of D.seen D.moment D.left_at D.faults (disk_in opened.keeper))
     (record {
       documents = opened.documents;
       kept = kept_by opened.keeper;
@@ -27,7 +29,11 @@ returns-in-Ok-clause-does g c =
     c.in-Ok.ensures.begun
     c.give-status.ensures.says c.give-status.ensures.unread c.give-status.ensures.silent
     c.give-status.ensures.no_disk_fault
-    (record { seen = c.in-Ok.ensures.reads.same; images = c.in-Ok.ensures.reads.images; past = c.in-Ok.ensures.reads.past })))))
+    (record {
+      seen = c.in-Ok.ensures.reads.same;
+      images = c.in-Ok.ensures.reads.images;
+      past = c.in-Ok.ensures.reads.past;
+    })))))
 
 pub returns-in-Err-clause-does : goal.returns-in-Err-clause-does
 returns-in-Err-clause-does g c =
@@ -36,12 +42,20 @@ returns-in-Err-clause-does g c =
     rw c.exit_code-in-Err.ensures
     (inl (early c.in-Err.field-0.fault (exit_code c.say_why.result)
     (console_of C.left C.sent C.faults c.args.console.now) (console_of C.left C.sent C.faults c.say_why.new.console)
-    (disk_of D.seen D.moment D.left_at D.faults c.args.disk) (disk_of D.seen D.moment D.left_at D.faults c.in-Err.field-0.disk)
-    c.in-Err.ensures.cause c.in-Err.ensures.failed c.say_why.ensures.says c.say_why.ensures.unread c.say_why.ensures.silent
-    (record { seen = c.in-Err.ensures.reads.same; images = c.in-Err.ensures.reads.images; past = c.in-Err.ensures.reads.past })))
+    (disk_of D.seen D.moment D.left_at D.faults c.args.disk)
+    (disk_of D.seen D.moment D.left_at D.faults c.in-Err.field-0.disk)
+    c.in-Err.ensures.cause c.in-Err.ensures.failed c.say_why.ensures.says
+    c.say_why.ensures.unread c.say_why.ensures.silent
+    (record {
+      seen = c.in-Err.ensures.reads.same;
+      images = c.in-Err.ensures.reads.images;
+      past = c.in-Err.ensures.reads.past;
+    })))
 
 pub returns-in-Err-clause-statuses : goal.returns-in-Err-clause-statuses
-returns-in-Err-clause-statuses g c = rw c.exit_code-in-Err.ensures (telling_status g.R.Report.others (exit_code c.say_why.result) c.say_why.ensures.statuses)
+returns-in-Err-clause-statuses g c =
+    rw c.exit_code-in-Err.ensures
+    (telling_status g.R.Report.others (exit_code c.say_why.result) c.say_why.ensures.statuses)
 
 pub returns-in-Ok-clause-statuses : goal.returns-in-Ok-clause-statuses
 returns-in-Ok-clause-statuses g c = rw c.exit_code.ensures c.give-status.ensures.statuses

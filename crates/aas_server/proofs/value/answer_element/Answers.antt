@@ -18,11 +18,13 @@ returns-in-Some-clause-refused c =
     let e = c.args.element.now in
     let some : c.has_value_form.result ≡ true = search rules in
     let found : first (element_faults e) ≡ Some c.in-Some.fault = sym c.in_ok-fault.ensures ∙ c.in-Some.is in
-    λ _. faulty e c.in-Some.fault c.from.result (c.has_value_form.ensures WithBlobValue e (sym c.kind.ensures) ∙ some) found c.from.ensures
+    λ _. faulty e c.in-Some.fault c.from.result
+    (c.has_value_form.ensures WithBlobValue e (sym c.kind.ensures) ∙ some) found c.from.ensures
 
 pub returns-clause-done : goal.returns-clause-done
 returns-clause-done c =
     let e = c.args.element.now in
     let none : first (element_faults e) ≡ None = sym c.in_ok-fault.ensures ∙ c.in_default.is in
-    let has : value_form WithBlobValue e ≡ Some (data_of c.in-Some-2.form) = sym c.in_ok-form.ensures ∙ ap (option_map data_of) c.in-Some-2.is in
+    let has : value_form WithBlobValue e ≡ Some (data_of c.in-Some-2.form) =
+    sym c.in_ok-form.ensures ∙ ap (option_map data_of) c.in-Some-2.is in
     valid e (data_of c.in-Some-2.form) c.in_ok-line_of.field-0.items has none c.in_ok-line_of.ensures

@@ -11,14 +11,16 @@ returns-in_err-flush-clause-front g c =
     let old = c.args.out.now in
     let new = c.flush.new.self in
     on_err c.from_residual.result
-    (front_put (g.L.Link.sent old.link.now) (held_by new) (g.L.Link.sent new.link.now) (held_by old) c.args.text.now (held_by old ++ c.args.text.now) refl c.flush.ensures.sent c.flush.ensures.more)
+    (front_put (g.L.Link.sent old.link.now) (held_by new) (g.L.Link.sent new.link.now)
+    (held_by old) c.args.text.now (held_by old ++ c.args.text.now) refl c.flush.ensures.sent c.flush.ensures.more)
 
 pub returns-clause-front : goal.returns-clause-front
 returns-clause-front g c =
     let sent = g.L.Link.sent in
     let old = c.args.out.now in
     let mid = c.flush.new.self in
-    let flushed = emptied (sent old.link.now) (sent mid.link.now) (held_by old) (held_by mid) c.flush.ensures.sent (nothing_held mid c.in_ok-flush.ensures.empty) in
+    let flushed = emptied (sent old.link.now) (sent mid.link.now) (held_by old)
+    (held_by mid) c.flush.ensures.sent (nothing_held mid c.in_ok-flush.ensures.empty) in
     on_err_weaker c.give_all.result
     (λ front. front_behind (sent old.link.now) (held_by old) (sent c.give_all.new.link) c.args.text.now
     (subst (λ (k : Option (List ℕ)). GivesFront k (sent c.give_all.new.link) c.args.text.now) flushed front))

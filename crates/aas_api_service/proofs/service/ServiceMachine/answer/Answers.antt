@@ -27,7 +27,8 @@ pub returns-in-Ok-clause-safe : goal.returns-in-Ok-clause-safe
 returns-in-Ok-clause-safe g c = λ safe.
     let K = g.K.Keeper in
     let m = message_of c.args.request.now in
-    let question = asks_question m c.in-Ok.call.through c.in-Ok.call.ask safe (asked_of m c.in-Ok.call c.in-Ok.ensures) in
+    let question =
+    asks_question m c.in-Ok.call.through c.in-Ok.call.ask safe (asked_of m c.in-Ok.call c.in-Ok.ensures) in
     let still = c.answer.ensures.unchanged question.0 question.1 in
     (same_unchanged (state_of K.kept K.moment K.left_at) _ _ still.0, still.1)
 
@@ -37,6 +38,8 @@ returns-in-Err-clause-answered g c = λ records settled.
     let room = K.room_behind c.args.self.now.repo.keeper in
     let state = state_of K.kept K.moment K.left_at c.args.self.now.repo in
     let m = message_of c.args.request.now in
-    let P : Result Reply Stop → Type 0 = λ a. Answers (Turns room) K.stands_for (repository_of state records) m state.moment state a in
+    let P : Result Reply Stop → Type 0 = λ a.
+    Answers (Turns room) K.stands_for (repository_of state records) m state.moment state a in
     subst P (sym (c.whole.ensures.whole (plan_text c.args.self.now.repo.documents)))
-    (answers_refused room K.stands_for state records settled m c.in-Err.refusal c.refuse.result c.in-Err.ensures c.refuse.ensures.refused)
+    (answers_refused room K.stands_for state records settled m c.in-Err.refusal
+    c.refuse.result c.in-Err.ensures c.refuse.ensures.refused)

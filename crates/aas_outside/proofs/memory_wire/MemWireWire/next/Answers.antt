@@ -7,12 +7,18 @@ use Rattle.aas_outside.proofs.memory_wire.MemWireWire.next.Goals as goal
 pub returns-clause-begins : goal.returns-clause-begins
 returns-clause-begins c =
     let opened : IsOpen c.args.may_begin c.args.self.now c.keep_open.new.self =
-    is_open c.args.may_begin c.args.self.now _ _ _ c.keep_open.new.self (ap (λ (w : MemWireState). let s : MemWireState = record w { calls = c.next_fails.new.self } in s) c.self.view_is) c.end_present.ensures c.keep_open.ensures in
-    begins c.args.may_begin c.args.self.now c.keep_open.new.self c.begin_first.new.self c.begin_first.result opened c.begin_first.ensures.begins
+    is_open c.args.may_begin c.args.self.now _ _ _ c.keep_open.new.self
+    (ap (λ (w : MemWireState). let s : MemWireState = record w { calls = c.next_fails.new.self } in s) c.self.view_is)
+    c.end_present.ensures c.keep_open.ensures in
+    begins c.args.may_begin c.args.self.now c.keep_open.new.self
+    c.begin_first.new.self c.begin_first.result opened c.begin_first.ensures.begins
 
 pub returns-clause-asked : goal.returns-clause-asked
 returns-clause-asked c = λ no is.
     let opened : IsOpen c.args.may_begin c.args.self.now c.keep_open.new.self =
-    is_open c.args.may_begin c.args.self.now _ _ _ c.keep_open.new.self (ap (λ (w : MemWireState). let s : MemWireState = record w { calls = c.next_fails.new.self } in s) c.self.view_is) c.end_present.ensures c.keep_open.ensures in
+    is_open c.args.may_begin c.args.self.now _ _ _ c.keep_open.new.self
+    (ap (λ (w : MemWireState). let s : MemWireState = record w { calls = c.next_fails.new.self } in s) c.self.view_is)
+    c.end_present.ensures c.keep_open.ensures in
     let new : c.begin_first.result ≡ New = cc in
-    new_where_asked c.args.may_begin c.args.self.now c.keep_open.new.self c.begin_first.new.self c.begin_first.result opened c.begin_first.ensures.begins no new
+    new_where_asked c.args.may_begin c.args.self.now c.keep_open.new.self
+    c.begin_first.new.self c.begin_first.result opened c.begin_first.ensures.begins no new

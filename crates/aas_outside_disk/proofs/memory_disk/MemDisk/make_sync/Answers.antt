@@ -7,6 +7,8 @@ use Rattle.aas_outside_disk.proofs.memory_disk.MemDisk.make_sync.Goals as goal
 
 pub invariant_of-self : goal.invariant_of-self
 invariant_of-self c =
-    step_sound c.self.inside c.self.invariant c.args.part (synced c.args.part) after_file_sync (λ (s : FileState). settled s.seen)
+    step_sound c.self.inside c.self.invariant c.args.part
+    (synced c.args.part) after_file_sync (λ (s : FileState). settled s.seen)
     (λ f. refl) (λ f. refl) (λ part s. refl)
-    (λ s. sync_follows (mem_file c.args.part c.self.inside.files) s) c.sync.new.self c.sync.ensures c.push_sync.new.self c.push_sync.ensures
+    (λ s. sync_follows (mem_file c.args.part c.self.inside.files) s) c.sync.new.self
+    c.sync.ensures c.push_sync.new.self c.push_sync.ensures

@@ -17,5 +17,6 @@ invariant_of-result c =
           (ap (λ (f : MemFileState). f.capacity) c.in_ok-new.ensures)
           (ap (λ (f : MemFileState). f.capacity) c.in_ok-new-2.ensures)
           (ap (λ (f : MemFileState). f.capacity) c.in_ok-new-3.ensures);
-      record_capacity = ap (λ (r : MemRecordState). r.capacity) c.in_ok-new-4.ensures ∙ search Rattle.std.proofs.Common.rules;
+      record_capacity =
+          ap (λ (r : MemRecordState). r.capacity) c.in_ok-new-4.ensures ∙ search Rattle.std.proofs.Common.rules;
     }

@@ -4,8 +4,10 @@ use Rattle.aas_outside_disk.proofs.memory_disk.MemDiskDisk.sync.Goals as goal
 
 pub returns-clause-durable : goal.returns-clause-durable
 returns-clause-durable c =
-    sync_durable c.args.self.now c.try_sync.new.self c.args.part c.try_sync.ensures.called.base c.try_sync.result c.try_sync.ensures.called.steps
+    sync_durable c.args.self.now c.try_sync.new.self c.args.part
+    c.try_sync.ensures.called.base c.try_sync.result c.try_sync.ensures.called.steps
 
 pub returns-clause-images : goal.returns-clause-images
 returns-clause-images c =
-    sync_images c.args.self.now c.try_sync.new.self c.args.part c.try_sync.ensures.called.base (is_ok c.try_sync.result) c.try_sync.ensures.called.steps
+    sync_images c.args.self.now c.try_sync.new.self c.args.part c.try_sync.ensures.called.base
+    (is_ok c.try_sync.result) c.try_sync.ensures.called.steps

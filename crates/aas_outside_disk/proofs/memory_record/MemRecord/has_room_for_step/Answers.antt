@@ -6,5 +6,6 @@ use Rattle.aas_outside_disk.proofs.memory_record.MemRecord.has_room_for_step.Goa
 pub returns : goal.returns
 returns c =
     let s = sizes c.self.inside c.args.self.now c.self.view_is c.self.invariant in
-    let count : c.len.result ≡ length c.args.self.now.steps = omega (arith, s.steps, c.len.ensures, c.self.inside.entries.ok.0) in
+    let count : c.len.result ≡ length c.args.self.now.steps =
+    omega (arith, s.steps, c.len.ensures, c.self.inside.entries.ok.0) in
     ap (λ n. nat_lt n 4096) count

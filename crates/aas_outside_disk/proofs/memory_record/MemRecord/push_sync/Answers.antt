@@ -8,7 +8,13 @@ use Rattle.aas_outside_disk.proofs.memory_record.MemRecord.push_sync.Goals as go
 pub push_reserved-requires : goal.push_reserved-requires
 push_reserved-requires c =
     let s = sizes c.self.inside c.args.self.now c.self.view_is c.self.invariant in
-    omega (arith, s.steps, c.self.invariant.entries_room, c.self.inside.entries.ok.0, ltb-true (length c.args.self.now.steps) 4096 c.requires)
+    omega (
+      arith,
+      s.steps,
+      c.self.invariant.entries_room,
+      c.self.inside.entries.ok.0,
+      ltb-true (length c.args.self.now.steps) 4096 c.requires,
+    )
 
 pub returns : goal.returns
 returns c =

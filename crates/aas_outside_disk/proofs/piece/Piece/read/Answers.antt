@@ -11,7 +11,13 @@ returns-clause-value g c =
     let storage = c.self.inside.storage in
     let within : count ≤ storage.len = omega (arith, c.self.invariant.0, storage.ok.0, c.requires.room) in
     let size : length (take (count - 0) c.deref_mut.result.now) ≡ count =
-    omega (arith, within, storage.ok.0, ap length c.deref_mut.ensures.value, length-take (count - 0) c.deref_mut.result.now) in
+    omega (
+      arith,
+      within,
+      storage.ok.0,
+      ap length c.deref_mut.ensures.value,
+      length-take (count - 0) c.deref_mut.result.now,
+    ) in
     let whole : length c.read_at.new.buf ≡ length (take (count - 0) c.deref_mut.result.now) = search rules in
     IfSome_then (g.D.Disk.seen c.args.disk.now) c.in_ok-read_at.ensures.value (λ files told.
     let bytes = file c.args.part files in

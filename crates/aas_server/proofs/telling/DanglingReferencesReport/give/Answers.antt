@@ -12,7 +12,8 @@ returns-in-Ok-clause-says g c =
     let status = exit_code c.end_with.result in
     let old = console_of C.left C.sent C.faults c.args.console.now in
     let new = console_of C.left C.sent C.faults c.end_with.new.link in
-    let given : c.deref.result.now ≡ check_text c.args.repo.now.documents = c.deref.ensures.value ∙ c.in-Ok.ensures ∙ ap check_text c.store.ensures.documents in
+    let given : c.deref.result.now ≡ check_text c.args.repo.now.documents =
+    c.deref.ensures.value ∙ c.in-Ok.ensures ∙ ap check_text c.store.ensures.documents in
     subst (λ (text : List ℕ). Says (λ said. said ≡ done text) status old new) given
     (says_line (done c.deref.result.now) status old new
     (λ e. cc) c.end_with.ensures.given c.end_with.ensures.front c.end_with.ensures.fault c.end_with.ensures.statuses)

@@ -7,22 +7,29 @@ use Rattle.aas_server.proofs.telling.ExportReport.give.Goals as goal
 pub returns-in-Ok-clause-says : goal.returns-in-Ok-clause-says
 returns-in-Ok-clause-says g c =
     let C = g.C.Link in
-    says_exported (export_text c.args.repo.now.documents) (console_of C.left C.sent C.faults c.args.console.now) (console_of C.left C.sent C.faults c.export.new.link)
+    says_exported (export_text c.args.repo.now.documents)
+    (console_of C.left C.sent C.faults c.args.console.now) (console_of C.left C.sent C.faults c.export.new.link)
     (λ long. let wrong = c.in-Ok.ensures.too_long.1 long in absurd (cc)) c.in-Ok.ensures.given.1
 
 pub returns-in-Err-Failed-clause-says : goal.returns-in-Err-Failed-clause-says
 returns-in-Err-Failed-clause-says g c =
     let C = g.C.Link in
-    says_cut (export_text c.args.repo.now.documents) (console_of C.left C.sent C.faults c.args.console.now) (console_of C.left C.sent C.faults c.export.new.link)
-    (λ long. let wrong = c.in-Err-Failed.ensures.too_long.1 long in absurd (cc)) (c.in-Err-Failed.ensures.front (ap (λ why. Err why) c.in-Err-Failed.field-0-is)) (c.in-Err-Failed.ensures.fault (ap (λ why. Err why) c.in-Err-Failed.field-0-is))
+    says_cut (export_text c.args.repo.now.documents) (console_of C.left C.sent C.faults c.args.console.now)
+    (console_of C.left C.sent C.faults c.export.new.link)
+    (λ long. let wrong = c.in-Err-Failed.ensures.too_long.1 long in absurd (cc))
+    (c.in-Err-Failed.ensures.front (ap (λ why. Err why) c.in-Err-Failed.field-0-is))
+    (c.in-Err-Failed.ensures.fault (ap (λ why. Err why) c.in-Err-Failed.field-0-is))
 
 pub returns-in-Err-TooLong-clause-says : goal.returns-in-Err-TooLong-clause-says
 returns-in-Err-TooLong-clause-says g c =
     let C = g.C.Link in
-    says_too_long (export_text c.args.repo.now.documents) _ (console_of C.left C.sent C.faults c.args.console.now) (console_of C.left C.sent C.faults c.export.new.link) (console_of C.left C.sent C.faults c.end_with.new.link)
+    says_too_long (export_text c.args.repo.now.documents) _ (console_of C.left C.sent C.faults c.args.console.now)
+    (console_of C.left C.sent C.faults c.export.new.link) (console_of C.left C.sent C.faults c.end_with.new.link)
     (c.in-Err-TooLong.ensures.too_long.0 (ap (λ why. Err why) c.in-Err-TooLong.field-0-is))
-    (ap (console_of C.left C.sent C.faults) (c.in-Err-TooLong.ensures.untouched (ap (λ why. Err why) c.in-Err-TooLong.field-0-is)))
+    (ap (console_of C.left C.sent C.faults)
+    (c.in-Err-TooLong.ensures.untouched (ap (λ why. Err why) c.in-Err-TooLong.field-0-is)))
     c.end_with.ensures.given c.end_with.ensures.front c.end_with.ensures.fault c.end_with.ensures.statuses
 
 pub returns-in-Err-TooLong-clause-statuses : goal.returns-in-Err-TooLong-clause-statuses
-returns-in-Err-TooLong-clause-statuses g c = ⊎_elim (λ three. (1, omega arith, sym three)) (λ eleven. (6, omega arith, sym eleven)) c.end_with.ensures.statuses
+returns-in-Err-TooLong-clause-statuses g c =
+    ⊎_elim (λ three. (1, omega arith, sym three)) (λ eleven. (6, omega arith, sym eleven)) c.end_with.ensures.statuses
