@@ -1,5 +1,6 @@
 -- A client that is open. This profile's own rule.
-use Rattle.std.specs.Prelude.{◌≡◌, ◌≢◌, ◌≤◌, ◌<◌, ◌+◌, ◌⊎◌, ℕ, List, [], Bool, true, false, Option, None, Some, length, vec_capacity}
+use Rattle.std.specs.Prelude.{◌≡◌, ◌≢◌, ◌≤◌, ◌<◌, ◌+◌, ◌⊎◌, ℕ, [], Bool, true, false, Option, None, Some}
+use Rattle.std.specs.Prelude.{length, vec_capacity}
 use Rattle.aas_clients.specs.Fronts.{IsReady, IsUnfinished}
 use Rattle.aas_clients.specs.Kept.{HandsOver, IsDeadline}
 use Rattle.aas_clients.specs.declared.client.Client.{Client}
@@ -13,7 +14,8 @@ waiting_of Off = None
 waiting_of (Waits number) = Some number
 waiting_of Visited = None
 
--- Who stands in the line keeps the number; who joins it gets one that is above all that were given. A visit isn't begun.
+-- Who stands in the line keeps the number; who joins it gets one that is above all that were given.
+-- A visit isn't begun.
 pub record KeepsTurn (old new : Turn) (next next_now : ℕ) : Type 0 where
   pub rises : next ≤ next_now
   pub stays : (n : ℕ) → waiting_of old ≡ Some n → waiting_of new ≡ Some n
@@ -42,7 +44,8 @@ module _ {S : Type 0} {g : _} where
 
   -- A visit begins that hands over the front, which is counted. Its bytes take no more storage than the client had.
   pub record Visits (old new : Client S g) (handed : Handed) : Type 0 where
-    pub front : HandsOver old.inbox.bytes.items old.has_ended handed.bytes.items handed.requests handed.is_last new.inbox.bytes.items
+    pub front : HandsOver old.inbox.bytes.items old.has_ended
+        handed.bytes.items handed.requests handed.is_last new.inbox.bytes.items
     pub handed_over : new.handed ≡ old.handed + length handed.bytes.items
     pub counted : new.requests ≡ old.requests + handed.requests
     pub storage : vec_capacity handed.bytes ≤ 4210688
@@ -52,7 +55,8 @@ module _ {S : Type 0} {g : _} where
   -- Where something can be handed over it stands in the line, or is visited: else it has replies left, or has sent
   -- nothing, or a part of a request, of which more may come.
   abbrev pub HasStood : Client S g → Type 0
-  HasStood client = client.turn ≡ Off → client.replies.bytes.items ≡ [] → client.inbox.bytes.items ≢ [] → (client.has_ended ≡ false) × ∥ IsUnfinished client.inbox.bytes.items ∥₁
+  HasStood client = client.turn ≡ Off → client.replies.bytes.items ≡ [] → client.inbox.bytes.items ≢ []
+      → (client.has_ended ≡ false) × ∥ IsUnfinished client.inbox.bytes.items ∥₁
 
   -- the last moment for the request that it has begun, if it is read, isn't here
   abbrev pub RequestInTime : Client S g → ℕ → Type 0

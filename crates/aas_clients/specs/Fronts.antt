@@ -1,6 +1,7 @@
 -- What of the bytes of a client one visit hands over. This profile's own rule.
 use Rattle.std.specs.Prelude.{◌≡◌, ◌<◌, ◌≤◌, ◌⊎◌, ℕ, zero, suc, List, [], ◌++◌, length, take, Option, None, Some}
-use Rattle.aas_http.specs.FirstRequest.{Message, FirstRequest, Nothing, Bad, TooLarge, NotImplemented, Whole, IsFirstRequest}
+use Rattle.aas_http.specs.FirstRequest.{Message, FirstRequest, Nothing, Bad, TooLarge, NotImplemented}
+use Rattle.aas_http.specs.FirstRequest.{Whole, IsFirstRequest}
 use Rattle.aas_http.specs.Steps.{AwaitsHead, AwaitsBody}
 use Rattle.aas_clients.specs.declared.front.Front.{Front}
 use Rattle.aas_clients.specs.declared.front.Front.TheVariants as front
@@ -8,7 +9,8 @@ use Rattle.aas_clients.specs.declared.front.Front.TheVariants as front
 -- The bytes are so many whole requests one behind another, and nothing else.
 abbrev pub AreRequests : ℕ → List ℕ → Type 0
 AreRequests zero bytes = bytes ≡ []
-AreRequests (suc n) bytes = (message : Message) × (rest : List ℕ) × IsFirstRequest bytes (Whole message rest) × AreRequests n rest
+AreRequests (suc n) bytes =
+    (message : Message) × (rest : List ℕ) × IsFirstRequest bytes (Whole message rest) × AreRequests n rest
 
 -- a request is there in part, or nothing is
 abbrev pub IsUnfinished : List ℕ → Type 0

@@ -1,5 +1,6 @@
 -- The places of clients, and the line of those who wait. This profile's own rule.
-use Rattle.std.specs.Prelude.{Bool, ◌≡◌, ◌≢◌, ◌≤◌, ◌<◌, ◌+◌, ◌⊎◌, ℕ, true, false, List, [], ◌∷◌, ◌++◌, Option, Some, None, length, slice_get, slice_set, sum_by, vec_capacity, nat_lt, position, if◌then◌else◌}
+use Rattle.std.specs.Prelude.{Bool, ◌≡◌, ◌≢◌, ◌≤◌, ◌<◌, ◌+◌, ◌⊎◌, ℕ, true, false, List, [], ◌∷◌, ◌++◌, Option, Some}
+use Rattle.std.specs.Prelude.{None, length, slice_get, slice_set, sum_by, vec_capacity, nat_lt, position, if◌then◌else◌}
 use Rattle.std.specs.List.{count_by}
 use Rattle.std.specs.Option.{option_and_then}
 use Rattle.aas_clients.specs.Clients.{HasStood, InTime, Visits, waiting_of}
@@ -79,7 +80,9 @@ module _ {S : Type 0} {g : _} where
 
   -- its client is visited, and no more of its replies may wait
   abbrev pub IsFull : Place S g → Type 0
-  IsFull place = (client : Client S g) × (place ≡ Open client) × (client.turn ≡ Visited) × (length client.replies.bytes.items ≡ 32768)
+  IsFull place =
+      (client : Client S g) × (place ≡ Open client)
+      × (client.turn ≡ Visited) × (length client.replies.bytes.items ≡ 32768)
 
   -- its client is between two requests: all that it was given is taken, and it may send more
   pub record IsQuiet (place : Place S g) : Type 0 where
@@ -112,7 +115,8 @@ module _ {S : Type 0} {g : _} where
 
   -- its client is in time, if one is open here that isn't visited
   abbrev pub IsInTime : Place S g → Bool → ℕ → Type 0
-  IsInTime place is_over now = (client : Client S g) → place ≡ Open client → client.turn ≢ Visited → InTime client is_over now
+  IsInTime place is_over now =
+      (client : Client S g) → place ≡ Open client → client.turn ≢ Visited → InTime client is_over now
 
   -- what is so behind an event
   abbrev pub IsDone : Event → ℕ → Place S g → Type 0
@@ -123,7 +127,9 @@ module _ {S : Type 0} {g : _} where
 
   -- a visit begins at a place
   abbrev pub HandsOverAt : Place S g → Place S g → Handed → Type 0
-  HandsOverAt old new handed = (client : Client S g) × (client_now : Client S g) × (old ≡ Open client) × (new ≡ Open client_now) × Visits client client_now handed
+  HandsOverAt old new handed =
+      (client : Client S g) × (client_now : Client S g) × (old ≡ Open client)
+      × (new ≡ Open client_now) × Visits client client_now handed
 
   -- ---- all places
 
@@ -151,10 +157,11 @@ module _ {S : Type 0} {g : _} where
 
   -- that is so at each place
   abbrev pub AreRight : List (Place S g) → ℕ → Option ℕ → Type 0
-  AreRight places next present = (k : ℕ) (client : Client S g) → slice_get places k ≡ Some (Open client) → IsRight client k next present
+  AreRight places next present =
+      (k : ℕ) (client : Client S g) → slice_get places k ≡ Some (Open client) → IsRight client k next present
 
-  -- Whoever is open was so, with the same counts; who waited and is open has the same number in the line; who waits has it
-  -- from before, or has joined behind all.
+  -- Whoever is open was so, with the same counts; who waited and is open has the same number in the line; who waits has
+  -- it from before, or has joined behind all.
   pub record KeepsPlace (old new : Place S g) (next : ℕ) : Type 0 where
     pub opens : is_open new ≡ true → is_open old ≡ true
     pub stays : (n : ℕ) → turn_of old ≡ Some n → is_open new ≡ true → turn_of new ≡ Some n
@@ -164,7 +171,8 @@ module _ {S : Type 0} {g : _} where
   pub record Keeps (places : List (Place S g)) (next : ℕ) (places_now : List (Place S g)) (next_now : ℕ) : Type 0 where
     pub rises : next ≤ next_now
     pub size : length places_now ≡ length places
-    pub each : (k : ℕ) (old new : Place S g) → slice_get places k ≡ Some old → slice_get places_now k ≡ Some new → KeepsPlace old new next
+    pub each : (k : ℕ) (old new : Place S g)
+        → slice_get places k ≡ Some old → slice_get places_now k ≡ Some new → KeepsPlace old new next
 
   -- all places but one are as they were
   abbrev pub OnlyAt : List (Place S g) → List (Place S g) → ℕ → Type 0
@@ -176,7 +184,8 @@ module _ {S : Type 0} {g : _} where
 
   -- nobody is idle for longer
   abbrev pub IsLongestIdle : List (Place S g) → ℕ → Type 0
-  IsLongestIdle places number = (t : ℕ) × (idle_at places number ≡ Some t) × ((k u : ℕ) → idle_at places k ≡ Some u → t ≤ u)
+  IsLongestIdle places number =
+      (t : ℕ) × (idle_at places number ≡ Some t) × ((k u : ℕ) → idle_at places k ≡ Some u → t ≤ u)
 
   -- the place of the client that is accepted next: the first that is free, or one more
   abbrev pub next_place : List (Place S g) → Option ℕ
@@ -197,11 +206,13 @@ module _ {S : Type 0} {g : _} where
 
   -- the clients at the first n places are in time
   abbrev pub AreInTime : List (Place S g) → ℕ → Bool → ℕ → Type 0
-  AreInTime places n is_over now = (k : ℕ) → k < n → (place : Place S g) → slice_get places k ≡ Some place → IsInTime place is_over now
+  AreInTime places n is_over now =
+      (k : ℕ) → k < n → (place : Place S g) → slice_get places k ≡ Some place → IsInTime place is_over now
 
   -- one is counted among the open ones less where the place was open and isn't, and one more where it was the other way
   abbrev pub IsCountedAt : List (Place S g) → List (Place S g) → ℕ → Type 0
-  IsCountedAt places places_now number = (old new : Place S g) → slice_get places number ≡ Some old → slice_get places_now number ≡ Some new
+  IsCountedAt places places_now number =
+      (old new : Place S g) → slice_get places number ≡ Some old → slice_get places_now number ≡ Some new
       → open_count places_now + (if is_open old then 1 else 0) ≡ open_count places + (if is_open new then 1 else 0)
 
   abbrev pub IsQuietAt : List (Place S g) → ℕ → Type 0

@@ -15,7 +15,8 @@ number_of (Some visit) = Some visit.number
 -- it hands over the same to the same client
 abbrev pub IsSameVisit : Option Visit → Option Visit → Type 0
 IsSameVisit None now = now ≡ None
-IsSameVisit (Some visit) now = (visit_now : Visit) × (now ≡ Some visit_now) × (visit_now.number ≡ visit.number) × (visit_now.handed ≡ visit.handed)
+IsSameVisit (Some visit) now =
+    (visit_now : Visit) × (now ≡ Some visit_now) × (visit_now.number ≡ visit.number) × (visit_now.handed ≡ visit.handed)
 
 -- Behind it its client is ended: nothing that follows can be answered, or the end wasn't told behind the last reply.
 abbrev pub IsLast : Visit → Type 0

@@ -9,7 +9,7 @@ ghost use Rattle.aas_clients.specs.Replies.{promised};
 use crate::front::Front;
 use crate::inbox::Inbox;
 use crate::outbox::{Outbox, pour};
-use crate::socket::{Found, Given, Socket};
+use crate::socket::{Found, Socket, WriteOutcome};
 use aas_model_text::NoMemory;
 use std::alloc::Global;
 
@@ -457,24 +457,24 @@ impl<S: Socket> Client<S> {
     }
 
     /// Gives it a front of these bytes: its socket takes them, or they wait here as far as there is room.
-    pub(crate) fn give(&mut self, bytes: &[u8]) -> Given
+    pub(crate) fn give(&mut self, bytes: &[u8]) -> WriteOutcome
         ensures given { Takes (promised (S.taken self.old.socket) self.old.replies.bytes.items) (promised (S.taken self.new.socket) self.new.replies.bytes.items) result bytes.now }
         ensures goes_on { GoesOn self.old self.new }
         ensures turn { self.new.turn ≡ self.old.turn }
-        ensures full { length self.old.replies.bytes.items ≡ 32768 → result ≡ Given.NotNow }
+        ensures full { length self.old.replies.bytes.items ≡ 32768 → result ≡ WriteOutcome.NotNow }
     {
         if self.replies.is_empty() {
             match self.socket.write(bytes) {
-                Given::Bytes(count) => return Given::Bytes(count),
-                Given::Failed => return Given::Failed,
-                Given::NotNow => {}
+                WriteOutcome::Bytes(count) => return WriteOutcome::Bytes(count),
+                WriteOutcome::Failed => return WriteOutcome::Failed,
+                WriteOutcome::NotNow => {}
             }
         }
         let count = self.replies.keep(bytes);
         if count == 0 {
-            return Given::NotNow;
+            return WriteOutcome::NotNow;
         }
-        Given::Bytes(count)
+        WriteOutcome::Bytes(count)
     }
 
     /// It is read again: the time in which it wasn't doesn't count.

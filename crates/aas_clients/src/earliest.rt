@@ -1,5 +1,5 @@
 // Who is first, and who is idle longest.
-ghost use Rattle.std.specs.Prelude.{◌≡◌, ℕ, None, Some, IfSome, IfNone};
+ghost use Rattle.std.specs.Prelude.{◌≡◌, ℕ, Some, IfSome, IfNone};
 ghost use Rattle.aas_clients.specs.Earliest.{IsBetter};
 ghost use Rattle.aas_clients.specs.Places.{IsLongestIdle, IsNext, idle_at, turn_at};
 

@@ -1,5 +1,5 @@
 // What of the bytes of a client one visit hands over.
-ghost use Rattle.std.specs.Prelude.{◌≡◌, ◌≤◌, ◌<◌, length, take};
+ghost use Rattle.std.specs.Prelude.{◌≤◌, ◌<◌, length, take};
 ghost use Rattle.aas_clients.specs.Fronts.{AreRequests, IsFront, IsUnfinished, IsUnfinishedBelow};
 
 use aas_http::{Step, ends_by_itself, next_request, whole_length};

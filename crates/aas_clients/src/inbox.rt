@@ -1,5 +1,6 @@
 // What a client has sent and isn't yet handed over.
-ghost use Rattle.std.specs.Prelude.{◌≡◌, ◌≤◌, ◌+◌, ◌-◌, ◌++◌, ◌↔◌, [], length, take, drop, max, vec_capacity, vec_len, IsTrue, IfOk, OnOk, OnErr};
+ghost use Rattle.std.specs.Prelude.{◌≡◌, ◌≤◌, ◌+◌, ◌-◌, ◌++◌, ◌↔◌, [], length, take, drop, max, vec_capacity, vec_len};
+ghost use Rattle.std.specs.Prelude.{IsTrue, IfOk, OnOk, OnErr};
 ghost use Rattle.aas_clients.specs.Fronts.{IsAwaited, IsFrontSoFar, IsUnfinishedBelow};
 ghost use Rattle.aas_clients.specs.Sockets.{ComesIn};
 
@@ -103,7 +104,8 @@ impl Inbox {
         limit: usize,
     ) -> Result<Found, NoMemory>
         requires { length self.old.bytes.items ≤ limit }
-        ensures came { ComesIn (S.told socket.old) (S.told socket.new) self.old.bytes.items self.new.bytes.items (limit - length self.old.bytes.items) }
+        ensures came { ComesIn (S.told socket.old)
+            (S.told socket.new) self.old.bytes.items self.new.bytes.items (limit - length self.old.bytes.items) }
         ensures storage { vec_capacity self.new.bytes ≤ max (vec_capacity self.old.bytes) limit }
         ensures taken { S.taken socket.new ≡ S.taken socket.old }
     {

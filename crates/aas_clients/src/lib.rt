@@ -37,6 +37,6 @@ pub use inbox::Inbox;
 pub use outbox::Outbox;
 pub use parting::Parting;
 pub use place::Place;
-pub use socket::{Found, Given, Socket};
+pub use socket::{Found, Socket, WriteOutcome};
 pub use table::Table;
 pub use visit::Visit;

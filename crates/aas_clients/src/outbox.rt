@@ -3,7 +3,7 @@ ghost use Rattle.std.specs.Prelude.{◌≡◌, ◌≤◌, ◌++◌, ◌↔◌, [
 ghost use Rattle.aas_clients.specs.Replies.{promised};
 
 use crate::inbox::give_back;
-use crate::socket::{Given, Socket};
+use crate::socket::{Socket, WriteOutcome};
 use crate::storage::fill;
 use std::alloc::Global;
 
@@ -76,9 +76,9 @@ pub(crate) fn pour<S: Socket>(socket: &mut S, replies: &mut Outbox) -> bool
             return true;
         }
         match socket.write(replies.bytes.as_slice()) {
-            Given::Bytes(count) => replies.remove(count),
-            Given::NotNow => return true,
-            Given::Failed => return false,
+            WriteOutcome::Bytes(count) => replies.remove(count),
+            WriteOutcome::NotNow => return true,
+            WriteOutcome::Failed => return false,
         }
     }
     true

@@ -51,7 +51,8 @@ impl<S: Socket> Parting<S> {
 
     /// Goes on as far as that is possible without waiting. Whether it is over.
     pub(crate) fn goes_on(&mut self, piece: &mut [u8], now: u64) -> bool
-        ensures promised { promised (S.taken self.new.socket) self.new.replies.bytes.items ≡ promised (S.taken self.old.socket) self.old.replies.bytes.items }
+        ensures promised { promised (S.taken self.new.socket) self.new.replies.bytes.items
+            ≡ promised (S.taken self.old.socket) self.old.replies.bytes.items }
         ensures shut { self.old.is_shut ≡ true → self.new.is_shut ≡ true }
         ensures giving { self.old.is_shut ≡ false → self.old.since + 5000 ≤ now → result ≡ true }
         ensures closing { self.old.is_shut ≡ true → self.old.since + 2000 ≤ now → result ≡ true }

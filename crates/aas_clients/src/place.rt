@@ -5,7 +5,7 @@ ghost use Rattle.aas_clients.specs.Sockets.{GivenWithin};
 
 use crate::client::{Client, Fate, Handed, Turn};
 use crate::parting::Parting;
-use crate::socket::{Given, Socket};
+use crate::socket::{Socket, WriteOutcome};
 use std::mem;
 
 /// What lies at a place of the table.
@@ -214,19 +214,19 @@ impl<S: Socket> Place<S> {
     }
 
     /// Gives its client a front of these bytes, if it is visited.
-    pub(crate) fn gives(&mut self, bytes: &[u8]) -> Given
+    pub(crate) fn gives(&mut self, bytes: &[u8]) -> WriteOutcome
         ensures within { GivenWithin result bytes.now }
-        ensures full { IsFull self.old → result ≡ Given.NotNow }
+        ensures full { IsFull self.old → result ≡ WriteOutcome.NotNow }
         ensures moves { (next : ℕ) → HasStoodHere self.old → Moves self.old self.new next next }
     {
         match self {
             Place::Open(client) => match client.turn {
                 Turn::Visited => client.give(bytes),
-                Turn::Off => Given::Failed,
-                Turn::Waits(_) => Given::Failed,
+                Turn::Off => WriteOutcome::Failed,
+                Turn::Waits(_) => WriteOutcome::Failed,
             },
-            Place::Free => Given::Failed,
-            Place::Parting(_) => Given::Failed,
+            Place::Free => WriteOutcome::Failed,
+            Place::Parting(_) => WriteOutcome::Failed,
         }
     }
 }

@@ -16,7 +16,7 @@ pub enum Found {
 
 /// What became of bytes that a socket was given.
 #[derive(Clone, Copy, Debug, PartialEq, Eq, Drop)]
-pub enum Given {
+pub enum WriteOutcome {
     /// So many of them were taken, from the front.
     Bytes(usize),
     /// None for now.
@@ -40,7 +40,7 @@ pub trait Socket: Drop {
         ensures taken { taken self.new ≡ taken self.old };
 
     /// Takes the front of `bytes`, as far as there is room for it now.
-    fn write(&mut self, bytes: &[u8]) -> Given
+    fn write(&mut self, bytes: &[u8]) -> WriteOutcome
         ensures taken { Takes (taken self.old) (taken self.new) result bytes.now }
         ensures told { told self.new ≡ told self.old };
 

@@ -1,5 +1,5 @@
 // Bytes in storage that doesn't grow behind one's back.
-ghost use Rattle.std.specs.Prelude.{◌≡◌, ◌≤◌, ◌+◌, ◌++◌, length, take, vec_capacity, vec_len, IfOk};
+ghost use Rattle.std.specs.Prelude.{◌≡◌, ◌≤◌, ◌+◌, ◌++◌, length, vec_capacity, vec_len, IfOk};
 
 use aas_model_text::NoMemory;
 use std::alloc::Global;

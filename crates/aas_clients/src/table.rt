@@ -9,7 +9,7 @@ ghost use Rattle.aas_clients.specs.Visits.{IsLast, IsSameVisit, is_over_at, left
 use crate::client::Client;
 use crate::earliest::{first_waiting, longest_idle};
 use crate::place::{Event, Place};
-use crate::socket::{Given, Socket};
+use crate::socket::{Socket, WriteOutcome};
 use crate::visit::Visit;
 use aas_model_text::NoMemory;
 use std::alloc::Global;
@@ -252,10 +252,10 @@ impl<S: Socket> Table<S> {
     }
 
     /// Gives the client of the visit a front of these bytes.
-    pub fn give(&mut self, bytes: &[u8]) -> Given
+    pub fn give(&mut self, bytes: &[u8]) -> WriteOutcome
         ensures within { GivenWithin result bytes.now }
         ensures keeps { Keeps self.old.places.items self.old.next self.new.places.items self.new.next }
-        ensures full { IfSome self.old.present (λ visit. IsFullAt self.old.places.items visit.number → result ≡ Given.NotNow) }
+        ensures full { IfSome self.old.present (λ visit. IsFullAt self.old.places.items visit.number → result ≡ WriteOutcome.NotNow) }
         ensures visit { IsSameVisit self.old.present self.new.present }
         ensures left { left_of self.new.present ≡ left_of self.old.present }
         ensures since { self.new.last_since ≡ self.old.last_since }
@@ -265,10 +265,10 @@ impl<S: Socket> Table<S> {
                 visit.is_open = false;
                 visit.number
             }
-            None => return Given::Failed,
+            None => return WriteOutcome::Failed,
         };
         if number >= self.places.len() {
-            return Given::Failed;
+            return WriteOutcome::Failed;
         }
         self.places[number].gives(bytes)
     }

@@ -48,7 +48,8 @@ impl Visit {
     pub(crate) fn take(&mut self, buf: &mut [u8]) -> usize
         ensures within { result ≤ length buf.new }
         ensures same { (self.new.number ≡ self.old.number) × (self.new.handed ≡ self.old.handed) }
-        ensures front { drop self.old.at self.old.handed.bytes.items ≡ take result buf.new ++ drop self.new.at self.new.handed.bytes.items }
+        ensures front { drop self.old.at self.old.handed.bytes.items
+            ≡ take result buf.new ++ drop self.new.at self.new.handed.bytes.items }
     {
         let bytes = self.handed.bytes.as_slice();
         let left = &bytes[self.at..];

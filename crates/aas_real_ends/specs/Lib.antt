@@ -1,3 +1,4 @@
 pub mod FileDisk
 pub mod Folder
+pub mod StoredFile
 pub mod TcpWire

@@ -1,5 +1,5 @@
 // The clients at an address.
-ghost use Rattle.std.specs.Prelude.{◌≡◌, ◌≢◌, ◌≤◌, ◌<◌, ◌++◌, [], false, None, Ok, Some, length, take, IfNone, IfOk, IfSome};
+ghost use Rattle.std.specs.Prelude.{◌≡◌, ◌≢◌, ◌≤◌, ◌<◌, ◌++◌, [], false, None, Ok, length, take, IfNone, IfOk, IfSome};
 ghost use Rattle.aas_clients.specs.Places.{open_count};
 ghost use Rattle.aas_clients.specs.Visits.{left_of};
 
@@ -7,7 +7,7 @@ use crate::listening::{Arrival, accept, listen};
 use crate::patience::Patience;
 use crate::peer::Peer;
 use crate::watch::Watch;
-use aas_clients::{Given, Table};
+use aas_clients::{Table, WriteOutcome};
 use aas_outside::NextVisit;
 use mio::net::{TcpListener, TcpStream};
 use mio::{Events, Interest, Poll, Token};
@@ -103,15 +103,28 @@ impl Clients {
         Err(io::Error::from(ErrorKind::TimedOut))
     }
 
-    fn end_visit<C: Clock>(&mut self, clock: &C) -> io::Result<()> {
-        self.now = self.watch.millis(clock)?;
+    /// Ends the visit that is begun, also where this fails.
+    fn end_visit<C: Clock>(&mut self, clock: &C) -> io::Result<()>
+        ensures { self.new.table.present ≡ None }
+    {
+        let shown = self.show_time(clock);
         self.table.end(self.now);
         self.patience = Patience::new();
+        shown
+    }
+
+    /// Looks at the watch. Where it can't be read, what it showed last stands.
+    fn show_time<C: Clock>(&mut self, clock: &C) -> io::Result<()>
+        ensures { self.new.table ≡ self.old.table }
+    {
+        self.now = self.watch.millis(clock)?;
         Ok(())
     }
 
     /// Sees what has become ready. Where it `waits` it returns once something has, or time has passed.
-    fn look<C: Clock>(&mut self, clock: &C, may_begin: bool, waits: bool) -> io::Result<()> {
+    fn look<C: Clock>(&mut self, clock: &C, may_begin: bool, waits: bool) -> io::Result<()>
+        ensures { self.new.table.present ≡ self.old.table.present }
+    {
         self.poll_for(clock, if waits { TICK_MILLIS } else { 0 })?;
         if self.now.saturating_sub(self.ticked) >= TICK_MILLIS {
             self.ticked = self.now;
@@ -191,7 +204,8 @@ impl Clients {
     /// Moves bytes that the visit hands over to the front of `buf`.
     pub fn take(&mut self, buf: &mut [u8]) -> Option<usize>
         ensures within { IfSome result (λ n. n ≤ length buf.new) }
-        ensures front { IfSome result (λ n. left_of self.old.table.present ≡ take n buf.new ++ left_of self.new.table.present) }
+        ensures front { IfSome result (λ n.
+            left_of self.old.table.present ≡ take n buf.new ++ left_of self.new.table.present) }
         ensures none { IfNone result (self.old.table.present ≡ None) }
     {
         self.table.take(buf)
@@ -218,17 +232,20 @@ impl Clients {
 
     /// As far as it takes them without waiting.
     fn give_now(&mut self, bytes: &[u8]) -> io::Result<Option<usize>>
-        ensures count { IfOk result (λ given. IfSome given (λ n. (n ≤ length bytes.now) × (0 < length bytes.now → 0 < n))) }
+        ensures count { IfOk result (λ given.
+            IfSome given (λ n. (n ≤ length bytes.now) × (0 < length bytes.now → 0 < n))) }
         ensures left { left_of self.new.table.present ≡ left_of self.old.table.present }
     {
         match self.table.give(bytes) {
-            Given::Bytes(0) if !bytes.is_empty() => Err(io::Error::from(ErrorKind::WriteZero)),
-            Given::Bytes(count) => {
+            WriteOutcome::Bytes(0) if !bytes.is_empty() => Err(io::Error::from(
+                ErrorKind::WriteZero,
+            )),
+            WriteOutcome::Bytes(count) => {
                 self.patience.gave(count);
                 Ok(Some(count))
             }
-            Given::NotNow => Ok(None),
-            Given::Failed => Err(io::Error::from(ErrorKind::BrokenPipe)),
+            WriteOutcome::NotNow => Ok(None),
+            WriteOutcome::Failed => Err(io::Error::from(ErrorKind::BrokenPipe)),
         }
     }
 
@@ -248,7 +265,9 @@ impl Clients {
 
     /// Ends the visit that is begun, and waits until each client that is no longer answered has got its last reply, for
     /// some seconds at most.
-    pub fn close<C: Clock>(&mut self, clock: &C) -> io::Result<()> {
+    pub fn close<C: Clock>(&mut self, clock: &C) -> io::Result<()>
+        ensures { self.new.table.present ≡ None }
+    {
         self.end_visit(clock)?;
         let until = self.now.saturating_add(ENDING_MILLIS);
         for _ in 0..u64::MAX {

@@ -1,5 +1,5 @@
 // The count of an end's faults.
-ghost use Rattle.std.specs.Prelude.{◌≡◌, ◌≤◌, Ok, IfOk, OnErr, IsErr};
+ghost use Rattle.std.specs.Prelude.{◌≡◌, ◌≤◌, Ok, IfOk, OnErr, OnOk, IsErr};
 ghost use Rattle.aas_outside.specs.Faults.{HasCause, one_more};
 
 use aas_outside::Failed;
@@ -32,6 +32,7 @@ impl FaultCount {
         ensures ok { IfOk answer (λ value. result ≡ Ok value) }
         ensures err { OnErr answer (IsErr result) }
         ensures cause { HasCause self.old.count self.new.count result }
+        ensures calm { OnOk result (self.new.count ≡ self.old.count) }
     {
         match answer {
             Ok(value) => Ok(value),

@@ -1,30 +1,31 @@
 // The files of the journal in the current folder.
-ghost use Rattle.std.specs.Prelude.{IsSome, OnOk};
-ghost use Rattle.aas_real_ends.specs.Folder.{HasNoneOpen};
+ghost use Rattle.std.specs.Prelude.{◌≡◌, None, Some, IsSome, IfErr, IfOk, OnErr, OnOk};
+ghost use Rattle.std.specs.IoError.{error_kind};
+ghost use Rattle.aas_real_ends.specs.Folder.{AreOpened, Answers, Becomes, HasNoneOpen, IsOpened, KeepsOpen, Stays};
+ghost use Rattle.aas_real_ends.specs.Folder.{file_of, name_of, with_file};
+ghost use Rattle.aas_real_ends.specs.StoredFile.{Gives, HasLength, IsSynced, IsWritten};
 
+use crate::stored_file::{FileOpener, StoredFile};
 use aas_outside_disk::Part;
-use std::fs::{File, Files, OpenFile, OpenOptions};
 use std::io;
 use std::io::ErrorKind;
-use std::os::fd::AsRawFd;
-use std::os::unix::fs::FileExt;
 
-/// The files `aas.journal`, `aas.spare` and `aas.selector` in the current folder, each opened at the first call on it.
+/// The files `aas.journal`, `aas.spare` and `aas.selector` in a folder, each opened at the first call on it.
 #[derive(Drop)]
-pub struct Folder<F> {
-    files: F,
-    main: Option<File>,
-    spare: Option<File>,
-    selector: Option<File>,
+pub struct Folder<O: FileOpener> {
+    opener: O,
+    main: Option<O::File>,
+    spare: Option<O::File>,
+    selector: Option<O::File>,
 }
 
-impl<F: Files<File = File>> Folder<F> {
+impl<O: FileOpener> Folder<O> {
     /// No file is opened yet.
-    pub fn new(files: F) -> Self
+    pub fn new(opener: O) -> Self
         ensures { HasNoneOpen result }
     {
         Folder {
-            files,
+            opener,
             main: None,
             spare: None,
             selector: None,
@@ -32,35 +33,65 @@ impl<F: Files<File = File>> Folder<F> {
     }
 
     pub fn length(&mut self, part: Part) -> io::Result<u64>
-        ensures { OnOk result (IsSome self.new.main) }
+        requires { AreOpened ⟦<O::File as StoredFile>⟧ self.old }
+        ensures opened { AreOpened ⟦<O::File as StoredFile>⟧ self.new }
+        ensures main { OnOk result (IsSome self.new.main) }
+        ensures keeps { KeepsOpen part self.old self.new }
+        ensures length { IfOk result (λ count. Answers part self.old self.new
+            (λ file. HasLength (O.File.state file) count)) }
     {
         self.open(part)?;
-        Ok(self.file(part)?.metadata()?.len())
+        self.file(part)?.length()
     }
 
     pub fn read_at(&mut self, part: Part, at: u64, buf: &mut [u8]) -> io::Result<()>
-        ensures { OnOk result (IsSome self.new.main) }
+        requires { AreOpened ⟦<O::File as StoredFile>⟧ self.old }
+        ensures opened { AreOpened ⟦<O::File as StoredFile>⟧ self.new }
+        ensures main { OnOk result (IsSome self.new.main) }
+        ensures keeps { KeepsOpen part self.old self.new }
+        ensures read { OnOk result (Answers part self.old self.new
+            (λ file. Gives (O.File.state file) at buf.new)) }
     {
         self.open(part)?;
-        self.file(part)?.read_exact_at(buf, at)
+        self.file(part)?.read_at(at, buf)
     }
 
     pub fn write_at(&mut self, part: Part, at: u64, bytes: &[u8]) -> io::Result<()>
-        ensures { OnOk result (IsSome self.new.main) }
+        requires { AreOpened ⟦<O::File as StoredFile>⟧ self.old }
+        ensures opened { AreOpened ⟦<O::File as StoredFile>⟧ self.new }
+        ensures main { OnOk result (IsSome self.new.main) }
+        ensures keeps { KeepsOpen part self.old self.new }
+        ensures written { OnOk result (Becomes part self.old self.new
+            (λ before after. IsWritten at bytes.now (O.File.state before) (O.File.state after))) }
     {
         self.open(part)?;
-        self.file(part)?.write_all_at(bytes, at)
+        let mut file = self.take(part)?;
+        let written = file.write_at(at, bytes);
+        self.put(part, file);
+        written
     }
 
     pub fn sync(&mut self, part: Part) -> io::Result<()>
-        ensures { OnOk result (IsSome self.new.main) }
+        requires { AreOpened ⟦<O::File as StoredFile>⟧ self.old }
+        ensures opened { AreOpened ⟦<O::File as StoredFile>⟧ self.new }
+        ensures main { OnOk result (IsSome self.new.main) }
+        ensures keeps { KeepsOpen part self.old self.new }
+        ensures synced { OnOk result (Becomes part self.old self.new
+            (λ before after. IsSynced (O.File.state before) (O.File.state after))) }
     {
         self.open(part)?;
-        self.file(part)?.sync_data()
+        let mut file = self.take(part)?;
+        let synced = file.sync();
+        self.put(part, file);
+        synced
     }
 
     /// The file, where it is open.
-    fn file(&self, part: Part) -> io::Result<&File> {
+    fn file(&self, part: Part) -> io::Result<&O::File>
+        ensures open { IfOk result (λ file. file_of part self.now ≡ Some file.now) }
+        ensures none { OnErr result (file_of part self.now ≡ None) }
+        ensures fault { IfErr result (λ fault. error_kind fault ≡ ErrorKind.NotFound) }
+    {
         let file = match part {
             Part::Main => &self.main,
             Part::Spare => &self.spare,
@@ -69,43 +100,79 @@ impl<F: Files<File = File>> Folder<F> {
         file.as_ref().ok_or(io::Error::from(ErrorKind::NotFound))
     }
 
+    /// Takes the file out, where it is open.
+    fn take(&mut self, part: Part) -> io::Result<O::File>
+        ensures open { IfOk result (λ file. file_of part self.old ≡ Some file) }
+        ensures none { OnErr result (file_of part self.old ≡ None) }
+        ensures without { self.new ≡ with_file part None self.old }
+    {
+        let file = match part {
+            Part::Main => self.main.take(),
+            Part::Spare => self.spare.take(),
+            Part::Selector => self.selector.take(),
+        };
+        file.ok_or(io::Error::from(ErrorKind::NotFound))
+    }
+
+    /// Puts a file in.
+    fn put(&mut self, part: Part, file: O::File)
+        ensures { self.new ≡ with_file part (Some file) self.old }
+    {
+        match part {
+            Part::Main => self.main = Some(file),
+            Part::Spare => self.spare = Some(file),
+            Part::Selector => self.selector = Some(file),
+        }
+    }
+
     /// Opens the file where it isn't open, and before it `aas.journal`, whose lock keeps other programs away.
     fn open(&mut self, part: Part) -> io::Result<()>
-        ensures { OnOk result (IsSome self.new.main) }
+        requires { AreOpened ⟦<O::File as StoredFile>⟧ self.old }
+        ensures opened { AreOpened ⟦<O::File as StoredFile>⟧ self.new }
+        ensures main { OnOk result (IsSome self.new.main) }
+        ensures open { OnOk result (IsSome (file_of part self.new)) }
+        ensures stays { Stays (file_of part self.old) (file_of part self.new) }
+        ensures keeps { KeepsOpen part self.old self.new }
     {
-        if self.main.is_none() {
-            let main = open_or_make(&self.files, "aas.journal")?;
-            main.try_lock()?;
-            self.main = Some(main);
+        self.open_alone(Part::Main)?;
+        self.open_alone(part)
+    }
+
+    /// Opens the file where it isn't open.
+    fn open_alone(&mut self, part: Part) -> io::Result<()>
+        requires { AreOpened ⟦<O::File as StoredFile>⟧ self.old }
+        ensures opened { AreOpened ⟦<O::File as StoredFile>⟧ self.new }
+        ensures open { OnOk result (IsSome (file_of part self.new)) }
+        ensures stays { Stays (file_of part self.old) (file_of part self.new) }
+        ensures others { self.new ≡ with_file part (file_of part self.new) self.old }
+    {
+        if self.file(part).is_ok() {
+            return Ok(());
         }
-        if part == Part::Spare && self.spare.is_none() {
-            self.spare = Some(open_or_make(&self.files, "aas.spare")?);
-        }
-        if part == Part::Selector && self.selector.is_none() {
-            self.selector = Some(open_or_make(&self.files, "aas.selector")?);
-        }
+        let file = self.open_new(part)?;
+        self.put(part, file);
         Ok(())
     }
-}
 
-/// Opens a file, which is made where it is missing. A stop leaves it in its folder from then on, also where a stop came
-/// right after it was made.
-fn open_or_make<F: Files<File = File>>(files: &F, name: &str) -> io::Result<File> {
-    let file = OpenOptions::new()
-        .read(true)
-        .write(true)
-        .create(true)
-        .open(files, name)?;
-    File::open(files, ".")?.sync_all()?;
-    forget_unwritten(&file)?;
-    Ok(file)
-}
-
-/// Has reads give what the disk has: where an earlier sync failed the system may go on with bytes that were never written.
-fn forget_unwritten(file: &File) -> io::Result<()> {
-    let fault = libc::posix_fadvise(file.as_raw_fd(), 0, 0, libc::POSIX_FADV_DONTNEED);
-    if fault == 0 {
-        return Ok(());
+    /// Opens the file by its name, and locks it where it is `aas.journal`.
+    fn open_new(&self, part: Part) -> io::Result<O::File>
+        ensures { IfOk result (IsOpened ⟦<O::File as StoredFile>⟧ part) }
+    {
+        let mut file = self.opener.open_or_make(name_of(part))?;
+        if part == Part::Main {
+            file.lock()?;
+        }
+        Ok(file)
     }
-    Err(io::Error::from_raw_os_error(fault))
+}
+
+/// The name of the file of a part.
+fn name_of(part: Part) -> &'static str
+    ensures { result.now ≡ name_of part }
+{
+    match part {
+        Part::Main => "aas.journal",
+        Part::Spare => "aas.spare",
+        Part::Selector => "aas.selector",
+    }
 }

@@ -1,5 +1,5 @@
 // How long a visit waits for a client that doesn't take its replies.
-ghost use Rattle.std.specs.Prelude.{◌≡◌, ◌≤◌, ◌+◌, ◌-◌, ◌*◌, ◌/◌, ◌^◌, min};
+ghost use Rattle.std.specs.Prelude.{◌≡◌, ◌+◌, ◌-◌, ◌*◌, ◌/◌, ◌^◌, min};
 
 /// How long the replies of a visit may wait for their client in all, in milliseconds.
 const WAIT_MILLIS: u64 = 5_000;

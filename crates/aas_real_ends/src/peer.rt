@@ -4,7 +4,7 @@ ghost use Rattle.std.specs.IoError.{error_kind};
 ghost use Rattle.aas_clients.specs.Sockets.{Reads, Takes};
 
 use crate::calls::{read, write};
-use aas_clients::{Found, Given, Socket};
+use aas_clients::{Found, Socket, WriteOutcome};
 use mio::net::TcpStream;
 use std::io;
 use std::io::ErrorKind;
@@ -54,13 +54,13 @@ impl Socket for Peer {
         }
     }
 
-    fn write(&mut self, bytes: &[u8]) -> Given
+    fn write(&mut self, bytes: &[u8]) -> WriteOutcome
         ensures taken { Takes None None result bytes.now }
     {
         match write(&mut self.stream, bytes) {
-            Ok(count) => Given::Bytes(count),
-            Err(fault) if would_wait(&fault) => Given::NotNow,
-            Err(_) => Given::Failed,
+            Ok(count) => WriteOutcome::Bytes(count),
+            Err(fault) if would_wait(&fault) => WriteOutcome::NotNow,
+            Err(_) => WriteOutcome::Failed,
         }
     }
 

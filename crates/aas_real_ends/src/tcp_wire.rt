@@ -1,5 +1,6 @@
 // Clients over TCP.
-ghost use Rattle.std.specs.Prelude.{◌≡◌, ◌≢◌, ◌++◌, false, None, Ok, take, IsErr, IsNone, IsSome, IfOk, OnOk, OnErr};
+ghost use Rattle.std.specs.Prelude.{◌≡◌, ◌≢◌, ◌++◌, [], false, None, Ok, take, IsErr, IsNone, IsSome, IfOk};
+ghost use Rattle.std.specs.Prelude.{OnOk, OnErr};
 ghost use Rattle.aas_outside.specs.Faults.{HasCause};
 ghost use Rattle.aas_outside.specs.Link.{Takes, Gives};
 ghost use Rattle.aas_outside.specs.Surroundings.{CountsClients};
@@ -48,7 +49,11 @@ impl<N: Net + Clock> TcpWire<N> {
     }
 
     /// Ends the present visit, and waits some seconds for clients that are no longer answered to take their last reply.
-    pub fn close(&mut self) {
+    pub fn close(&mut self)
+        ensures ended { left_on self.new.clients ≡ [] }
+        ensures faults { (self.new.faults ≡ self.old.faults) × (self.new.wire_faults ≡ self.old.wire_faults) }
+        ensures begun { self.new.begun ≡ self.old.begun }
+    {
         if let Some(clients) = &mut self.clients {
             let _closed = clients.close(&self.net);
         }
@@ -62,7 +67,8 @@ impl<N: Net + Clock> Link for TcpWire<N> {
 
     ghost faults = { λ wire. wire.faults.count };
 
-    ghost surroundings = { λ wire. record { connections = None; clients = wire.begun; faults = wire.wire_faults.count } };
+    ghost surroundings = { λ wire.
+        record { connections = None; clients = wire.begun; faults = wire.wire_faults.count } };
 
     fn take(&mut self, buf: &mut [u8]) -> Result<usize, Failed>
         ensures taken { Takes None None result buf.new }

@@ -1,11 +1,11 @@
-// The console over a reader and a writer that are interrupted and take little; the wire over sockets; the disk in a folder of
-// its own.
+// The console over a reader and a writer that are interrupted and take little; the wire over sockets; the disk in a
+// folder of its own.
 use crate::console::ConsoleLink;
 use crate::file_disk::FileDisk;
+use crate::stored_file::FileOpener;
 use crate::tcp_wire::TcpWire;
 use aas_outside::{Failed, Link, NextVisit, Wire};
 use aas_outside_disk::{Disk, Part};
-use std::fs::{File, Files};
 use std::io::{ErrorKind, Read, Write};
 use std::net::{Net, TcpStream};
 use std::test::Fail;
@@ -139,7 +139,7 @@ fn addresses_that_nothing_can_listen_at(rt: HostRuntime) -> Result<(), Fail> {
 }
 
 /// Whether bytes are found again, and none behind the end.
-fn finds_bytes<F: Files<File = File>>(disk: &mut FileDisk<F>) -> Result<bool, Failed> {
+fn finds_bytes<O: FileOpener>(disk: &mut FileDisk<O>) -> Result<bool, Failed> {
     let mut buf = [b'.'; 4];
     disk.write_at(Part::Spare, 0, b"abcd")?;
     disk.write_at(Part::Spare, 3, b"xy")?;
@@ -148,7 +148,7 @@ fn finds_bytes<F: Files<File = File>>(disk: &mut FileDisk<F>) -> Result<bool, Fa
     Ok(buf == *b"cxy." && disk.read_at(Part::Spare, 2, &mut buf).is_err())
 }
 
-fn lengths<F: Files<File = File>>(disk: &mut FileDisk<F>) -> Result<[u64; 3], Failed> {
+fn lengths<O: FileOpener>(disk: &mut FileDisk<O>) -> Result<[u64; 3], Failed> {
     Ok([
         disk.length(Part::Main)?,
         disk.length(Part::Spare)?,
@@ -157,10 +157,7 @@ fn lengths<F: Files<File = File>>(disk: &mut FileDisk<F>) -> Result<[u64; 3], Fa
 }
 
 /// Whether a disk finds its bytes, and a second one finds the folder locked until the first one ends.
-fn holds_folder<F: Files<File = File> + Drop>(
-    mut disk: FileDisk<F>,
-    mut second: FileDisk<F>,
-) -> bool {
+fn holds_folder<O: FileOpener + Drop>(mut disk: FileDisk<O>, mut second: FileDisk<O>) -> bool {
     let found = finds_bytes(&mut disk) == Ok(true);
     let locked = lengths(&mut second) == Err(Failed) && lengths(&mut disk) == Ok([0, 5, 0]);
     drop(disk);

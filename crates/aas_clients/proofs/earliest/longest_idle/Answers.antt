@@ -12,16 +12,23 @@ loop-number-preserved g c =
     let n = c.loop-number.number in
     let place = c.index-places-number in
     earliest_step (idle_at places) c.loop-number.found c.better-found.result n c.idle_since.result
-    (ap (option_and_then idle_since) (slice_get_read places (length places) n place.result refl c.loop-number-test.true place.is) ∙ sym c.idle_since.ensures) c.better-found.ensures c.loop-number.invariant
+    (ap (option_and_then idle_since)
+    (slice_get_read places (length places) n place.result refl c.loop-number-test.true place.is)
+    ∙ sym c.idle_since.ensures)
+    c.better-found.ensures c.loop-number.invariant
 
 pub returns-in-Some-clause-longest : goal.returns-in-Some-clause-longest
 returns-in-Some-clause-longest g c =
     let places = c.args.places.now in
-    let all : c.loop-number.number ≡ length places = omega (arith, c.loop-number-test.false, c.loop-number.auto.number-end) in
-    earliest_some idle_since places _ _ c.in-Some.is (subst (λ (n : ℕ). IsEarliest c.loop-number.found (idle_at places) n) all c.loop-number.invariant)
+    let all : c.loop-number.number ≡ length places =
+    omega (arith, c.loop-number-test.false, c.loop-number.auto.number-end) in
+    earliest_some idle_since places _ _ c.in-Some.is
+    (subst (λ (n : ℕ). IsEarliest c.loop-number.found (idle_at places) n) all c.loop-number.invariant)
 
 pub returns-in-None-clause-none : goal.returns-in-None-clause-none
 returns-in-None-clause-none g c =
     let places = c.args.places.now in
-    let all : c.loop-number.number ≡ length places = omega (arith, c.loop-number-test.false, c.loop-number.auto.number-end) in
-    earliest_none idle_since places _ c.in-None.is (subst (λ (n : ℕ). IsEarliest c.loop-number.found (idle_at places) n) all c.loop-number.invariant)
+    let all : c.loop-number.number ≡ length places =
+    omega (arith, c.loop-number-test.false, c.loop-number.auto.number-end) in
+    earliest_none idle_since places _ c.in-None.is
+    (subst (λ (n : ℕ). IsEarliest c.loop-number.found (idle_at places) n) all c.loop-number.invariant)

@@ -11,5 +11,9 @@ hands-requires-clause-part g c =
     let short = c.in-Awaits.ensures.front in
     let all : c.len-size.result ≡ length bytes = omega (arith, c.len-size.ensures, self.inbox.bytes.ok.0) in
     let why : AreRefused bytes ⊎ ((self.has_ended ≡ true) × ∥ IsUnfinished bytes ∥₁) =
-    inr (c.if-self.true, ∥∥₁_map short.1 (λ (below : IsUnfinishedBelow c.in-Awaits.field-0 bytes). unfinished_here c.in-Awaits.field-0 bytes short.0 below)) in
+    inr (
+      c.if-self.true,
+      ∥∥₁_map short.1 (λ (below : IsUnfinishedBelow c.in-Awaits.field-0 bytes).
+          unfinished_here c.in-Awaits.field-0 bytes short.0 below),
+    ) in
     rw c.front.ensures.same (part_last bytes self.has_ended c.len-size.result all why)

@@ -15,4 +15,5 @@ pub returns-clause-last : goal.returns-clause-last
 returns-clause-last g c =
     let now = c.is_ready.new.self.places.items in
     subst (λ (o : Option Visit). IfSome o (λ visit. IsLast visit → IsClosedAt now visit.number)) (sym c.in-Some.is)
-    (λ last. closed_stays _ now c.in-Some.visit.number _ _ c.is_ready.ensures.keeps (c.leave.ensures.last (c.is_last-is_last.ensures.1 last)))
+    (λ last. closed_stays _ now c.in-Some.visit.number _ _ c.is_ready.ensures.keeps
+    (c.leave.ensures.last (c.is_last-is_last.ensures.1 last)))

@@ -1,7 +1,7 @@
 use Rattle.std.proofs.Common.{◌≡◌, ◌<◌, ℕ, length, Some, slice_get, refl, sym, ap, subst, ◌∙◌, arith}
 use Rattle.std.specs.Prelude.{IfSome}
 use Rattle.std.proofs.lemmas.Option.{same_Some}
-use Rattle.aas_clients.specs.declared.socket.Given.TheVariants as given
+use Rattle.aas_clients.specs.declared.socket.WriteOutcome.TheVariants as given
 use Rattle.aas_clients.specs.declared.visit.Visit.{Visit}
 use Rattle.std.specs.declared.option.Option.{Option}
 use Rattle.std.proofs.Math.ListN.{length-set}
@@ -29,7 +29,8 @@ invariant_of-self-2 g c =
     let old = c.index_mut.result.now in
     let new = c.gives.new.self in
     let here : k < length places = omega (arith, c.if-number-len.false, c.len.ensures, self.places.ok.0) in
-    let was : slice_get places k ≡ Some old = at_place places k _ old self.places.ok.0 (omega (arith, c.if-number-len.false, c.len.ensures)) c.index_mut.ensures.value in
+    let was : slice_get places k ≡ Some old = at_place places k _ old self.places.ok.0
+    (omega (arith, c.if-number-len.false, c.len.ensures)) c.index_mut.ensures.value in
     let right = subst (λ (n : Option ℕ). AreRight places self.next n) (ap number_of c.in-Some.is) self.right in
     let moves = c.gives.ensures.moves self.next (stood_at places k self.next _ old was right) in
     record {
@@ -46,8 +47,10 @@ returns-clause-keeps g c =
     let k = c.in-Some.visit.number in
     let old = c.index_mut.result.now in
     let here : k < length places = omega (arith, c.if-number-len.false, c.len.ensures, self.places.ok.0) in
-    let was : slice_get places k ≡ Some old = at_place places k _ old self.places.ok.0 (omega (arith, c.if-number-len.false, c.len.ensures)) c.index_mut.ensures.value in
-    keeps_set places k self.next self.next old c.gives.new.self here was (c.gives.ensures.moves self.next (stood_at places k self.next _ old was self.right)).changes
+    let was : slice_get places k ≡ Some old = at_place places k _ old self.places.ok.0
+    (omega (arith, c.if-number-len.false, c.len.ensures)) c.index_mut.ensures.value in
+    keeps_set places k self.next self.next old c.gives.new.self here was
+    (c.gives.ensures.moves self.next (stood_at places k self.next _ old was self.right)).changes
 
 pub returns-then-number-len-clause-visit : goal.returns-then-number-len-clause-visit
 returns-then-number-len-clause-visit g c = same_visit _ _ c.in-Some.visit _ c.in-Some.is refl refl refl
@@ -61,6 +64,8 @@ returns-clause-full g c =
     let places = self.places.items in
     let k = c.in-Some.visit.number in
     let old = c.index_mut.result.now in
-    let was : slice_get places k ≡ Some old = at_place places k _ old self.places.ok.0 (omega (arith, c.if-number-len.false, c.len.ensures)) c.index_mut.ensures.value in
-    subst (λ (o : Option Visit). IfSome o (λ visit. IsFullAt places visit.number → c.gives.result ≡ given.NotNow)) (sym c.in-Some.is)
+    let was : slice_get places k ≡ Some old = at_place places k _ old self.places.ok.0
+    (omega (arith, c.if-number-len.false, c.len.ensures)) c.index_mut.ensures.value in
+    subst (λ (o : Option Visit). IfSome o (λ visit. IsFullAt places visit.number → c.gives.result ≡ given.NotNow))
+    (sym c.in-Some.is)
     (λ (place, at, full). c.gives.ensures.full (subst (λ p. IsFull p) (same_Some place old (sym at ∙ was)) full))

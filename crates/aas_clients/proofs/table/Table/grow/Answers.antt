@@ -12,7 +12,8 @@ invariant_of-self g c =
     let here = c.requires.within in
     let old = c.index_mut.result.now in
     let new = c.grow.new.self in
-    let was : slice_get places k ≡ Some old = at_place places k _ old self.places.ok.0 (omega (arith, here, self.places.ok.0)) c.index_mut.ensures.value in
+    let was : slice_get places k ≡ Some old =
+    at_place places k _ old self.places.ok.0 (omega (arith, here, self.places.ok.0)) c.index_mut.ensures.value in
     let changes = c.grow.ensures self.next (stood_at places k self.next _ old was self.right) in
     record {
       few = omega (arith, length-set places k new, self.few);
@@ -28,8 +29,10 @@ returns-clause-keeps g c =
     let k = c.args.number in
     let here = c.requires.within in
     let old = c.index_mut.result.now in
-    let was : slice_get places k ≡ Some old = at_place places k _ old self.places.ok.0 (omega (arith, here, self.places.ok.0)) c.index_mut.ensures.value in
-    keeps_set places k self.next self.next old c.grow.new.self here was (c.grow.ensures self.next (stood_at places k self.next _ old was self.right))
+    let was : slice_get places k ≡ Some old =
+    at_place places k _ old self.places.ok.0 (omega (arith, here, self.places.ok.0)) c.index_mut.ensures.value in
+    keeps_set places k self.next self.next old c.grow.new.self here was
+    (c.grow.ensures self.next (stood_at places k self.next _ old was self.right))
 
 pub returns-clause-only : goal.returns-clause-only
 returns-clause-only g c = only_set c.args.self.now.places.items c.args.number c.grow.new.self

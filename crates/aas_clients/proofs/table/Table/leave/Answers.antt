@@ -14,7 +14,9 @@ invariant_of-self g c =
       few = now.few;
       few_open = now.few_open;
       few_large = now.few_large;
-      right = right_rested now.places.items c.args.number now.next right (parted_rests now.places.items c.args.number c.meets.ensures.done);
+      right =
+          right_rested now.places.items c.args.number now.next right
+          (parted_rests now.places.items c.args.number c.meets.ensures.done);
     }
 
 pub invariant_of-self-2 : goal.invariant_of-self-2

@@ -12,7 +12,9 @@ invariant_of-self g c =
       few = self.few;
       few_open = self.few_open;
       few_large = self.few_large;
-      right = subst (λ (n : Option ℕ). AreRight self.places.items self.next n) (ap number_of c.in-Some.is ∙ ap Some (sym c.take.ensures.same.0)) self.right;
+      right =
+          subst (λ (n : Option ℕ). AreRight self.places.items self.next n)
+          (ap number_of c.in-Some.is ∙ ap Some (sym c.take.ensures.same.0)) self.right;
     }
 
 pub returns-in-Some-clause-visit : goal.returns-in-Some-clause-visit

@@ -1,4 +1,4 @@
-use Rattle.std.proofs.Common.{◌≡◌, ◌<◌, ◌≤◌, Bool, false, length, ap, subst, sym, ◌∙◌, arith}
+use Rattle.std.proofs.Common.{◌<◌, Bool, false, length, ap, subst, ◌∙◌, arith}
 use Rattle.aas_clients.specs.Places.{AreInTime}
 use Rattle.aas_clients.proofs.Places.{keeps_both}
 use Rattle.aas_clients.proofs.Tables.{in_time_step, only_from_step, quiet_step}
@@ -23,12 +23,29 @@ pub returns-clause-in_time : goal.returns-clause-in_time
 returns-clause-in_time g c = λ k below.
     let now = c.loop-number.self.places.items in
     let before = c.loop-number.invariant in
-    let in_time = subst (λ (b : Bool). AreInTime now c.loop-number.number b c.args.now) c.is_over-is_over.ensures.over before.in_time in
-    let seen : k < c.loop-number.number = omega (arith, below, before.keeps.size, c.loop-number-test.false, c.len-number-end.ensures, c.is_over-is_over.new.self.places.ok.0, ap length (ap (λ v. v.items) c.is_over-is_over.ensures.places.0)) in
+    let in_time = subst (λ (b : Bool). AreInTime now c.loop-number.number b c.args.now)
+    c.is_over-is_over.ensures.over before.in_time in
+    let seen : k < c.loop-number.number = omega (
+      arith,
+      below,
+      before.keeps.size,
+      c.loop-number-test.false,
+      c.len-number-end.ensures,
+      c.is_over-is_over.new.self.places.ok.0,
+      ap length (ap (λ v. v.items) c.is_over-is_over.ensures.places.0),
+    ) in
     in_time k seen
 
 pub returns-clause-quiet : goal.returns-clause-quiet
 returns-clause-quiet g c = λ not_over k below.
     let before = c.loop-number.invariant in
-    let seen : k < c.loop-number.number = omega (arith, below, before.keeps.size, c.loop-number-test.false, c.len-number-end.ensures, c.is_over-is_over.new.self.places.ok.0, ap length (ap (λ v. v.items) c.is_over-is_over.ensures.places.0)) in
+    let seen : k < c.loop-number.number = omega (
+      arith,
+      below,
+      before.keeps.size,
+      c.loop-number-test.false,
+      c.len-number-end.ensures,
+      c.is_over-is_over.new.self.places.ok.0,
+      ap length (ap (λ v. v.items) c.is_over-is_over.ensures.places.0),
+    ) in
     before.quiet (c.is_over-is_over.ensures.over ∙ not_over) k seen

@@ -1,5 +1,4 @@
 use Rattle.aas_clients.proofs.Places.{keeps_both, only_both}
-use Rattle.aas_clients.proofs.Tables.{quiet_in_time}
 use Rattle.aas_clients.proofs.table.Table.ticks.Goals as goal
 
 pub returns-clause-keeps : goal.returns-clause-keeps
