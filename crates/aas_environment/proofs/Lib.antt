@@ -1,7 +1,9 @@
 pub mod Blamed
+mod LineFeed
 mod Payload
 mod Poured
 mod Put
+mod ReadBack
 mod Settled
 pub mod WellFormed
 mod Written

@@ -25,7 +25,8 @@ use Rattle.aas_step.specs.Step.{ComesTo, Steps, accepted, refused}
 use Rattle.aas_store.specs.Documents.{Documents}
 use Rattle.aas_environment.specs.Members.{name_of}
 use Rattle.aas_environment.specs.declared.import_fault.ImportFault.{ImportFault}
-use Rattle.aas_environment.specs.declared.import_fault.ImportFault.TheVariants.{Full, NoMemory, Read, Rule, Storage, TooMany, Twice}
+use Rattle.aas_environment.specs.declared.import_fault.ImportFault.TheVariants.{Full, NoMemory, Read, Rule, Storage}
+use Rattle.aas_environment.specs.declared.import_fault.ImportFault.TheVariants.{TooMany, Twice}
 
 -- the bytes spell the environment
 abbrev pub Spell : List ℕ → Environment → Type 0
@@ -85,25 +86,31 @@ pub record IsRefused (room : Room) (r : Repository Documents) (bytes : List ℕ)
   pub blames : Blames environment fault
 
 -- it is accepted and kept
-pub record IsImported {I : Type 0} (room : Room) (stands_for : I → List (List ℕ) → Type 0) (r : Repository Documents) (bytes : List ℕ) (from : ℕ) (now : State Documents I) (counts : Counts) : Type 0 where
+pub record IsImported {I : Type 0} (room : Room) (stands_for : I → List (List ℕ) → Type 0)
+    (r : Repository Documents) (bytes : List ℕ) (from : ℕ) (now : State Documents I) (counts : Counts) : Type 0 where
   pub environment : Environment
   pub spelled : Spell bytes environment
   pub counted : counts ≡ counts_of environment
   pub accepted : IsAccepted room stands_for r (Import environment) from now
 
 -- it is accepted, but the keeper failed
-pub record IsTornImport {I : Type 0} (room : Room) (stands_for : I → List (List ℕ) → Type 0) (r : Repository Documents) (bytes : List ℕ) (from : ℕ) (now : State Documents I) : Type 0 where
+pub record IsTornImport {I : Type 0} (room : Room) (stands_for : I → List (List ℕ) → Type 0)
+    (r : Repository Documents) (bytes : List ℕ) (from : ℕ) (now : State Documents I) : Type 0 where
   pub environment : Environment
   pub spelled : Spell bytes environment
   pub torn : IsTorn room stands_for r (Import environment) from now
 
 -- by what is answered: but for a fault of the keeper everything is as before
-abbrev pub Imports : {I : Type 0} → Room → (I → List (List ℕ) → Type 0) → Repository Documents → List ℕ → ℕ → State Documents I → Result Counts ImportFault → Type 0
+abbrev pub Imports : {I : Type 0} → Room → (I → List (List ℕ) → Type 0)
+    → Repository Documents → List ℕ → ℕ → State Documents I → Result Counts ImportFault → Type 0
 Imports room stands_for r bytes from now (Ok counts) = IsImported room stands_for r bytes from now counts
-Imports room stands_for r bytes from now (Err (Read fault)) = (fault ≢ read.NoMemory) × ReadsBytes environments limits (Err fault) bytes × Holds stands_for r.records [] r from now
+Imports room stands_for r bytes from now (Err (Read fault)) =
+    (fault ≢ read.NoMemory) × ReadsBytes environments limits (Err fault) bytes
+    × Holds stands_for r.records [] r from now
 Imports room stands_for r bytes from now (Err Storage) = IsTornImport room stands_for r bytes from now
 Imports room stands_for r bytes from now (Err NoMemory) = Holds stands_for r.records [] r from now
-Imports room stands_for r bytes from now (Err fault) = IsRefused room r bytes fault × Holds stands_for r.records [] r from now
+Imports room stands_for r bytes from now (Err fault) =
+    IsRefused room r bytes fault × Holds stands_for r.records [] r from now
 
 -- ---- whatever the keeper tells
 

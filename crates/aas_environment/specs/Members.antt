@@ -33,4 +33,5 @@ name_text c = quoted (name_of c) ++ 58 ∷ []
 
 -- the text of that member, behind a comma where another stands before it
 abbrev pub member_text : Bool → Collection → Environment → List ℕ
-member_text later c e = option_map_or (λ list. comma_if later ++ (name_text c ++ compact_text list)) (listed (spellings c e)) []
+member_text later c e =
+    option_map_or (λ list. comma_if later ++ (name_text c ++ compact_text list)) (listed (spellings c e)) []

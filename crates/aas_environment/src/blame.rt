@@ -47,7 +47,8 @@ fn read_again(alloc: Global, bytes: &[u8]) -> Result<Environment, NoMemory>
     }
 }
 
-/// Its first document whose identifier is repeated, or else its first faulty one; where there is none, there is no room.
+/// Its first document whose identifier is repeated, or else its first faulty one;
+/// where there is none, there is no room.
 fn blame(alloc: Global, environment: &Environment) -> Result<ImportFault, NoMemory>
     ensures { IfOk result (Blames environment.now) }
 {
@@ -65,7 +66,8 @@ fn blame(alloc: Global, environment: &Environment) -> Result<ImportFault, NoMemo
 /// The fault of the document to which a pointer leads.
 fn faulty(pointer: Text, why: Refusal) -> ImportFault
     requires { IsOwn why }
-    ensures { (e : model.Environment) (document : Place) → first_repeated_in e ≡ None → first_faulty_in e ≡ Some (document, why)
+    ensures { (e : model.Environment) (document : Place) → first_repeated_in e ≡ None
+        → first_faulty_in e ≡ Some (document, why)
         → PointsTo pointer document → Blames e result }
 {
     match why {

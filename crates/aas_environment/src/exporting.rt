@@ -25,17 +25,19 @@ pub enum ExportFault {
 
 /// How many bytes an export of the repository gives, or `None` where they are 2^64 or more.
 pub fn measure_export<S: Store, K: Keeper>(repo: &Repo<S, K>) -> Option<u64>
-    ensures { let bytes = length (export_text repo.now.documents) in result ≡ (if nat_lt bytes (2 ^ 64) then Some bytes else None) }
+    ensures { let bytes = length (export_text repo.now.documents) in
+        result ≡ (if nat_lt bytes (2 ^ 64) then Some bytes else None) }
 {
     measure(&Export::new(repo.store()))
 }
 
-/// Gives the link all documents of the repository as one environment, and a line feed; it answers how many bytes that was.
+/// Gives the link all documents of the repository as one environment,
+/// and a line feed; it answers how many bytes that was.
 ///
 /// # Errors
 ///
-/// `TooLong` exactly where the text has 2^64 bytes or more: nothing is given then. At `Failed` the link failed, and a front of
-/// the text was given.
+/// `TooLong` exactly where the text has 2^64 bytes or more: nothing is given then. At `Failed` the link failed, and a
+/// front of the text was given.
 pub fn export<S: Store, K: Keeper, L: Link>(
     repo: &Repo<S, K>,
     link: &mut L,
@@ -44,7 +46,8 @@ pub fn export<S: Store, K: Keeper, L: Link>(
         × (L.sent link.new ≡ append_known (L.sent link.old) (export_text repo.now.documents))) }
     ensures too_long { (result ≡ Err ExportFault.TooLong) ↔ (2 ^ 64 ≤ length (export_text repo.now.documents)) }
     ensures untouched { result ≡ Err ExportFault.TooLong → link.new ≡ link.old }
-    ensures front { result ≡ Err ExportFault.Failed → GivesFront (L.sent link.old) (L.sent link.new) (export_text repo.now.documents) }
+    ensures front { result ≡ Err ExportFault.Failed
+        → GivesFront (L.sent link.old) (L.sent link.new) (export_text repo.now.documents) }
     ensures fault { result ≡ Err ExportFault.Failed → Rose (L.faults link.old) (L.faults link.new) }
     ensures later { L.faults link.old ≤ L.faults link.new }
     ensures surroundings { L.surroundings link.new ≡ L.surroundings link.old }

@@ -15,8 +15,8 @@ use std::alloc::Global;
 /// The tag of the payload of an import.
 const TAG: u8 = 17;
 
-/// The frame of the import of all documents of the store, which are valid. Besides the frame itself it takes the memory of its
-/// payload and of the text in that.
+/// The frame of the import of all documents of the store, which are valid. Besides the frame itself it takes the memory
+/// of its payload and of the text in that.
 pub fn import_frame<S: Store>(alloc: Global, store: &S) -> Result<Frame, EncodeFault>
     requires { AreValid (S.documents store.now) }
     ensures payload { MatchResult result

@@ -15,14 +15,15 @@ use aas_repo::{Counts, Repo};
 use aas_store::Store;
 use std::alloc::Global;
 
-/// Imports a file, the JSON text of an environment (IDTA-01001-3-0, class Environment), as one command: each of its documents
-/// is created, or put in the place of that which has its identifier. It answers how many documents these are.
+/// Imports a file, the JSON text of an environment (IDTA-01001-3-0, class Environment), as one command: each of its
+/// documents is created, or put in the place of that which has its identifier. It answers how many documents these are.
 ///
 /// # Errors
 ///
 /// `Read`; else `Twice`; else `Rule` or `TooMany`, document by document; else `Full`: nothing has changed then, nor at
-/// `NoMemory`, also in a keeper that doesn't tell what it keeps. Lists are looked at in the order shells, submodels, concept
-/// descriptions. At `Storage` the keeper failed, and the repository is stopped; its documents are those with the file's.
+/// `NoMemory`, also in a keeper that doesn't tell what it keeps. Lists are looked at in the order shells, submodels,
+/// concept descriptions. At `Storage` the keeper failed, and the repository is stopped; its documents are those with
+/// the file's.
 ///
 /// Where a document is refused the bytes are read again, to find its place.
 pub fn import<S: Store, K: Keeper>(
@@ -38,7 +39,8 @@ pub fn import<S: Store, K: Keeper>(
         (K.moment repo.old.keeper) (state_of K.kept K.moment K.left_at repo.new) result }
     ensures file { IfErr result (IsFileFault bytes.now) }
     ensures room { K.room_behind repo.new.keeper ≡ K.room_behind repo.old.keeper }
-    ensures past { PassesTo (state_of K.kept K.moment K.left_at repo.old) (state_of K.kept K.moment K.left_at repo.new) }
+    ensures past { PassesTo (state_of K.kept K.moment K.left_at repo.old)
+        (state_of K.kept K.moment K.left_at repo.new) }
     ensures stopped { result ≢ Err Storage → repo.new.stopped ≡ false }
     ensures stops { result ≡ Err Storage → repo.new.stopped ≡ true }
     ensures outcome { ComesOut (K.has_room repo.old.keeper) repo.old.documents bytes.now repo.new.documents result }

@@ -14,37 +14,38 @@ use crate::members::name_of;
 use aas_answer::pour_document;
 use aas_members_text::{Pen, comma_of};
 use aas_model::{Collection, Extent, Level, NoMemory};
-use aas_out::{Out, Pouring, TextOut, add};
+use aas_out::{Pouring, StringOut, TextEnd, add_text};
 use aas_store::Store;
 use std::alloc::Global;
-use std::str;
 
-/// Puts the canonical text of the environment of all documents of the store, which are valid: those of each collection in the
-/// byte order of their identifiers, and no member for a collection without any.
-pub fn pour_environment<S: Store, O: Out>(so_far: Pouring, store: &S, out: &mut O) -> Pouring
+/// Puts the canonical text of the environment of all documents of the store, which are valid: those of each collection
+/// in the byte order of their identifiers, and no member for a collection without any.
+pub fn pour_environment<S: Store, O: TextEnd>(so_far: Pouring, store: &S, out: &mut O) -> Pouring
     requires { AreValid (S.documents store.now) }
-    ensures { Adds so_far result (O.told out.old) (O.told out.new) (canonical_text environments (environment_of (S.documents store.now))) }
+    ensures { Adds so_far result (O.told out.old) (O.told out.new)
+        (canonical_text environments (environment_of (S.documents store.now))) }
 {
     let begun = Pen {
-        state: add(so_far, b"{", out),
+        state: add_text(so_far, "{", out),
         later: false,
     };
     let shells = put_member(begun, store, Collection::Shells, out);
     let concepts = put_member(shells, store, Collection::Concepts, out);
     let submodels = put_member(concepts, store, Collection::Submodels, out);
-    add(submodels.state, b"}", out)
+    add_text(submodels.state, "}", out)
 }
 
 /// Puts the member that lists a collection, unless that is empty.
-fn put_member<S: Store, O: Out>(pen: Pen, store: &S, collection: Collection, out: &mut O) -> Pen
+fn put_member<S: Store, O: TextEnd>(pen: Pen, store: &S, collection: Collection, out: &mut O) -> Pen
     requires { AreValid (S.documents store.now) }
-    ensures text { Adds pen.state result.state (O.told out.old) (O.told out.new) (member_text pen.later collection (environment_of (S.documents store.now))) }
+    ensures text { Adds pen.state result.state (O.told out.old) (O.told out.new)
+        (member_text pen.later collection (environment_of (S.documents store.now))) }
     ensures later { result.later ≡ (pen.later || has_member collection (environment_of (S.documents store.now))) }
 {
     if store.count(collection) == 0 {
         return pen;
     }
-    let comma = add(pen.state, comma_of(pen.later), out);
+    let comma = add_text(pen.state, comma_of(pen.later), out);
     let named = put_name(comma, collection, out);
     Pen {
         state: pour_documents(named, store, collection, out),
@@ -53,28 +54,29 @@ fn put_member<S: Store, O: Out>(pen: Pen, store: &S, collection: Collection, out
 }
 
 /// Puts the name of the member that lists a collection, and its colon.
-fn put_name<O: Out>(so_far: Pouring, collection: Collection, out: &mut O) -> Pouring
+fn put_name<O: TextEnd>(so_far: Pouring, collection: Collection, out: &mut O) -> Pouring
     ensures { Adds so_far result (O.told out.old) (O.told out.new) (name_text collection) }
 {
-    let opened = add(so_far, b"\"", out);
-    let named = add(opened, name_of(collection).as_bytes(), out);
-    add(named, b"\":", out)
+    let opened = add_text(so_far, "\"", out);
+    let named = add_text(opened, name_of(collection), out);
+    add_text(named, "\":", out)
 }
 
 /// Puts the array of all documents of a collection.
-fn pour_documents<S: Store, O: Out>(
+fn pour_documents<S: Store, O: TextEnd>(
     so_far: Pouring,
     store: &S,
     collection: Collection,
     out: &mut O,
 ) -> Pouring
     requires { AreValid (S.documents store.now) }
-    ensures { Adds so_far result (O.told out.old) (O.told out.new) (compact_text (array (spellings collection (environment_of (S.documents store.now))))) }
+    ensures { Adds so_far result (O.told out.old) (O.told out.new)
+        (compact_text (array (spellings collection (environment_of (S.documents store.now))))) }
 {
-    let mut state = add(so_far, b"[", out);
+    let mut state = add_text(so_far, "[", out);
     let mut after = None;
     while let Some(id) = store.id_after(collection, after) {
-        let comma = add(state, comma_of(after.is_some()), out);
+        let comma = add_text(state, comma_of(after.is_some()), out);
         state = pour_document(
             comma,
             store,
@@ -86,29 +88,19 @@ fn pour_documents<S: Store, O: Out>(
         );
         after = Some(id);
     }
-    add(state, b"]", out)
+    add_text(state, "]", out)
 }
 
 /// The text that `pour_environment` puts. It is all that memory is taken for.
 pub(crate) fn export_text<S: Store>(alloc: Global, store: &S) -> Result<Vec<u8>, NoMemory>
     requires { AreValid (S.documents store.now) }
-    ensures text { IfOk result (λ text. text.items ≡ canonical_text environments (environment_of (S.documents store.now))) }
+    ensures text { IfOk result (λ text.
+        text.items ≡ canonical_text environments (environment_of (S.documents store.now))) }
     ensures utf8 { IfOk result (λ text. IsUtf8 text.items) }
 {
-    let mut out = TextOut::new(alloc);
+    let mut out = StringOut::new(alloc);
     match pour_environment(Pouring::Going, store, &mut out) {
-        Pouring::Going => checked(out.into_text()),
+        Pouring::Going => Ok(out.into_text().into_bytes()),
         Pouring::Stopped => Err(NoMemory),
     }
-}
-
-/// The text, which is UTF-8. No contract says so of what is put, so it is found here; the error of that never comes.
-fn checked(text: Vec<u8>) -> Result<Vec<u8>, NoMemory>
-    ensures text { IfOk result (λ checked. checked.items ≡ text.items) }
-    ensures utf8 { IfOk result (λ checked. IsUtf8 checked.items) }
-{
-    if str::from_utf8(&text).is_err() {
-        return Err(NoMemory);
-    }
-    Ok(text)
 }

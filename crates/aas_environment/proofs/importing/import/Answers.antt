@@ -26,12 +26,20 @@ returns-after-refusal-clause-imports g c = λ records settled.
     let before = state_of K.kept K.moment K.left_at old in
     let now = state_of K.kept K.moment K.left_at c.act.new.self in
     let acts = c.in-Err-act.ensures.acts records settled in
-    let Answers : Result Counts ImportFault → Type 0 = Imports (K.room_behind old.keeper) K.stands_for (repository_of before records) c.args.bytes.now (K.moment old.keeper) now in
+    let Answers : Result Counts ImportFault → Type 0 = Imports (K.room_behind old.keeper) K.stands_for
+    (repository_of before records) c.args.bytes.now (K.moment old.keeper) now in
     elim c.match-refusal.branch [
-      | in-StorageFault w ↦ subst Answers (sym w.result-is) (record { environment = c.in-Ok.environment; spelled = c.in-Ok.ensures.reads; torn = acts.0 w.in-StorageFault.is })
-      | in-NoMemory w ↦ subst Answers (sym w.result-is) (acts.1 (λ is. let wrong = sym w.in-NoMemory.is ∙ is in absurd (cc)))
-      | in_default w ↦ subst Answers (sym w.result-is) (answered (K.room_behind old.keeper) K.stands_for (repository_of before records) c.args.bytes.now (K.moment old.keeper) now
-          c.in-Ok.environment c.in-Ok.ensures.reads c.in-Err-act.refusal (acts.2 w.in_default.not-StorageFault w.in_default.not-NoMemory) (acts.1 w.in_default.not-StorageFault)
+      | in-StorageFault w ↦ subst Answers (sym w.result-is) (record {
+        environment = c.in-Ok.environment;
+        spelled = c.in-Ok.ensures.reads;
+        torn = acts.0 w.in-StorageFault.is;
+      })
+      | in-NoMemory w ↦
+          subst Answers (sym w.result-is) (acts.1 (λ is. let wrong = sym w.in-NoMemory.is ∙ is in absurd (cc)))
+      | in_default w ↦ subst Answers (sym w.result-is) (answered (K.room_behind old.keeper) K.stands_for
+          (repository_of before records) c.args.bytes.now (K.moment old.keeper) now
+          c.in-Ok.environment c.in-Ok.ensures.reads c.in-Err-act.refusal
+          (acts.2 w.in_default.not-StorageFault w.in_default.not-NoMemory) (acts.1 w.in_default.not-StorageFault)
           w.fault_of.result (λ left. w.fault_of.ensures left c.in-Ok.environment c.in-Ok.ensures.reads))
     ]
 
@@ -42,7 +50,8 @@ returns-after-refusal-clause-file g c =
       | in-StorageFault w ↦ subst Tells (sym w.result-is) tt
       | in-NoMemory w ↦ subst Tells (sym w.result-is) tt
       | in_default w ↦ subst Tells (sym w.result-is)
-          (file_fault c.args.bytes.now (c.in-Ok.environment, c.in-Ok.ensures.reads) w.fault_of.result w.fault_of.ensures)
+          (file_fault c.args.bytes.now
+          (c.in-Ok.environment, c.in-Ok.ensures.reads) w.fault_of.result w.fault_of.ensures)
     ]
 
 pub returns-after-refusal-clause-fault : goal.returns-after-refusal-clause-fault
@@ -52,7 +61,8 @@ returns-after-refusal-clause-fault g c = λ storage.
       | in-NoMemory w ↦ let wrong = sym w.result-is ∙ storage in absurd (cc)
       | in_default w ↦
           let is : w.fault_of.result ≡ Storage = let both = sym w.result-is ∙ storage in cc in
-          let blames = w.fault_of.ensures (λ left. let wrong = sym is ∙ left in absurd (cc)) c.in-Ok.environment c.in-Ok.ensures.reads in
+          let blames = w.fault_of.ensures (λ left. let wrong = sym is ∙ left in absurd (cc))
+          c.in-Ok.environment c.in-Ok.ensures.reads in
           absurd (subst (λ fault. Blames c.in-Ok.environment fault) is blames)
     ]
 
@@ -63,7 +73,8 @@ returns-after-refusal-clause-stops g c = λ storage.
       | in-NoMemory w ↦ let wrong = sym w.result-is ∙ storage in absurd (cc)
       | in_default w ↦
           let is : w.fault_of.result ≡ Storage = let both = sym w.result-is ∙ storage in cc in
-          let blames = w.fault_of.ensures (λ left. let wrong = sym is ∙ left in absurd (cc)) c.in-Ok.environment c.in-Ok.ensures.reads in
+          let blames = w.fault_of.ensures (λ left. let wrong = sym is ∙ left in absurd (cc))
+          c.in-Ok.environment c.in-Ok.ensures.reads in
           absurd (subst (λ fault. Blames c.in-Ok.environment fault) is blames)
     ]
 
@@ -76,7 +87,11 @@ returns-after-refusal-clause-outcome g c =
     let Answers : Result Counts ImportFault → Type 0 = ComesOut has_room old c.args.bytes.now new in
     elim c.match-refusal.branch [
       | in-StorageFault w ↦ subst Answers (sym w.result-is)
-          (record { environment = c.in-Ok.environment; spelled = c.in-Ok.ensures.reads; comes = outcome.0 w.in-StorageFault.is })
+          (record {
+            environment = c.in-Ok.environment;
+            spelled = c.in-Ok.ensures.reads;
+            comes = outcome.0 w.in-StorageFault.is;
+          })
       | in-NoMemory w ↦ subst Answers (sym w.result-is) tt
       | in_default w ↦ subst Answers (sym w.result-is)
           (comes_out has_room old new c.args.bytes.now c.in-Ok.environment c.in-Ok.ensures.reads c.in-Err-act.refusal
@@ -86,12 +101,14 @@ returns-after-refusal-clause-outcome g c =
 
 pub returns-after-refusal-clause-unchanged : goal.returns-after-refusal-clause-unchanged
 returns-after-refusal-clause-unchanged g c =
-    let Stays : Result Counts ImportFault → Type 0 = λ result. IfErr result (λ fault. fault ≢ Storage → c.act.new.self ≡ c.args.repo.now) in
+    let Stays : Result Counts ImportFault → Type 0 = λ result.
+    IfErr result (λ fault. fault ≢ Storage → c.act.new.self ≡ c.args.repo.now) in
     elim c.match-refusal.branch [
       | in-StorageFault w ↦ subst Stays (sym w.result-is) (λ not. absurd (not refl))
       | in-NoMemory w ↦ subst Stays (sym w.result-is)
           (λ not. c.in-Err-act.ensures.unchanged (λ is. let wrong = sym w.in-NoMemory.is ∙ is in absurd (cc)))
-      | in_default w ↦ subst Stays (sym w.result-is) (λ not. c.in-Err-act.ensures.unchanged w.in_default.not-StorageFault)
+      | in_default w ↦
+          subst Stays (sym w.result-is) (λ not. c.in-Err-act.ensures.unchanged w.in_default.not-StorageFault)
     ]
 
 pub returns-in-Ok-act-clause-outcome : goal.returns-in-Ok-act-clause-outcome

@@ -1,5 +1,5 @@
-use Rattle.std.proofs.Common.{◌≡◌, ap, ◌∙◌}
-use Rattle.std.proofs.lemmas.Result.{IfOk-weaker}
+use Rattle.std.proofs.Common.{◌≡◌, IsUtf8, string_bytes, subst, sym, ap}
+use Rattle.std.proofs.lemmas.Str.{IsUtf8-string_bytes}
 use Rattle.aas_json_mapping.specs.Trees.{environments}
 use Rattle.aas_json_spelling.specs.Spells.{canonical_text}
 use Rattle.aas_out.proofs.TextPoured.{text_poured}
@@ -9,6 +9,12 @@ use Rattle.aas_environment.proofs.pouring.export_text.Goals as goal
 pub returns-in-Going-clause-text : goal.returns-in-Going-clause-text
 returns-in-Going-clause-text g c =
     let whole = canonical_text environments (environment_of (g.S.Store.documents c.args.store.now)) in
-    let put = text_poured c.new-out.result.text.items c.pour_environment.new.out.text.items c.new-out.result.faults c.pour_environment.new.out.faults
+    let poured : string_bytes c.pour_environment.new.out.text ≡ whole =
+    text_poured (string_bytes c.new-out.result.text)
+    (string_bytes c.pour_environment.new.out.text) c.new-out.result.faults c.pour_environment.new.out.faults
     c.pour_environment.result whole c.pour_environment.ensures c.new-out.ensures c.in-Going.is in
-    IfOk-weaker c.checked.result (λ (text : _). text.items ≡ c.into_text.result.items) (λ text. text.items ≡ whole) (λ text is. is ∙ ap (λ text. text.items) c.into_text.ensures ∙ put) c.checked.ensures.text
+    cc
+
+pub returns-in-Going-clause-utf8 : goal.returns-in-Going-clause-utf8
+returns-in-Going-clause-utf8 g c =
+    subst IsUtf8 (sym (ap (λ v. v.items) c.into_bytes.ensures.value)) (IsUtf8-string_bytes c.into_text.result)

@@ -1,4 +1,4 @@
-use Rattle.std.proofs.Common.{◌++◌, codes, ◌∙◌}
+use Rattle.std.proofs.Common.{◌++◌, codes}
 use Rattle.aas_out.proofs.Adding.{adds_both, adds_same}
 use Rattle.aas_environment.specs.Members.{name_text}
 use Rattle.aas_environment.proofs.Written.{plain_name}
@@ -6,12 +6,14 @@ use Rattle.aas_environment.proofs.pouring.put_name.Goals as goal
 
 pub returns : goal.returns
 returns g c =
-    let t = g.O.Out.told c.args.out.now in
-    let u = g.O.Out.told c.add-opened.new.out in
-    let v = g.O.Out.told c.add-named.new.out in
-    let w = g.O.Out.told c.add.new.out in
-    let name = c.as_bytes.result.now in
-    adds_same c.args.so_far c.add.result t w (codes "\"" ++ (name ++ codes "\":")) (name_text c.args.collection)
-    (adds_both c.args.so_far c.add-opened.result c.add.result t u w (codes "\"") (name ++ codes "\":") c.add-opened.ensures
-    (adds_both c.add-opened.result c.add-named.result c.add.result u v w name (codes "\":") c.add-named.ensures c.add.ensures))
-    (plain_name c.args.collection name (c.as_bytes.ensures.value ∙ c.name_of.ensures))
+    let t = g.O.TextEnd.told c.args.out.now in
+    let u = g.O.TextEnd.told c.add_text-opened.new.out in
+    let v = g.O.TextEnd.told c.add_text-named.new.out in
+    let w = g.O.TextEnd.told c.add_text.new.out in
+    let name = c.name_of.result.now in
+    adds_same c.args.so_far c.add_text.result t w (codes "\"" ++ (name ++ codes "\":")) (name_text c.args.collection)
+    (adds_both c.args.so_far c.add_text-opened.result c.add_text.result t u w
+    (codes "\"") (name ++ codes "\":") c.add_text-opened.ensures
+    (adds_both c.add_text-opened.result c.add_text-named.result c.add_text.result u v w name
+    (codes "\":") c.add_text-named.ensures c.add_text.ensures))
+    (plain_name c.args.collection name c.name_of.ensures)

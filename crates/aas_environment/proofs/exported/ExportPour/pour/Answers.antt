@@ -15,5 +15,6 @@ returns g c =
     rw c.outcome.ensures
     (outcome_puts c.add.result t v c.args.self.now
     (adds_same Going c.add.result t v (text ++ codes "\n") c.args.self.now
-    (adds_both Going c.pour_environment-told.result c.add.result t u v text (codes "\n") c.pour_environment-told.ensures c.add.ensures)
+    (adds_both Going c.pour_environment-told.result c.add.result t u v text
+    (codes "\n") c.pour_environment-told.ensures c.add.ensures)
     c.self.view_is))
