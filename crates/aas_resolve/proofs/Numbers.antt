@@ -38,7 +38,9 @@ number_none [] e = refl
 number_none (c ∷ cs) e = ap (λ b. cond b (Some (digits_value 10 (c ∷ cs))) None) e
 
 pub number_decimal : (n : ℕ) → n < 2 ^ 64 → number (decimal n) ≡ Some n
-number_decimal n small = number_is (decimal n) (digits_decimal own n small) (decimal_nonempty n small) ∙ ap (λ n. Some n) (digits_value-decimal own n small)
+number_decimal n small =
+    number_is (decimal n) (digits_decimal own n small) (decimal_nonempty n small)
+    ∙ ap (λ n. Some n) (digits_value-decimal own n small)
 
 -- ---- what is read of digits
 
@@ -48,7 +50,8 @@ as_bytes [] e = refl
 as_bytes (d ∷ ds) e =
     let first = and_left (is_digit d) (list_all is_digit ds) e in
     let low : d ≤ 57 = leb-true d 57 (and_right (nat_le 48 d) (nat_le d 57) first) in
-    ap (λ bs. bs ++ encode_utf8_all ds) (encode_ascii d (omega arith)) ∙ ap (λ bs. d ∷ bs) (as_bytes ds (and_right (is_digit d) (list_all is_digit ds) e))
+    ap (λ bs. bs ++ encode_utf8_all ds) (encode_ascii d (omega arith))
+    ∙ ap (λ bs. d ∷ bs) (as_bytes ds (and_right (is_digit d) (list_all is_digit ds) e))
 
 abbrev capped : Option ℕ → Option ℕ
 capped o = option_map (min (2 ^ 64 - 1)) o

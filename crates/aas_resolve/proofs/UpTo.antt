@@ -14,8 +14,10 @@ UpTo m c start now after = start ++ dangling_among m c ≡ now ++ flat_map (dang
 pub at_first : (m : Documents) (c : Collection) (start : List Dangling) → UpTo m c start start None
 at_first m c start = ap (λ all. start ++ flat_map (dangling_in m c) all) (sym (all_above_none (ids c m)))
 
-pub one_more : (m : Documents) (c : Collection) (start now new : List Dangling) (after : Option Identifier) (id : Identifier)
-    → first_above after (ids c m) ≡ Some id → new ≡ now ++ dangling_in m c id → UpTo m c start now after → UpTo m c start new (Some id)
+pub one_more : (m : Documents) (c : Collection)
+    (start now new : List Dangling) (after : Option Identifier) (id : Identifier)
+    → first_above after (ids c m) ≡ Some id → new ≡ now ++ dangling_in m c id
+    → UpTo m c start now after → UpTo m c start new (Some id)
 one_more m c start now new after id is added so_far =
     let rest = flat_map (dangling_in m c) (above (Some id) (ids c m)) in
     so_far ∙ ap (λ all. now ++ flat_map (dangling_in m c) all) (next after id (ids c m) (ids_rise c m) is)

@@ -1,7 +1,9 @@
--- The references in some documents that lead nowhere, and where they stand: by collection, shells, submodels and then concept descriptions; in it by
--- identifier in byte order; in a submodel its own references and then those of its elements in preorder; at one document or element in the order
--- of Held. This profile's own rule, for the command `check`.
-use Rattle.std.specs.Prelude.{ℕ, if◌then◌else◌, List, [], ◌∷◌, ◌++◌, map, filter_map, flat_map, Option, Some, None, Result, Ok, Err}
+-- The references in some documents that lead nowhere, and where they stand: by collection, shells, submodels and then
+-- concept descriptions; in it by identifier in byte order; in a submodel its own references and then those of its
+-- elements in preorder; at one document or element in the order of Held. This profile's own rule, for the command
+-- `check`.
+use Rattle.std.specs.Prelude.{ℕ, if◌then◌else◌, List, [], ◌∷◌, ◌++◌, map, filter_map, flat_map, Option, Some, None}
+use Rattle.std.specs.Prelude.{Result, Ok, Err}
 use Rattle.std.specs.FinMap as fin
 use Rattle.std.specs.Option.{option_map_or}
 use Rattle.std.specs.Str.{chars}
@@ -46,12 +48,14 @@ abbrev pub dangling_at_site : Documents → Identifier → List PathStep → Sit
 dangling_at_site m id p x = dangling_at m Submodels id (p ++ x.path) (held_by_element x.own)
 
 abbrev pub dangling_in_submodel : Documents → Identifier → Submodel → List Dangling
-dangling_in_submodel m id d = dangling_at m Submodels id [] (held_by_submodel d) ++ flat_map (dangling_at_site m id []) (sites_of d)
+dangling_in_submodel m id d =
+    dangling_at m Submodels id [] (held_by_submodel d) ++ flat_map (dangling_at_site m id []) (sites_of d)
 
 abbrev pub dangling_in : Documents → Collection → Identifier → List Dangling
 dangling_in m Shells id = option_map_or (λ s. dangling_at m Shells id [] (held_by_shell s)) (fin.get m.shells id) []
 dangling_in m Submodels id = option_map_or (dangling_in_submodel m id) (fin.get m.submodels id) []
-dangling_in m Concepts id = option_map_or (λ c. dangling_at m Concepts id [] (held_by_concept c)) (fin.get m.concepts id) []
+dangling_in m Concepts id =
+    option_map_or (λ c. dangling_at m Concepts id [] (held_by_concept c)) (fin.get m.concepts id) []
 
 abbrev pub dangling_among : Documents → Collection → List Dangling
 dangling_among m c = flat_map (dangling_in m c) (ids c m)

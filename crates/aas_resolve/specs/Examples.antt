@@ -1,5 +1,6 @@
 -- What the definitions say of a few references.
-use Rattle.std.specs.Prelude.{◌≡◌, ℕ, List, [], ◌∷◌, true, false, if◌then◌else◌, codes, refl, Option, Some, None, Result, Ok}
+use Rattle.std.specs.Prelude.{◌≡◌, ℕ, List, [], ◌∷◌, true, false, if◌then◌else◌, codes, refl, Option, Some, None}
+use Rattle.std.specs.Prelude.{Result, Ok}
 use Rattle.aas_constraint_rules.specs.Sites.{Own}
 use Rattle.aas_model.specs.declared.path.PathStep.TheVariants.{Name, Place}
 use Rattle.aas_model.specs.declared.element.Role.TheVariants.{Member}
@@ -130,7 +131,8 @@ of_a_relationship a b c d e = refl
 
 -- semanticId, semanticIdListElement, supplementalSemanticIds
 pub of_a_list : (a b c : Reference)
-    → held_by_element (element (Some a) (c ∷ []) (p.SubmodelElementList None (Some b) element_name.Property None)) ≡ a ∷ b ∷ c ∷ []
+    → held_by_element (element (Some a) (c ∷ []) (p.SubmodelElementList None (Some b) element_name.Property None))
+    ≡ a ∷ b ∷ c ∷ []
 of_a_list a b c = refl
 
 -- semanticId, supplementalSemanticIds, valueId

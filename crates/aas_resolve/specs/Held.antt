@@ -1,6 +1,7 @@
--- The references in the attributes of a document or an element that are looked at: those of an object in the byte order of the names of its members,
--- those of a list in its order, as they stand in canonical text (JSON mapping of IDTA-01001-3-0). The reference within a reference, its
--- referredSemanticId, and kept data aren't looked at; this and the order are this profile's own rules.
+-- The references in the attributes of a document or an element that are looked at: those of an object in the byte order
+-- of the names of its members, those of a list in its order, as they stand in canonical text (JSON mapping of
+-- IDTA-01001-3-0). The reference within a reference, its referredSemanticId, and kept data aren't looked at; this and
+-- the order are this profile's own rules.
 use Rattle.std.specs.Prelude.{ℕ, List, [], ◌∷◌, ◌++◌, codes, flat_map}
 use Rattle.std.specs.Ordering.{nat_cmp, match_ordering}
 use Rattle.std.specs.Cmp.Lexicographic.{slice_cmp}
@@ -40,7 +41,8 @@ held_by members = flat_map (λ x. x.1) (in_order members)
 -- ---- parts
 
 abbrev pub semantics_members : Semantics → List Member
-semantics_members s = (codes "semanticId", as_list s.semantic_id) ∷ (codes "supplementalSemanticIds", s.supplemental_semantic_ids) ∷ []
+semantics_members s =
+    (codes "semanticId", as_list s.semantic_id) ∷ (codes "supplementalSemanticIds", s.supplemental_semantic_ids) ∷ []
 
 abbrev pub held_by_extension : Extension → List Reference
 held_by_extension e = held_by ((codes "refersTo", e.refers_to) ∷ semantics_members e.semantics)
@@ -49,7 +51,8 @@ abbrev pub held_by_qualifier : Qualifier → List Reference
 held_by_qualifier q = held_by ((codes "valueId", as_list q.value_id) ∷ semantics_members q.semantics)
 
 abbrev pub held_by_asset_id : SpecificAssetId → List Reference
-held_by_asset_id a = held_by ((codes "externalSubjectId", as_list a.external_subject_id) ∷ semantics_members a.semantics)
+held_by_asset_id a =
+    held_by ((codes "externalSubjectId", as_list a.external_subject_id) ∷ semantics_members a.semantics)
 
 abbrev pub held_by_administration : Administration → List Reference
 held_by_administration a = held_by ((codes "creator", as_list a.creator) ∷ [])
@@ -64,10 +67,13 @@ abbrev pub own_members : Payload → List Member
 own_members (p.Property t v i) = (codes "valueId", as_list i) ∷ []
 own_members (p.MultiLanguageProperty v i) = (codes "valueId", as_list i) ∷ []
 own_members (p.ReferenceElement v) = (codes "value", as_list v) ∷ []
-own_members (p.RelationshipElement first second) = (codes "first", as_list first) ∷ (codes "second", as_list second) ∷ []
-own_members (p.AnnotatedRelationshipElement first second) = (codes "first", as_list first) ∷ (codes "second", as_list second) ∷ []
+own_members (p.RelationshipElement first second) =
+    (codes "first", as_list first) ∷ (codes "second", as_list second) ∷ []
+own_members (p.AnnotatedRelationshipElement first second) =
+    (codes "first", as_list first) ∷ (codes "second", as_list second) ∷ []
 own_members (p.Entity t g ids) = (codes "specificAssetIds", flat_map held_by_asset_id ids) ∷ []
-own_members (p.BasicEventElement observed d s topic broker last min max) = (codes "observed", as_list observed) ∷ (codes "messageBroker", as_list broker) ∷ []
+own_members (p.BasicEventElement observed d s topic broker last min max) =
+    (codes "observed", as_list observed) ∷ (codes "messageBroker", as_list broker) ∷ []
 own_members (p.SubmodelElementList o s t v) = (codes "semanticIdListElement", as_list s) ∷ []
 own_members _ = []
 
@@ -91,11 +97,13 @@ head_members h =
 
 abbrev pub held_by_shell : Shell → List Reference
 held_by_shell s =
-    held_by (head_members s.head ++ (codes "assetInformation", held_by_asset s.asset) ∷ (codes "derivedFrom", as_list s.derived_from) ∷ (codes "submodels", s.submodels) ∷ [])
+    held_by (head_members s.head ++ (codes "assetInformation", held_by_asset s.asset)
+    ∷ (codes "derivedFrom", as_list s.derived_from) ∷ (codes "submodels", s.submodels) ∷ [])
 
 -- the references of a submodel, without those of its elements
 abbrev pub held_by_submodel : Submodel → List Reference
-held_by_submodel d = held_by (head_members d.head ++ (codes "qualifiers", flat_map held_by_qualifier d.qualifiers) ∷ semantics_members d.semantics)
+held_by_submodel d = held_by (head_members d.head
+    ++ (codes "qualifiers", flat_map held_by_qualifier d.qualifiers) ∷ semantics_members d.semantics)
 
 abbrev pub held_by_concept : Concept → List Reference
 held_by_concept c = held_by (head_members c.head ++ (codes "isCaseOf", c.is_case_of) ∷ [])

@@ -1,5 +1,6 @@
 -- The references that the server gives out lead back.
-use Rattle.std.specs.Prelude.{◌≡◌, ℕ, ◌+◌, ◌<◌, ◌^◌, false, List, [], ◌∷◌, length, take, slice_get, Some, None, Option, option_and_then, option_map, Ok}
+use Rattle.std.specs.Prelude.{◌≡◌, ℕ, ◌+◌, ◌<◌, ◌^◌, false, List, [], ◌∷◌, length, take, slice_get, Some, None, Option}
+use Rattle.std.specs.Prelude.{option_and_then, option_map, Ok}
 use Rattle.std.specs.FinMap as map
 use Rattle.std.specs.Str.{encode_utf8_all}
 use Rattle.aas_form.specs.ReferenceTo.{reference_to, shell_reference}
@@ -20,12 +21,14 @@ use Rattle.aas_resolve.specs.Resolved.{resolved}
 unfoldable pub rank_below : List PathStep → Element → Option ℕ
 rank_below [] e = Some 0
 rank_below (s ∷ p) e =
-    option_and_then (λ c. option_map (λ r. 1 + length (elements_of_all (take c.0 (kids_of e))) + r) (rank_below p c.1)) (child_by (is_list e) s (kids_of e))
+    option_and_then (λ c. option_map (λ r. 1 + length (elements_of_all (take c.0 (kids_of e))) + r) (rank_below p c.1))
+    (child_by (is_list e) s (kids_of e))
 
 -- the same in a submodel, whose first child has rank 0
 abbrev pub rank_at : Submodel → PathStep → List PathStep → Option ℕ
 rank_at d s p =
-    option_and_then (λ c. option_map (λ r. length (elements_of_all (take c.0 d.kids)) + r) (rank_below p c.1)) (child_by false s d.kids)
+    option_and_then (λ c. option_map (λ r. length (elements_of_all (take c.0 d.kids)) + r) (rank_below p c.1))
+    (child_by false s d.kids)
 
 -- a reference leads to the element to which a path leads: to its rank, at which it stands in preorder
 pub record LeadsTo (m : Documents) (r : Reference) (d : Submodel) (s : PathStep) (p : List PathStep) : Type 0 where
@@ -36,12 +39,14 @@ pub record LeadsTo (m : Documents) (r : Reference) (d : Submodel) (s : PathStep)
 
 -- to an element of a submodel that stands under its own identifier and whose elements 64 bits count
 abbrev pub ElementsLeadBack : Type 0
-ElementsLeadBack = (m : Documents) (d : Submodel) (s : PathStep) (p : List PathStep) (r : Reference) → element_count d < 2 ^ 64
+ElementsLeadBack =
+    (m : Documents) (d : Submodel) (s : PathStep) (p : List PathStep) (r : Reference) → element_count d < 2 ^ 64
     → map.get m.submodels (encode_utf8_all d.head.id) ≡ Some d → reference_to d (s ∷ p) ≡ Some r → LeadsTo m r d s p
 
 -- to that submodel itself
 abbrev pub SubmodelsLeadBack : Type 0
-SubmodelsLeadBack = (m : Documents) (d : Submodel) (r : Reference) → map.get m.submodels (encode_utf8_all d.head.id) ≡ Some d → reference_to d [] ≡ Some r
+SubmodelsLeadBack = (m : Documents) (d : Submodel) (r : Reference)
+    → map.get m.submodels (encode_utf8_all d.head.id) ≡ Some d → reference_to d [] ≡ Some r
     → resolved m r ≡ Ok (record { collection = Submodels; rank = None })
 
 -- to a shell that stands under its own identifier

@@ -1,5 +1,5 @@
--- The references of the members that one kind of element has for itself, by where their names stand in byte order among those that every element has: extensions,
--- qualifiers, semanticId, supplementalSemanticIds.
+-- The references of the members that one kind of element has for itself, by where their names stand in byte order among
+-- those that every element has: extensions, qualifiers, semanticId, supplementalSemanticIds.
 use Rattle.std.specs.Prelude.{List, [], ◌++◌, flat_map}
 use Rattle.aas_model.specs.declared.payload.Payload.{Payload}
 use Rattle.aas_model.specs.declared.payload.Payload.TheVariants as p

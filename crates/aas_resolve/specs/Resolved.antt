@@ -1,9 +1,11 @@
--- To what a reference leads in some documents (IDTA-01001-3-0, classes Reference and Key, enumeration KeyTypes): its first key names a document, and
--- each later key a child of what the keys before it lead to. This profile's own rules are: the order in which Identifiable looks through the
--- collections; that an idShort leads to the first child that has it; that under a SubmodelElementList a place is any count of ASCII digits, at
--- least one; that a FragmentReference leads nowhere but as the last key, where it stays; and that an ExternalReference, as a reference without
--- keys, leads nowhere at key 0.
-use Rattle.std.specs.Prelude.{ℕ, ◌+◌, ◌-◌, ◌^◌, min, Bool, true, false, if◌then◌else◌, List, [], ◌∷◌, bytes_eq, Option, Some, None, option_and_then, option_map, Result, Ok, Err}
+-- To what a reference leads in some documents (IDTA-01001-3-0, classes Reference and Key, enumeration KeyTypes): its
+-- first key names a document, and each later key a child of what the keys before it lead to. This profile's own rules
+-- are: the order in which Identifiable looks through the collections; that an idShort leads to the first child that has
+-- it; that under a SubmodelElementList a place is any count of ASCII digits, at least one; that a FragmentReference
+-- leads nowhere but as the last key, where it stays; and that an ExternalReference, as a reference without keys, leads
+-- nowhere at key 0.
+use Rattle.std.specs.Prelude.{ℕ, ◌+◌, ◌-◌, ◌^◌, min, Bool, true, false, if◌then◌else◌, List, [], ◌∷◌, bytes_eq, Option}
+use Rattle.std.specs.Prelude.{Some, None, option_and_then, option_map, Result, Ok, Err}
 use Rattle.std.specs.FinMap as map
 use Rattle.std.specs.List.{find, list_all}
 use Rattle.std.specs.Option.{option_map_or}
@@ -85,7 +87,9 @@ if_admitted t s = if admits t s.kind then Some s else None
 
 -- the child that a key names
 abbrev pub child_named : Submodel → Option Spot → Key → Option Spot
-child_named d at k = option_and_then (λ s. option_and_then (if_admitted k.key_type) (spot_below d (rank_of at) s)) (step_spelled (is_list_at at) k.value)
+child_named d at k =
+    option_and_then (λ s. option_and_then (if_admitted k.key_type) (spot_below d (rank_of at) s))
+    (step_spelled (is_list_at at) k.value)
 
 -- the child that a key names in the document of an identifier; a shell and a concept description have none
 abbrev pub child_of : Documents → Collection → Identifier → Option Spot → Key → Option Spot
@@ -97,23 +101,26 @@ child_of m c id at k = None
 abbrev pub lost : ℕ → Result Target Unresolved
 lost n = Err (record { key = n })
 
-abbrev pub reached : Collection → Option Spot → Result Target Unresolved
-reached c at = Ok (record { collection = c; rank = rank_of at })
+abbrev pub target_at : Collection → Option Spot → Result Target Unresolved
+target_at c at = Ok (record { collection = c; rank = rank_of at })
 
 -- a key stays where those before it lead to, if it is a FragmentReference and none follows
 abbrev pub stays : Key → List Key → Bool
 stays k [] = is_fragment k.key_type
 stays k (next ∷ ks) = false
 
--- to what keys lead, from what those before them have led to, by the child that each of them names; the first of them is the n-th of the reference
-abbrev pub along : (Option Spot → Key → Option Spot) → Collection → ℕ → Option Spot → List Key → Result Target Unresolved
-along child c n at [] = reached c at
+-- to what keys lead, from what those before them have led to, by the child that each of them names;
+-- the first of them is the n-th of the reference
+abbrev pub along : (Option Spot → Key → Option Spot) → Collection
+    → ℕ → Option Spot → List Key → Result Target Unresolved
+along child c n at [] = target_at c at
 along child c n at (k ∷ ks) =
-    if stays k ks then reached c at else option_map_or (λ s. along child c (n + 1) (Some s) ks) (child at k) (lost n)
+    if stays k ks then target_at c at else option_map_or (λ s. along child c (n + 1) (Some s) ks) (child at k) (lost n)
 
 abbrev pub resolved_by : Documents → List Key → Result Target Unresolved
 resolved_by m [] = lost 0
-resolved_by m (k ∷ ks) = option_map_or (λ c. along (child_of m c (encode_utf8_all k.value)) c 1 None ks) (collection_named m k) (lost 0)
+resolved_by m (k ∷ ks) =
+    option_map_or (λ c. along (child_of m c (encode_utf8_all k.value)) c 1 None ks) (collection_named m k) (lost 0)
 
 -- the target of a reference, or its first key that leads nowhere
 abbrev pub resolved : Documents → Reference → Result Target Unresolved

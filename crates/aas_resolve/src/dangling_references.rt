@@ -1,7 +1,8 @@
 ghost use Rattle.std.specs.Prelude.{◌≡◌, ◌++◌, [], Bool, List, Option, flat_map, IfOk, OnOk, map};
 ghost use Rattle.aas_constraint_rules.specs.Sites.{Own, sites, sites_among, tree_of, trees};
 ghost use Rattle.aas_constraints.specs.Walk.{above_of};
-ghost use Rattle.aas_resolve.specs.Dangling.{dangling, dangling_among, dangling_at, dangling_at_site, dangling_in, dangling_in_submodel};
+ghost use Rattle.aas_resolve.specs.Dangling.{dangling, dangling_among, dangling_at, dangling_at_site};
+ghost use Rattle.aas_resolve.specs.Dangling.{dangling_in, dangling_in_submodel};
 
 use crate::referrer::Referrer;
 use crate::report::Dangling;
@@ -28,7 +29,8 @@ fn add_at<R: Referrer, S: Store>(
     path: &Path,
     referrer: &R,
 ) -> Result<(), NoMemory>
-    ensures { OnOk result (found.new ≡ found.old ++ dangling_at (S.documents store.now) collection id.now path.now.steps (R.references referrer.now)) }
+    ensures { OnOk result (found.new ≡ found.old
+        ++ dangling_at (S.documents store.now) collection id.now path.now.steps (R.references referrer.now)) }
 {
     let alloc = found.alloc();
     let mut keys = Many::new(alloc);
@@ -53,7 +55,10 @@ fn add_in<S: Store>(
     path: &mut Path,
     element: &Element,
 ) -> Result<(), NoMemory>
-    ensures found { OnOk result ((t : Bool) (a : Option Own) (b : List Own) → found.new ≡ found.old ++ flat_map (dangling_at_site (S.documents store.now) id.now path.old.steps) (sites t a b (tree_of element.now))) }
+    ensures found { OnOk result
+        ((t : Bool) (a : Option Own) (b : List Own)
+        → found.new ≡ found.old ++ flat_map (dangling_at_site (S.documents store.now) id.now path.old.steps)
+        (sites t a b (tree_of element.now))) }
     ensures path { OnOk result (path.new ≡ path.old) }
 {
     add_at(found, store, Collection::Submodels, id, path, element)?;
@@ -70,7 +75,9 @@ fn add_below<S: Store>(
     kids: &Many<Element>,
     above: Option<&Element>,
 ) -> Result<(), NoMemory>
-    ensures found { OnOk result ((t : Bool) → found.new ≡ found.old ++ flat_map (dangling_at_site (S.documents store.now) id.now path.old.steps) (sites_among t (above_of above.entry) [] (trees (map tree_of kids.now)))) }
+    ensures found { OnOk result
+        ((t : Bool) → found.new ≡ found.old ++ flat_map (dangling_at_site (S.documents store.now) id.now path.old.steps)
+        (sites_among t (above_of above.entry) [] (trees (map tree_of kids.now)))) }
     ensures path { OnOk result (path.new ≡ path.old) }
 {
     for (place, kid) in kids.as_slice().iter().enumerate() {
@@ -137,10 +144,12 @@ fn add_collection<S: Store>(
     Ok(())
 }
 
-/// The ModelReferences in the attributes of the store's documents, and of all elements in them, that lead nowhere: by collection, shells,
-/// submodels and concept descriptions; by identifier; in a submodel in preorder; at one place in the byte order of members.
+/// The ModelReferences in the attributes of the store's documents, and of all elements in them, that lead nowhere: by
+/// collection, shells, submodels and concept descriptions; by identifier; in a submodel in preorder; at one place in
+/// the byte order of members.
 ///
-/// A reference within another one, its `referredSemanticId`, and kept data aren't looked at. Each submodel is copied while it is looked at.
+/// A reference within another one, its `referredSemanticId`, and kept data aren't looked at.
+/// Each submodel is copied while it is looked at.
 pub fn dangling<S: Store>(alloc: Global, store: &S) -> Result<Many<Dangling>, NoMemory>
     ensures { IfOk result (λ found. found ≡ dangling (S.documents store.now)) }
 {

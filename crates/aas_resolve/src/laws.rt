@@ -2,8 +2,8 @@
 
 ghost use Rattle.aas_resolve.specs.Laws.{ElementsLeadBack, ShellsLeadBack, SubmodelsLeadBack};
 
-/// The reference to an element, a submodel or a shell, as `aas_form` makes it, leads back to it where the document stands under its own
-/// identifier.
+/// The reference to an element, a submodel or a shell, as `aas_form` makes it, leads back to it where the document
+/// stands under its own identifier.
 pub fn references_lead_back()
     ensures element { ElementsLeadBack }
     ensures submodel { SubmodelsLeadBack }

@@ -1,5 +1,5 @@
-//! To what the references of the Asset Administration Shell lead (IDTA-01001-3-0, class Reference) in the documents of a
-//! store, and which of them lead nowhere.
+//! To what the references of the Asset Administration Shell lead (IDTA-01001-3-0, class Reference) in the documents of
+//! a store, and which of them lead nowhere.
 //!
 //! What a store holds is said by `aas_store`; the form of a reference is a constraint, and not looked at here.
 //!

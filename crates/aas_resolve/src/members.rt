@@ -15,7 +15,8 @@ fn add_before_qualifiers<S: Store>(
     store: &S,
     keys: &mut Many<usize>,
 ) -> Result<(), NoMemory>
-    ensures { OnOk result (keys.new ≡ keys.old ++ dangling_keys (S.documents store.now) (before_qualifiers payload.now)) }
+    ensures { OnOk result
+        (keys.new ≡ keys.old ++ dangling_keys (S.documents store.now) (before_qualifiers payload.now)) }
 {
     match payload {
         Payload::RelationshipElement { first, .. }
@@ -39,7 +40,8 @@ fn add_before_semantic_id<S: Store>(
     store: &S,
     keys: &mut Many<usize>,
 ) -> Result<(), NoMemory>
-    ensures { OnOk result (keys.new ≡ keys.old ++ dangling_keys (S.documents store.now) (before_semantic_id payload.now)) }
+    ensures { OnOk result
+        (keys.new ≡ keys.old ++ dangling_keys (S.documents store.now) (before_semantic_id payload.now)) }
 {
     match payload {
         Payload::RelationshipElement { second, .. }
@@ -55,7 +57,8 @@ fn add_behind_semantic_id<S: Store>(
     store: &S,
     keys: &mut Many<usize>,
 ) -> Result<(), NoMemory>
-    ensures { OnOk result (keys.new ≡ keys.old ++ dangling_keys (S.documents store.now) (behind_semantic_id payload.now)) }
+    ensures { OnOk result
+        (keys.new ≡ keys.old ++ dangling_keys (S.documents store.now) (behind_semantic_id payload.now)) }
 {
     match payload {
         Payload::Entity {

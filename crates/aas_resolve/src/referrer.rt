@@ -26,7 +26,8 @@ pub(crate) fn add_keys_among<T: Referrer, S: Store>(
     store: &S,
     keys: &mut Many<usize>,
 ) -> Result<(), NoMemory>
-    ensures { OnOk result (keys.new ≡ keys.old ++ dangling_keys (S.documents store.now) (flat_map T.references items.now)) }
+    ensures { OnOk result
+        (keys.new ≡ keys.old ++ dangling_keys (S.documents store.now) (flat_map T.references items.now)) }
 {
     for item in items.as_slice() {
         item.add_dangling_keys(store, keys)?;
@@ -40,7 +41,8 @@ pub(crate) fn add_keys_if_any<T: Referrer, S: Store>(
     store: &S,
     keys: &mut Many<usize>,
 ) -> Result<(), NoMemory>
-    ensures { OnOk result (keys.new ≡ keys.old ++ dangling_keys (S.documents store.now) (flat_map T.references (as_list item.now))) }
+    ensures { OnOk result
+        (keys.new ≡ keys.old ++ dangling_keys (S.documents store.now) (flat_map T.references (as_list item.now))) }
 {
     match item {
         Some(item) => item.add_dangling_keys(store, keys),

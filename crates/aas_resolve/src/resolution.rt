@@ -1,8 +1,8 @@
 ghost use Rattle.std.specs.Prelude.{◌≡◌, ◌-◌, ◌^◌, None, Ok, min, option_and_then, option_map};
 ghost use Rattle.std.specs.FinMap as map;
 ghost use Rattle.aas_store.specs.Spots.{step_of};
-ghost use Rattle.aas_resolve.specs.Resolved.{admits, along, capped, child_named, child_of, collection_named, is_list_at};
-ghost use Rattle.aas_resolve.specs.Resolved.{number, rank_of, reached, resolved, stays, step_spelled};
+ghost use Rattle.aas_resolve.specs.Resolved.{admits, along, capped, child_named, child_of, collection_named};
+ghost use Rattle.aas_resolve.specs.Resolved.{is_list_at, number, rank_of, target_at, resolved, stays, step_spelled};
 
 use crate::target::{Target, Unresolved};
 use aas_model::{Collection, Key, KeyType, Kind, Named, Reference, ReferenceType, Text};
@@ -126,8 +126,8 @@ fn stays(key: &Key, behind: &[Key]) -> bool
     behind.is_empty() && matches!(key.key_type, KeyType::FragmentReference)
 }
 
-fn reached(collection: Collection, at: Option<Spot>) -> Target
-    ensures { Ok result ≡ reached collection at }
+fn target_at(collection: Collection, at: Option<Spot>) -> Target
+    ensures { Ok result ≡ target_at collection at }
 {
     Target {
         collection,
@@ -147,14 +147,14 @@ fn along<S: Store>(
     let mut at = None;
     for (place, key) in keys.iter().enumerate() {
         if stays(key, &keys[place + 1..]) {
-            return Ok(reached(collection, at));
+            return Ok(target_at(collection, at));
         }
         match child_of(store, collection, id, at, key) {
             Some(spot) => at = Some(spot),
             None => return Err(Unresolved { key: place + 1 }),
         }
     }
-    Ok(reached(collection, at))
+    Ok(target_at(collection, at))
 }
 
 /// To what the reference leads in the documents of the store, or its first key that leads nowhere. It takes no memory.

@@ -1,12 +1,13 @@
 use aas_model::Collection;
 use thiserror::Error;
 
-/// To what a reference leads: a document of a collection, whose identifier is the value of the reference's first key, or an element of it.
+/// To what a reference leads: a document of a collection, whose identifier
+/// is the value of the reference's first key, or an element of it.
 #[derive(Clone, Copy, PartialEq, Eq)]
 pub struct Target {
     pub collection: Collection,
-    /// The element's place in preorder, an element before those below it, counted from the submodel's first child on; `None` for the
-    /// document itself.
+    /// The element's place in preorder, an element before those below it, counted from the submodel's first child on;
+    /// `None` for the document itself.
     pub rank: Option<u64>,
 }
 

@@ -1,16 +1,20 @@
 -- Sizes of the rows above an edited place.
-use Rattle.std.proofs.Common.{◌≡◌, ℕ, zero, suc, ◌+◌, ◌-◌, ◌<◌, ◌≤◌, Bool, true, false, nat_lt, List, [], ◌∷◌, ◌++◌, append_assoc, length, take, drop, Some, slice_get, slice_index_or, slice_set, refl, subst, sym, ap, ap₂, ◌∙◌, arith, if◌then◌else◌, length-append, length-drop, le-ltb, lt-ltb}
+use Rattle.std.proofs.Common.{◌≡◌, ℕ, zero, suc, ◌+◌, ◌-◌, ◌<◌, ◌≤◌, Bool, true, false, nat_lt, List, [], ◌∷◌, ◌++◌}
+use Rattle.std.proofs.Common.{append_assoc, length, take, drop, Some, slice_get, slice_index_or, slice_set, refl, subst}
+use Rattle.std.proofs.Common.{sym, ap, ap₂, ◌∙◌, arith, if◌then◌else◌, length-append, length-drop, le-ltb, lt-ltb}
 use Rattle.std.specs.List.{All}
 use Rattle.std.proofs.Math.Seq.{set-append_seam}
 use Rattle.std.proofs.lemmas.Bool.Decides.{Decides-ltb}
 use Rattle.std.proofs.lemmas.List.{length-take, length-take-le, take-append-drop}
 use Rattle.std.proofs.lemmas.Option.{get_or_from_slice_get, slice_get-get_or}
-use Rattle.std.proofs.lemmas.List.Elements.{All-append, All-cons, All-drop, All-head, All-nil, All-tail, All-take, All-weaker}
+use Rattle.std.proofs.lemmas.List.Elements.{All-append, All-cons, All-drop, All-head, All-nil, All-tail}
+use Rattle.std.proofs.lemmas.List.Elements.{All-take, All-weaker}
 use Rattle.aas_rows.specs.Rows.{count_deeper, sizes}
 use Rattle.aas_sheet_index.specs.Measuring.{Begins, IsAbove, StandFor}
 use Rattle.aas_sheet_index.specs.Sides.{levels, measured, AreMeasured, HaveLevels}
 use Rattle.aas_sheet_index.specs.declared.side.Side.{Side}
-use Rattle.aas_sheet_index.proofs.Measures.{count_most, drop_measured, drop_more, have_measured, measured_back, measured_known, measured_levels, measured_long, sized_measured}
+use Rattle.aas_sheet_index.proofs.Measures.{count_most, drop_measured, drop_more, have_measured, measured_back}
+use Rattle.aas_sheet_index.proofs.Measures.{measured_known, measured_levels, measured_long, sized_measured}
 use Rattle.aas_sheet_index.proofs.Spliced.{drop_seam, take_seam}
 
 abbrev pub AreFrom : ℕ → List Side → Type 0
@@ -22,7 +26,8 @@ AreBelow k ss = All (λ s. k < s.level) ss
 -- ---- counts
 
 -- rows that stand deeper all count
-count_over : (k : ℕ) (a p : List Side) → AreBelow k a → count_deeper k (levels (a ++ p)) ≡ length a + count_deeper k (levels p)
+count_over : (k : ℕ) (a p : List Side)
+    → AreBelow k a → count_deeper k (levels (a ++ p)) ≡ length a + count_deeper k (levels p)
 count_over k [] p deep = sum (count_deeper k (levels p))
   where
     sum : (n : ℕ) → n ≡ 0 + n
@@ -41,21 +46,25 @@ deep_front k (s ∷ a) p le = by (nat_lt k s.level) refl le (deep_front k a p)
   where
     by : (b : Bool) → nat_lt k s.level ≡ b → suc (length a) ≤ (if b then 1 + count_deeper k (levels (a ++ p)) else 0)
         → (length a ≤ count_deeper k (levels (a ++ p)) → AreBelow k a) → AreBelow k (s ∷ a)
-    by true e le more = All-cons (λ (s : Side). k < s.level) s a ((Decides-ltb k s.level).0 e) (more (omega (arith, le)))
+    by true e le more =
+        All-cons (λ (s : Side). k < s.level) s a ((Decides-ltb k s.level).0 e) (more (omega (arith, le)))
     by false e le more = absurd (omega (arith, le))
 
 count_ended : (k l : ℕ) (p : List Side) → Begins k p → k ≤ l → count_deeper l (levels p) ≡ 0
 count_ended k l [] begins le = refl
-count_ended k l (s ∷ p) begins le = ap (λ b. if b then 1 + count_deeper l (levels p) else 0) (le-ltb l s.level (omega (arith, begins, le)))
+count_ended k l (s ∷ p) begins le =
+    ap (λ b. if b then 1 + count_deeper l (levels p) else 0) (le-ltb l s.level (omega (arith, begins, le)))
 
 -- what stands behind a row that is no deeper counts for nothing
 count_stops : (k l : ℕ) (a p q : List Side) → Begins k p → Begins k q → k ≤ l
     → count_deeper l (levels (a ++ p)) ≡ count_deeper l (levels (a ++ q))
 count_stops k l [] p q one two le = count_ended k l p one le ∙ sym (count_ended k l q two le)
-count_stops k l (s ∷ a) p q one two le = ap (λ n. if nat_lt l s.level then 1 + n else 0) (count_stops k l a p q one two le)
+count_stops k l (s ∷ a) p q one two le =
+    ap (λ n. if nat_lt l s.level then 1 + n else 0) (count_stops k l a p q one two le)
 
 -- sizes that were right with others behind them, where none of these counted
-kept : (k : ℕ) (a p q : List Side) → AreFrom k a → Begins k p → Begins k q → AreMeasured (a ++ p) → measured (a ++ q) ≡ a ++ measured q
+kept : (k : ℕ) (a p q : List Side)
+    → AreFrom k a → Begins k p → Begins k q → AreMeasured (a ++ p) → measured (a ++ q) ≡ a ++ measured q
 kept k [] p q from one two known = refl
 kept k (s ∷ a) p q from one two known =
     let P : Side → Type 0 = λ s. k ≤ s.level in
@@ -68,7 +77,8 @@ kept k (s ∷ a) p q from one two known =
 -- the size of a row below which some rows stand for others
 pub exchanged : (s : Side) (a old more rest : List Side) (least : ℕ) → AreMeasured (s ∷ (a ++ (old ++ rest)))
     → 1 + length a + length old ≤ s.size → s.level < least → AreFrom least more
-    → s.size - (1 + length a + length old) + (1 + length a + length more) ≡ 1 + count_deeper s.level (levels (a ++ (more ++ rest)))
+    → s.size - (1 + length a + length old) + (1 + length a + length more)
+    ≡ 1 + count_deeper s.level (levels (a ++ (more ++ rest)))
 exchanged s a old more rest least known counts high from =
     let k : ℕ = s.level in
     let own : s.size ≡ 1 + count_deeper k (levels (a ++ (old ++ rest))) = cc in
@@ -76,12 +86,15 @@ exchanged s a old more rest least known counts high from =
     let was : count_deeper k (levels (a ++ (old ++ rest))) ≡ length a + count_deeper k (levels (old ++ rest)) =
     count_over k a (old ++ rest) front in
     let gone : AreBelow k old = deep_front k old rest (omega (arith, own, counts, was)) in
-    let old_count : count_deeper k (levels (old ++ rest)) ≡ length old + count_deeper k (levels rest) = count_over k old rest gone in
+    let old_count : count_deeper k (levels (old ++ rest)) ≡ length old + count_deeper k (levels rest) =
+    count_over k old rest gone in
     let deep : AreBelow k more =
-    All-weaker (λ (x : Side). least ≤ x.level) (λ (x : Side). k < x.level) (λ x le. omega (arith, le, high)) more from in
+    All-weaker (λ (x : Side). least ≤ x.level) (λ (x : Side). k < x.level)
+    (λ x le. omega (arith, le, high)) more from in
     let is : count_deeper k (levels (a ++ (more ++ rest))) ≡ length a + count_deeper k (levels (more ++ rest)) =
     count_over k a (more ++ rest) front in
-    let new_count : count_deeper k (levels (more ++ rest)) ≡ length more + count_deeper k (levels rest) = count_over k more rest deep in
+    let new_count : count_deeper k (levels (more ++ rest)) ≡ length more + count_deeper k (levels rest) =
+    count_over k more rest deep in
     omega (arith, own, was, old_count, is, new_count, counts)
 
 -- those at the front that the first counts stand no higher than it
@@ -98,7 +111,8 @@ below_first xs (suc n) s rest is known le =
     let deep : AreBelow s.level front = deep_front s.level front (drop n rest) (omega (arith, own, parts, most, le)) in
     let P : Side → Type 0 = λ x. s.level ≤ x.level in
     subst (λ ys. AreFrom s.level (take (suc n) ys)) (sym is)
-    (All-cons P s front (omega arith) (All-weaker (λ (x : Side). s.level < x.level) P (λ x lt. omega (arith, lt)) front deep))
+    (All-cons P s front (omega arith)
+    (All-weaker (λ (x : Side). s.level < x.level) P (λ x lt. omega (arith, lt)) front deep))
 
 -- ---- sizes that are put right from a place back
 
@@ -106,8 +120,8 @@ below_first xs (suc n) s rest is known le =
 abbrev with_size : List Side → ℕ → Side → ℕ → List Side
 with_size ss rank d size = slice_set ss rank (record (slice_index_or ss rank d) { size = size })
 
--- The sizes from place on are right, and those before it are as they were. They were right where old stood in the place of
--- more, from first to known; what has the level k or stands deeper ends before the place, with either.
+-- The sizes from place on are right, and those before it are as they were. They were right where old stood in the place
+-- of more, from first to known; what has the level k or stands deeper ends before the place, with either.
 pub record Left (start ss : List Side) (first known end place k : ℕ) : Type 0 where
   pub front : List Side
   pub passed : List Side
@@ -125,14 +139,16 @@ pub record Left (start ss : List Side) (first known end place k : ℕ) : Type 0 
   pub began : Begins k (passed ++ (old ++ rest))
   pub new : more ≡ take (known - first) (drop first start)
 
-pub begun : (start : List Side) (first known end k : ℕ) → first ≤ known → known ≤ length start → AreMeasured (drop first start)
+pub begun : (start : List Side) (first known end k : ℕ)
+    → first ≤ known → known ≤ length start → AreMeasured (drop first start)
     → StandFor start first known end k → Begins k (drop first start) → Left start start first known end first k
 begun start first known end k ordered within sized o begins =
     let back : List Side = drop first start in
     let more : List Side = take (known - first) back in
     let rest : List Side = drop known start in
     let far : first + (known - first) ≡ known = omega (arith, ordered) in
-    let behind : drop (known - first) back ≡ rest = drop_more (known - first) first start ∙ ap (λ n. drop n start) far in
+    let behind : drop (known - first) back ≡ rest =
+    drop_more (known - first) first start ∙ ap (λ n. drop n start) far in
     let parts : back ≡ more ++ rest = sym (take-append-drop (known - first) back) ∙ ap (λ xs. more ++ xs) behind in
     let back_long : length back ≡ length start - first = length-drop first start in
     let more_long : length more ≡ known - first =
@@ -160,7 +176,8 @@ read_seam [] s d c = refl
 read_seam (x ∷ b) s d c = read_seam b s d c
 
 -- a row that was read from the front parts it
-parted : (xs ys : List Side) (n : ℕ) (s : Side) → n < length xs → slice_get (xs ++ ys) n ≡ Some s → xs ≡ take n xs ++ s ∷ drop (suc n) xs
+parted : (xs ys : List Side) (n : ℕ) (s : Side)
+    → n < length xs → slice_get (xs ++ ys) n ≡ Some s → xs ≡ take n xs ++ s ∷ drop (suc n) xs
 parted [] ys n s lt is = absurd (omega arith)
 parted (x ∷ xs) ys zero s lt is = let same : x ≡ s = cc in ap (λ x. x ∷ xs) same
 parted (x ∷ xs) ys (suc n) s lt is = ap (λ xs. x ∷ xs) (parted xs ys n s (omega arith) is)
@@ -188,7 +205,9 @@ module _ (start ss : List Side) (first known end place k : ℕ) (l : Left start 
       let at = l.at in record {
         one = take rank l.front;
         two = drop (suc rank) l.front;
-        is = parted l.front (measured behind) rank s (omega (arith, at, lt)) (ap (λ xs. slice_get xs rank) (sym l.is) ∙ there);
+        is =
+            parted l.front (measured behind) rank s (omega (arith, at, lt))
+            (ap (λ xs. slice_get xs rank) (sym l.is) ∙ there);
         at = length-take-le rank l.front (omega (arith, at, lt));
       }
 
@@ -196,7 +215,8 @@ module _ (start ss : List Side) (first known end place k : ℕ) (l : Left start 
   was_sized : (rank : ℕ) (s : Side) (p : Split rank s) → AreMeasured (s ∷ (p.two ++ others))
   was_sized rank s p =
       measured_back p.one (s ∷ (p.two ++ others))
-      (subst AreMeasured (append_assoc p.one (s ∷ p.two) others) (subst (λ xs. AreMeasured (xs ++ others)) p.is l.sized))
+      (subst AreMeasured (append_assoc p.one (s ∷ p.two) others)
+      (subst (λ xs. AreMeasured (xs ++ others)) p.is l.sized))
 
   -- the size of a row is put right, and those between it and the place were
   pub onward : (rank size : ℕ) (s d : Side) (p : Split rank s) → AreFrom k p.two
@@ -232,7 +252,8 @@ module _ (start ss : List Side) (first known end place k : ℕ) (l : Left start 
             (sym (kept k p.two others behind from l.began l.begins rest_all))
             ∙ ap (λ xs. p.one ++ measured xs) (moved (l.more ++ l.rest));
         sized = subst AreMeasured (ap (λ xs. p.one ++ xs) (moved (l.old ++ l.rest)))
-            (subst AreMeasured (append_assoc p.one (s ∷ p.two) others) (subst (λ xs. AreMeasured (xs ++ others)) p.is l.sized));
+            (subst AreMeasured (append_assoc p.one (s ∷ p.two) others)
+            (subst (λ xs. AreMeasured (xs ++ others)) p.is l.sized));
         at = p.at;
         goes_on = omega (arith, long, both, one_at, at, goes_on);
         came = l.came;
@@ -277,7 +298,8 @@ module _ (start ss : List Side) (first known end place k : ℕ) (l : Left start 
         let gone : end - rank ≡ 1 + length a + length l.old = omega (arith, between, went) in
         let there : known - rank ≡ 1 + length a + length l.more = omega (arith, between, came) in
         let known_all : AreMeasured (s ∷ (a ++ (l.old ++ l.rest))) =
-        subst (λ xs. AreMeasured (s ∷ xs)) (sym (append_assoc own.two l.passed (l.old ++ l.rest))) (was_sized rank s own) in
+        subst (λ xs. AreMeasured (s ∷ xs))
+        (sym (append_assoc own.two l.passed (l.old ++ l.rest))) (was_sized rank s own) in
         ap (λ n. n - (end - rank) + (known - rank)) size_read ∙ ap₂ (λ m n. s.size - m + n) gone there
         ∙ exchanged s a l.old l.more l.rest least known_all (omega (arith, gone, counts)) i.high
         (subst (AreFrom least) (sym l.new) from)
@@ -301,14 +323,17 @@ module _ (start ss : List Side) (first known end place k : ℕ) (l : Left start 
         let counts = i.counts in
         let went = l.went in
         let both = length-append own.two l.passed in
-        let deep : AreBelow s.level own.two = deep_front s.level own.two others (omega (arith, size, counts, went, both, between)) in
+        let deep : AreBelow s.level own.two =
+        deep_front s.level own.two others (omega (arith, size, counts, went, both, between)) in
         let close = i.close in
         let near : AreFrom k own.two =
-        All-weaker (λ (x : Side). s.level < x.level) (λ (x : Side). k ≤ x.level) (λ x lt. omega (arith, lt, close)) own.two deep in
+        All-weaker (λ (x : Side). s.level < x.level) (λ (x : Side). k ≤ x.level)
+        (λ x lt. omega (arith, lt, close)) own.two deep in
         onward rank new_size s d own near new_size_is
 
   -- the row right before the place
-  row_at : (rank size : ℕ) (s d : Side) → Split rank s → place ≡ suc rank → slice_get (sizes (levels ss)) rank ≡ Some size
+  row_at : (rank size : ℕ) (s d : Side)
+      → Split rank s → place ≡ suc rank → slice_get (sizes (levels ss)) rank ≡ Some size
       → Left start (with_size ss rank d size) first known end rank (slice_index_or ss rank d).level
   row_at rank size s d p next is =
       let at = l.at in
@@ -316,7 +341,8 @@ module _ (start ss : List Side) (first known end place k : ℕ) (l : Left start 
       let front = ap length p.is ∙ length-append p.one (s ∷ p.two) in
       let alone : p.two ≡ [] = none p.two (omega (arith, front, at, one_at, next)) in
       let here : ss ≡ p.one ++ s ∷ measured behind =
-      l.is ∙ ap (λ xs. xs ++ measured behind) (p.is ∙ ap (λ xs. p.one ++ s ∷ xs) alone) ∙ append_assoc p.one (s ∷ []) (measured behind) in
+      l.is ∙ ap (λ xs. xs ++ measured behind) (p.is ∙ ap (λ xs. p.one ++ s ∷ xs) alone)
+      ∙ append_assoc p.one (s ∷ []) (measured behind) in
       let same : Some size ≡ Some (1 + count_deeper s.level (levels (measured behind))) =
       sym is ∙ ap₂ (λ xs n. slice_get (sizes (levels xs)) n) here (sym p.at) ∙ size_seam p.one s (measured behind) in
       let size_is : size ≡ 1 + count_deeper s.level (levels (measured behind)) = cc in
@@ -335,17 +361,21 @@ module _ (start ss : List Side) (first known end place k : ℕ) (l : Left start 
       let all = ap length l.is ∙ length-append l.front (measured behind) in
       let at = l.at in
       let there = slice_get-get_or ss rank d (omega (arith, all, at, next)) in
-      row_at rank size (slice_index_or ss rank d) d (split rank (slice_index_or ss rank d) (omega (arith, next)) there) next is
+      row_at rank size (slice_index_or ss rank d) d
+      (split rank (slice_index_or ss rank d) (omega (arith, next)) there) next is
 
   pub behind_sized : AreMeasured (drop place ss)
-  behind_sized = subst AreMeasured (sym (drop_seam ss l.front (measured behind) place l.is l.at)) (sized_measured behind)
+  behind_sized =
+      subst AreMeasured (sym (drop_seam ss l.front (measured behind) place l.is l.at)) (sized_measured behind)
 
   -- all sizes are right where each row left ends before the place
   pub front_done : HaveLevels start → k ≤ 1 → ss ≡ measured start
   front_done deep high =
       let P : Side → Type 0 = λ s. 0 < s.level in
-      let front : HaveLevels l.front = subst HaveLevels (take_seam start l.front behind place l.was l.at) (All-take P place start deep) in
-      let low : AreFrom k l.front = All-weaker P (λ (s : Side). k ≤ s.level) (λ s lt. omega (arith, lt, high)) l.front front in
+      let front : HaveLevels l.front =
+      subst HaveLevels (take_seam start l.front behind place l.was l.at) (All-take P place start deep) in
+      let low : AreFrom k l.front =
+      All-weaker P (λ (s : Side). k ≤ s.level) (λ s lt. omega (arith, lt, high)) l.front front in
       l.is ∙ sym (kept k l.front others behind low l.began l.begins l.sized) ∙ ap measured (sym l.was)
 
 -- ---- rows that came have their sizes
@@ -367,14 +397,17 @@ module _ (ss new : List Side) (first known : ℕ) (ordered : first ≤ known) (w
   pub new_sized : AreMeasured (drop first new)
   new_sized = subst AreMeasured (sym new_back) (sized_measured (drop first ss))
 
-  pub new_others : (end k l : ℕ) → k ≤ l → AreMeasured (drop known ss) → StandFor ss first known end k → StandFor new first known end l
+  pub new_others : (end k l : ℕ)
+      → k ≤ l → AreMeasured (drop known ss) → StandFor ss first known end k → StandFor new first known end l
   new_others end k l le back o =
       let far : first + (known - first) ≡ known = omega (arith, ordered) in
       let step : (xs : List Side) → drop known xs ≡ drop (known - first) (drop first xs) =
       λ xs. sym (drop_more (known - first) first xs ∙ ap (λ n. drop n xs) far) in
-      let front : take first ss ≡ take first new = sym (take_seam new (take first ss) (measured (drop first ss)) first is front_long) in
+      let front : take first ss ≡ take first new =
+      sym (take_seam new (take first ss) (measured (drop first ss)) first is front_long) in
       let rest : drop known ss ≡ drop known new =
-      sym (measured_known (drop known ss) back) ∙ ap measured (step ss) ∙ sym (drop_measured (known - first) (drop first ss))
+      sym (measured_known (drop known ss) back) ∙ ap measured (step ss)
+      ∙ sym (drop_measured (known - first) (drop first ss))
       ∙ ap (drop (known - first)) (sym new_back) ∙ sym (step new) in record {
         old = o.old;
         went = o.went;
@@ -395,4 +428,5 @@ module _ (ss new : List Side) (first known : ℕ) (ordered : first ≤ known) (w
 
       again : (a b : List Side) → measured (a ++ measured b) ≡ measured (a ++ b)
       again [] b = measured_known (measured b) (sized_measured b)
-      again (x ∷ a) b = ap₂ (λ ls xs. record x { size = 1 + count_deeper x.level ls } ∷ xs) (same_levels a b) (again a b)
+      again (x ∷ a) b =
+          ap₂ (λ ls xs. record x { size = 1 + count_deeper x.level ls } ∷ xs) (same_levels a b) (again a b)

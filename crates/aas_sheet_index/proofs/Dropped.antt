@@ -1,5 +1,7 @@
 -- Ranks that are dropped one by one.
-use Rattle.std.proofs.Common.{◌≡◌, ℕ, zero, suc, ◌+◌, ◌-◌, ◌<◌, ◌≤◌, ◌⊎◌, inl, inr, Bool, true, false, cond, not, nat_lt, ◌==◌, ◌&&◌, ◌||◌, List, [], ◌∷◌, ◌++◌, length, get_or, take, drop, remove, refl, sym, ap, ap₂, ◌∙◌, subst, arith, length-append, le-ltb, lt-ltb}
+use Rattle.std.proofs.Common.{◌≡◌, ℕ, zero, suc, ◌+◌, ◌-◌, ◌<◌, ◌≤◌, ◌⊎◌, inl, inr, Bool, true, false, cond, not}
+use Rattle.std.proofs.Common.{nat_lt, ◌==◌, ◌&&◌, ◌||◌, List, [], ◌∷◌, ◌++◌, length, get_or, take, drop, remove, refl}
+use Rattle.std.proofs.Common.{sym, ap, ap₂, ◌∙◌, subst, arith, length-append, le-ltb, lt-ltb}
 use Rattle.std.specs.List.{All, AllByRecursion, AllWithin, filter}
 use Rattle.std.specs.List.Sorted.{IsSorted}
 use Rattle.std.proofs.lemmas.Bool.{cases_lt, cases_order}
@@ -49,7 +51,8 @@ filter_less x zero (y ∷ ys) d lt is =
 filter_less x (suc n) (y ∷ ys) d lt is =
     ap (λ zs. cond (is_other x y) (y ∷ zs) zs) (filter_less x n ys d (omega arith) is)
 
-none_there : (x n : ℕ) (ys : List ℕ) (d : ℕ) → GatheredAt x n ys → (n < length ys → get_or ys n d ≡ x → ⊥) → AreOther x ys
+none_there : (x n : ℕ) (ys : List ℕ) (d : ℕ)
+    → GatheredAt x n ys → (n < length ys → get_or ys n d ≡ x → ⊥) → AreOther x ys
 none_there x zero [] d g h = tt
 none_there x zero (y ∷ ys) d g h = let other = h (omega arith) in (apart y x other, g.0 other)
 none_there x (suc n) [] d g h = tt
@@ -72,7 +75,8 @@ module _ (ss : List Side) (x : ℕ) (zs : List ℕ) (others : AreOther x zs) whe
   gathered_from [] up high = loose x zs others
   gathered_from (y ∷ ys) up high = (
     λ ne. each_both (λ z. (z == x) ≡ false) ys zs
-        (each_weaker (λ z. is_less ss z y ≡ false) (λ z. (z == x) ≡ false) (λ z e. apart z x (λ same. ne (equal z e same))) ys up.0)
+        (each_weaker (λ z. is_less ss z y ≡ false) (λ z. (z == x) ≡ false)
+        (λ z e. apart z x (λ same. ne (equal z e same))) ys up.0)
         others,
     gathered_from ys up.1 high.1,
   )
@@ -88,7 +92,8 @@ module _ (ss : List Side) (x : ℕ) (zs : List ℕ) (others : AreOther x zs) whe
       → AllWithin (λ y. is_less ss y x ≡ true) ys 0 n → AllWithin (λ y. is_less ss y x ≡ false) ys n (length ys)
       → GatheredAt x n (ys ++ zs)
   gathered_at ys zero inside up low high =
-      gathered_from ys up (recursion_from_All (λ y. is_less ss y x ≡ false) ys (λ k d within. high k d (omega arith) within))
+      gathered_from ys up
+      (recursion_from_All (λ y. is_less ss y x ≡ false) ys (λ k d within. high k d (omega arith) within))
   gathered_at [] (suc n) inside up low high = absurd (omega arith)
   gathered_at (y ∷ ys) (suc n) inside up low high = (
     apart y x other,
@@ -98,22 +103,26 @@ module _ (ss : List Side) (x : ℕ) (zs : List ℕ) (others : AreOther x zs) whe
     where
       other : y ≡ x → ⊥
       other same =
-          let less : is_less ss x x ≡ true = ap (λ n. is_less ss n x) (sym same) ∙ low 0 y (omega arith) (omega arith) in
+          let less : is_less ss x x ≡ true =
+          ap (λ n. is_less ss n x) (sym same) ∙ low 0 y (omega arith) (omega arith) in
           let never : nat_lt x x ≡ false = le-ltb x x (omega arith) in
           let is = tied (key_at ss x) x x in
           absurd (cc)
 
 -- the place that a search finds
 pub gathered : (ss : List Side) (x n kept : ℕ) (ranks read : List ℕ) → read ≡ ranks → kept ≤ length ranks
-    → IsSorted (order ss) (take kept ranks) → All (λ r. (r == x) ≡ false) (drop kept ranks) → n ≤ length (take kept read)
+    → IsSorted (order ss) (take kept ranks) → All (λ r. (r == x) ≡ false) (drop kept ranks)
+    → n ≤ length (take kept read)
     → AllWithin (λ r. is_less ss r x ≡ true) (take kept read) 0 n
     → AllWithin (λ r. is_less ss r x ≡ false) (take kept read) n (length (take kept read)) → GatheredAt x n ranks
 gathered ss x n kept ranks read is inside sorted others front low high =
     let ahead : List ℕ = take kept read in
-    let whole : ahead ++ drop kept ranks ≡ ranks = ap (λ ys. take kept ys ++ drop kept ranks) is ∙ take-append-drop kept ranks in
+    let whole : ahead ++ drop kept ranks ≡ ranks =
+    ap (λ ys. take kept ys ++ drop kept ranks) is ∙ take-append-drop kept ranks in
     let rising = subst (IsSorted (order ss)) (sym (ap (take kept) is)) sorted in
     subst (GatheredAt x n) whole
-    (gathered_at ss x (drop kept ranks) (recursion_from_All (λ r. (r == x) ≡ false) (drop kept ranks) others) ahead n front
+    (gathered_at ss x (drop kept ranks)
+    (recursion_from_All (λ r. (r == x) ≡ false) (drop kept ranks) others) ahead n front
     (rises_from_sorted (is_less ss) (weak ss) ahead rising) low high)
 
 -- ---- one rank after the other
@@ -135,7 +144,8 @@ one_less first i r le = by (cases_lt r first) (cases_order r i)
         → stays first (i + 1) r ≡ (stays first i r && is_other i r)
     by (inl low) h =
         ap (λ b. b || not (nat_lt r (i + 1))) (lt-ltb r first low)
-        ∙ sym (ap₂ (λ b c. (b || not (nat_lt r i)) && not c) (lt-ltb r first low) (apart r i (λ e. absurd (omega arith))))
+        ∙ sym
+        (ap₂ (λ b c. (b || not (nat_lt r i)) && not c) (lt-ltb r first low) (apart r i (λ e. absurd (omega arith))))
     by (inr high) (inl same) =
         ap₂ (λ b c. b || not c) (le-ltb r first high) (lt-ltb r (i + 1) (omega arith))
         ∙ sym (ap (λ b. stays first i r && not b) ((Decides-eqb r i).1 same) ∙ and-false (stays first i r))
@@ -171,11 +181,13 @@ each_filtered P p (x ∷ xs) a = by (p x) (each_filtered P p xs a.1)
     by false rest = rest
 
 pub left : (ss : List Side) (first end count added kept : ℕ) (ranks now : List ℕ) → Waiting ss count ranks added
-    → end ≤ count → count ≤ length ss → now ≡ filter (stays first end) ranks → kept ≡ length now - added → Left ss count now added kept
+    → end ≤ count → count ≤ length ss → now ≡ filter (stays first end) ranks
+    → kept ≡ length now - added → Left ss count now added kept
 left ss first end count added kept ranks now w end_in inside is at =
     let p : ℕ → Bool = stays first end in
     let parts : now ≡ filter p w.kept ++ w.fresh =
-    is ∙ ap (filter p) w.is ∙ filter-append p w.kept w.fresh ∙ ap (λ ys. filter p w.kept ++ ys) (filter_all p w.fresh stay) in
+    is ∙ ap (filter p) w.is ∙ filter-append p w.kept w.fresh
+    ∙ ap (λ ys. filter p w.kept ++ ys) (filter_all p w.fresh stay) in
     let all = ap length parts ∙ length-append (filter p w.kept) w.fresh in
     let long = w.long in
     let front : length (filter p w.kept) ≡ kept = omega (arith, all, long, at) in
@@ -185,7 +197,8 @@ left ss first end count added kept ranks now w end_in inside is at =
       sorted = subst (IsSorted (order (take count ss))) (sym ahead)
           (IsSortedBy-filter (is_less (take count ss)) (weak (take count ss)) p w.kept w.index.ordered);
       low = subst (AllByRecursion (λ r. r < count)) (sym ahead) (each_filtered (λ r. r < count) p w.kept old);
-      high = subst (AllByRecursion (λ r. count ≤ r)) (sym (drop_seam now (filter p w.kept) w.fresh kept parts front)) new;
+      high =
+          subst (AllByRecursion (λ r. count ≤ r)) (sym (drop_seam now (filter p w.kept) w.fresh kept parts front)) new;
     }
   where
     old : AllByRecursion (λ r. r < count) w.kept
@@ -207,11 +220,14 @@ left ss first end count added kept ranks now w end_in inside is at =
     stay : AllByRecursion (λ r. stays first end r ≡ true) w.fresh
     stay =
         each_weaker (λ r. count ≤ r) (λ r. stays first end r ≡ true)
-        (λ r low. ap (λ b. nat_lt r first || not b) (le-ltb r end (omega (arith, low, end_in))) ∙ or-true (nat_lt r first)) w.fresh new
+        (λ r low.
+        ap (λ b. nat_lt r first || not b) (le-ltb r end (omega (arith, low, end_in))) ∙ or-true (nat_lt r first))
+        w.fresh new
 
 -- none of those that wait is the rank i
 pub others_wait : (ss : List Side) (count i added kept : ℕ) (now : List ℕ) → Left ss count now added kept → i < count
     → All (λ r. (r == i) ≡ false) (drop kept now)
 others_wait ss count i added kept now l lt =
     All-from_recursion (λ r. (r == i) ≡ false) (drop kept now)
-    (each_weaker (λ r. count ≤ r) (λ r. (r == i) ≡ false) (λ r low. apart r i (λ e. absurd (omega arith))) (drop kept now) l.high)
+    (each_weaker (λ r. count ≤ r) (λ r. (r == i) ≡ false)
+    (λ r low. apart r i (λ e. absurd (omega arith))) (drop kept now) l.high)

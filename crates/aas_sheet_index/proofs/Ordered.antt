@@ -27,7 +27,9 @@ abbrev pub compared_entries : Entry → Entry → Ordering
 compared_entries a b = compared a.by a.rank b.by b.rank
 
 pub entries_total : IsTotalOrder compared_entries
-entries_total = then_total (on_total (λ (e : Entry). e.by) (lists_total nat_cmp_total)) (on_total (λ (e : Entry). e.rank) nat_cmp_total)
+entries_total =
+    then_total (on_total (λ (e : Entry). e.by) (lists_total nat_cmp_total))
+    (on_total (λ (e : Entry). e.rank) nat_cmp_total)
 
 abbrev pub entry : List Side → ℕ → Entry
 entry ss r = record { by = key_at ss r; rank = r }
@@ -40,14 +42,18 @@ pub weak : (ss : List Side) → IsStrictWeakOrder (is_less ss)
 weak ss = ranks_by entries_total (entry ss)
 
 -- ranks in order, of which those before something come before those that aren't
-pub parted : (ss : List Side) (ranks : List ℕ) (e : Entry) → IsSorted (order ss) ranks → IsPartitionedBy (λ r. is_lt (compared_entries (entry ss r) e)) ranks
+pub parted : (ss : List Side) (ranks : List ℕ) (e : Entry)
+    → IsSorted (order ss) ranks → IsPartitionedBy (λ r. is_lt (compared_entries (entry ss r) e)) ranks
 parted ss ranks e sorted i j d le within before =
-    let far : is_less ss (get_or ranks j d) (get_or ranks i d) ≡ false = sorted_far (is_less ss) (weak ss) ranks sorted i j d le within in
+    let far : is_less ss (get_or ranks j d) (get_or ranks i d) ≡ false =
+    sorted_far (is_less ss) (weak ss) ranks sorted i j d le within in
     by (is_lt (compared_entries (entry ss (get_or ranks i d)) e)) refl far
   where
     w : IsStrictWeakOrder (λ a b. is_lt (compared_entries a b))
     w = ranks_by entries_total (λ (e : Entry). e)
 
-    by : (b : Bool) → is_lt (compared_entries (entry ss (get_or ranks i d)) e) ≡ b → is_less ss (get_or ranks j d) (get_or ranks i d) ≡ false → b ≡ true
+    by : (b : Bool) → is_lt (compared_entries (entry ss (get_or ranks i d)) e) ≡ b
+        → is_less ss (get_or ranks j d) (get_or ranks i d) ≡ false → b ≡ true
     by true holds far = refl
-    by false fails far = let lost = w.chain (entry ss (get_or ranks j d)) (entry ss (get_or ranks i d)) e far fails in absurd (cc)
+    by false fails far =
+        let lost = w.chain (entry ss (get_or ranks j d)) (entry ss (get_or ranks i d)) e far fails in absurd (cc)

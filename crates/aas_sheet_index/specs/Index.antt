@@ -1,7 +1,8 @@
--- The index of a column of sides: the ranks of those that have an idShort, by its short key, then by level, then by its bytes,
--- then by rank. So the child of a name is the first rank behind its parent's that has its level and its idShort.
+-- The index of a column of sides: the ranks of those that have an idShort, by its short key, then by level, then by its
+-- bytes, then by rank. So the child of a name is the first rank behind its parent's that has its level and its idShort.
 -- The index knows no parent, and stays in order when rows move together. This profile's own rule.
-use Rattle.std.specs.Prelude.{◌≡◌, ℕ, ◌++◌, ◌≤◌, ◌^◌, ◌==◌, ◌&&◌, not, nat_lt, get_or, if◌then◌else◌, Bool, false, List, [], ◌∷◌, length, slice_get, take, Option, Some, None}
+use Rattle.std.specs.Prelude.{◌≡◌, ℕ, ◌++◌, ◌≤◌, ◌^◌, ◌==◌, ◌&&◌, not, nat_lt, get_or, if◌then◌else◌, Bool, false, List}
+use Rattle.std.specs.Prelude.{[], ◌∷◌, length, slice_get, take, Option, Some, None}
 use Rattle.std.specs.Cmp.Lexicographic.{slice_cmp}
 use Rattle.std.specs.Int.{from_be_bytes, w64}
 use Rattle.std.specs.List.{All, list_any}
@@ -20,11 +21,13 @@ name_bytes (Some n) = encode_utf8_all n
 abbrev pub capped : ℕ → ℕ
 capped n = if nat_lt n 255 then n else 255
 
--- the level, the length of the idShort and its first six bytes, each in a byte of one number: most idShorts differ in it
+-- the level, the length of the idShort and its first six bytes,
+-- each in a byte of one number: most idShorts differ in it
 abbrev pub short_key : ℕ → List ℕ → ℕ
 short_key level name =
     from_be_bytes w64
-    (capped level ∷ capped (length name) ∷ get_or name 0 0 ∷ get_or name 1 0 ∷ get_or name 2 0 ∷ get_or name 3 0 ∷ get_or name 4 0 ∷ get_or name 5 0 ∷ [])
+    (capped level ∷ capped (length name) ∷ get_or name 0 0 ∷ get_or name 1 0
+    ∷ get_or name 2 0 ∷ get_or name 3 0 ∷ get_or name 4 0 ∷ get_or name 5 0 ∷ [])
 
 -- by what an idShort of a level stands in its place
 abbrev pub key : ℕ → List ℕ → List ℕ
@@ -62,7 +65,8 @@ is_between first end r = not (nat_lt r first) && nat_lt r end
 
 -- the ranks from first on, up to end, that have an idShort
 abbrev pub Listed : List Side → ℕ → ℕ → List ℕ → Type 0
-Listed ss first end ranks = (r : ℕ) → list_any (λ q. q == r) ranks ≡ (is_between first end r && has_name (slice_get ss r))
+Listed ss first end ranks =
+    (r : ℕ) → list_any (λ q. q == r) ranks ≡ (is_between first end r && has_name (slice_get ss r))
 
 -- the part of an index that names the sides from first on
 pub record IsPart (ss : List Side) (first : ℕ) (ranks : List ℕ) : Type 0 where

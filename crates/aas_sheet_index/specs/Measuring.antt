@@ -8,15 +8,16 @@ abbrev pub Begins : ℕ → List Side → Type 0
 Begins k [] = Unit {0}
 Begins k (s ∷ ss) = s.level ≤ k
 
--- Those from first to known stand in the place of others, which went up to end. The sizes were right with these, and what
--- stood there first was no deeper than k.
+-- Those from first to known stand in the place of others, which went up to end. The sizes were right with these, and
+-- what stood there first was no deeper than k.
 pub record StandFor (ss : List Side) (first known end k : ℕ) : Type 0 where
   pub old : List Side
   pub went : first + length old ≡ end
   pub sized : AreMeasured (take first ss ++ (old ++ drop known ss))
   pub begins : Begins k (old ++ drop known ss)
 
--- The row of a rank before place counts those up to end, stands above the level least, and is at most one level above k.
+-- The row of a rank before place counts those up to end,
+-- stands above the level least, and is at most one level above k.
 pub record IsAbove (ss : List Side) (rank place k least end : ℕ) : Type 0 where
   pub before : rank < place
   pub side : Side

@@ -6,8 +6,8 @@ use Rattle.std.specs.Ordering.{is_lt}
 use Rattle.aas_sheet_index.specs.Index.{order}
 use Rattle.aas_sheet_index.specs.declared.side.Side.{Side}
 
--- the one at a place stands behind those before it, and before those behind it; on both sides two parts are in order, of
--- which the first ends at place, and that behind the one has rest ranks
+-- the one at a place stands behind those before it, and before those behind it; on both sides two parts are in order,
+-- of which the first ends at place, and that behind the one has rest ranks
 pub record Divided (ss : List Side) (ranks : List ℕ) (place at rest : ℕ) : Type 0 where
   pub one : List ℕ
   pub two : List ℕ

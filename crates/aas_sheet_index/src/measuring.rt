@@ -81,10 +81,10 @@ pub(crate) fn measure(sides: &mut [Side], first: usize, known: usize)
 
 /// Writes the sizes of the rows before `first`. Those from `first` on are right.
 ///
-/// Those before were right where others stood in the place of those from `first` to `known`, and went up to `end`. A row
-/// that has `level`, or stands deeper, ends before the place, then and now. So the sizes of those above the place change
-/// alone, by the same difference. `above` tells these, the nearest last. It is tested: where it doesn't tell them all, the
-/// rows left are measured one by one.
+/// Those before were right where others stood in the place of those from `first` to `known`, and went up to `end`. A
+/// row that has `level`, or stands deeper, ends before the place, then and now. So the sizes of those above the place
+/// change alone, by the same difference. `above` tells these, the nearest last. It is tested: where it doesn't tell
+/// them all, the rows left are measured one by one.
 fn measure_above(
     sides: &mut [Side],
     first: usize,

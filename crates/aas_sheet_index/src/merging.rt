@@ -12,7 +12,9 @@ fn exchange(ranks: &mut [u32], first: usize, middle: usize, end: usize)
     requires low { first ≤ middle }
     requires high { middle ≤ end }
     requires inside { end ≤ length ranks.old }
-    ensures parts { ranks.new ≡ take first ranks.old ++ ((slice_range ranks.old middle end ++ slice_range ranks.old first middle) ++ drop end ranks.old) }
+    ensures parts { ranks.new
+        ≡ take first ranks.old
+        ++ ((slice_range ranks.old middle end ++ slice_range ranks.old first middle) ++ drop end ranks.old) }
     ensures same { IsPermutation ranks.old ranks.new }
 {
     ranks[first..end].rotate_left(middle - first);

@@ -29,8 +29,8 @@ fn moved(rank: u32, first: usize, end: usize, count: usize, total: usize) -> u32
     place as u32
 }
 
-/// How many of the first ranks needn't be moved. Where nothing stands behind the place, or as many sides come as go, only
-/// the last `added` ranks move, those of the sides that come.
+/// How many of the first ranks needn't be moved. Where nothing stands behind the place, or as many sides come as go,
+/// only the last `added` ranks move, those of the sides that come.
 fn unmoved(
     ranks: &[u32],
     first: usize,

@@ -95,8 +95,10 @@ pub(crate) fn compare_ranks(sides: &[Side], rank: u32, other: u32) -> Ordering
 pub(crate) fn place_of_key(sides: &[Side], ranks: &[u32], key: &Key<'_>, other: usize) -> usize
     requires { IsSorted (order sides.now) ranks.now }
     ensures inside { result ≤ length ranks.now }
-    ensures before { AllWithin (λ r. is_lt (compared (key_at sides.now r) r (listed key.now) other) ≡ true) ranks.now 0 result }
-    ensures behind { AllWithin (λ r. is_lt (compared (key_at sides.now r) r (listed key.now) other) ≡ false) ranks.now result (length ranks.now) }
+    ensures before { AllWithin
+        (λ r. is_lt (compared (key_at sides.now r) r (listed key.now) other) ≡ true) ranks.now 0 result }
+    ensures behind { AllWithin (λ r. is_lt (compared (key_at sides.now r) r (listed key.now) other) ≡ false)
+        ranks.now result (length ranks.now) }
 {
     ranks.partition_point(|rank| compare_to(sides, *rank as usize, key, other).is_lt())
 }

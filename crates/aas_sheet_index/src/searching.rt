@@ -32,7 +32,8 @@ fn is_below(side: &Side, level: u32) -> bool
 
 fn is_named_below(side: &Side, level: u32, name: &str) -> bool
     ensures value { result ≡ is_named_below level (chars name.now) side.now }
-    ensures bytes { IsSome side.now.id_short → side.now.level ≡ level + 1 → name_bytes side.now.id_short ≡ name.now → result ≡ true }
+    ensures bytes { IsSome side.now.id_short → side.now.level ≡ level + 1
+        → name_bytes side.now.id_short ≡ name.now → result ≡ true }
 {
     is_below(side, level) && has_name(side, name)
 }
@@ -45,7 +46,8 @@ fn place_named(sides: &[Side], level: u32, name: &str) -> Option<usize>
         .position(|side| is_named_below(side, level, name))
 }
 
-/// The first rank from `first` to `end` one level below a level whose side has the idShort. A few sides are walked along.
+/// The first rank from `first` to `end` one level below a level whose side has the idShort.
+/// A few sides are walked along.
 pub(crate) fn first_named(
     sides: &[Side],
     ranks: &[u32],
@@ -56,7 +58,9 @@ pub(crate) fn first_named(
 ) -> Option<usize>
     requires index { IsPart sides.now 0 ranks.now }
     requires keyed { AreKeyed sides.now }
-    ensures { result ≡ option_map (λ i. first + i) (position (is_named_below level (chars name.now)) (take (end - first) (drop first sides.now))) }
+    ensures { result
+        ≡ option_map (λ i. first + i)
+        (position (is_named_below level (chars name.now)) (take (end - first) (drop first sides.now))) }
 {
     if first <= end && end <= sides.len() && end - first <= FEW {
         first_named_walked(sides, first, end, level, name)
@@ -75,7 +79,9 @@ fn first_named_walked(
 ) -> Option<usize>
     requires ordered { first ≤ end }
     requires within { end ≤ length sides.now }
-    ensures { result ≡ option_map (λ i. first + i) (position (is_named_below level (chars name.now)) (take (end - first) (drop first sides.now))) }
+    ensures { result
+        ≡ option_map (λ i. first + i)
+        (position (is_named_below level (chars name.now)) (take (end - first) (drop first sides.now))) }
 {
     match place_named(&sides[first..end], level, name) {
         Some(place) => Some(first + place),
@@ -94,7 +100,9 @@ fn first_named_indexed(
 ) -> Option<usize>
     requires index { IsPart sides.now 0 ranks.now }
     requires keyed { AreKeyed sides.now }
-    ensures { result ≡ option_map (λ i. first + i) (position (is_named_below level (chars name.now)) (take (end - first) (drop first sides.now))) }
+    ensures { result
+        ≡ option_map (λ i. first + i)
+        (position (is_named_below level (chars name.now)) (take (end - first) (drop first sides.now))) }
 {
     let key = Key::new(u64::from(level) + 1, name);
     let place = place_of_key(sides, ranks, &key, first);
@@ -131,7 +139,8 @@ pub(crate) fn nth_below(
     requires sized { AreMeasured sides.now }
     requires few { length sides.now ≤ 2 ^ 31 }
     requires within { end ≤ length sides.now }
-    ensures value { result ≡ option_map (λ i. first + i) (nth_where (is_below level) place (take (end - first) (drop first sides.now))) }
+    ensures value { result
+        ≡ option_map (λ i. first + i) (nth_where (is_below level) place (take (end - first) (drop first sides.now))) }
     ensures inside { IfSome result (λ r. r < end) }
 {
     let mut left = place;

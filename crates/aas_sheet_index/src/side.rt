@@ -11,7 +11,8 @@ pub struct Side {
     pub level: u32,
     /// How many rows the element has with all below it.
     pub size: usize,
-    /// The level, the length of the idShort and its first six bytes as one number: the index tells most sides apart by it.
+    /// The level, the length of the idShort and its first six bytes as one number:
+    /// the index tells most sides apart by it.
     pub short_key: u64,
 }
 

@@ -1,4 +1,5 @@
-ghost use Rattle.std.specs.Prelude.{◌≡◌, ◌+◌, ◌-◌, ◌<◌, ◌≤◌, ◌++◌, ◌^◌, length, take, drop, option_map, IfOk, IfSome, OnErr, OnOk};
+ghost use Rattle.std.specs.Prelude.{◌≡◌, ◌+◌, ◌-◌, ◌<◌, ◌≤◌, ◌++◌, ◌^◌, length, take, drop, option_map, IfOk, IfSome};
+ghost use Rattle.std.specs.Prelude.{OnErr, OnOk};
 ghost use Rattle.std.specs.List.{position, remove_range, replace_range};
 ghost use Rattle.std.specs.Str.{chars};
 ghost use Rattle.aas_sheet_index.specs.Index.{AreKeyed, Enlarged, IsIndex, Waiting};
@@ -15,7 +16,8 @@ use crate::splicing::{append, splice, truncate};
 use aas_model::{Many, NoMemory};
 use std::marker::Model;
 
-/// Puts these sides behind the others, and their ranks. Gives the number of these. Nothing changes where memory is refused.
+/// Puts these sides behind the others, and their ranks. Gives the number of these.
+/// Nothing changes where memory is refused.
 fn enlarge(
     sides: &mut Many<Side>,
     ranks: &mut Vec<u32>,
@@ -72,10 +74,11 @@ fn settle(
 
 /// What stands beside the rows of a table, with an index by level and idShort.
 ///
-/// Contracts see it as the list of the sides. A look-up by name compares some 17 short keys among 65,536. An edit takes a
-/// few ranks out of the index by as many comparisons each, and merges the new ones in. It looks at every rank only where
-/// many sides go, or where those behind the place move. It measures the new sides and adds to the sizes of those above the
-/// place. Where it isn't told which these are, it measures the sides before the place too, up to a child of the submodel.
+/// Contracts see it as the list of the sides. A look-up by name compares some 17 short keys among 65,536. An edit takes
+/// a few ranks out of the index by as many comparisons each, and merges the new ones in. It looks at every rank only
+/// where many sides go, or where those behind the place move. It measures the new sides and adds to the sizes of those
+/// above the place. Where it isn't told which these are, it measures the sides before the place too, up to a child of
+/// the submodel.
 #[derive(Drop)]
 pub struct Sides {
     sides: Many<Side>,
@@ -129,16 +132,21 @@ impl Sides {
 
     /// The first rank from `first` to `end` one level below a level whose side has the idShort.
     pub fn first_named(&self, first: usize, end: usize, level: u32, name: &str) -> Option<usize>
-        ensures { result ≡ option_map (λ i. first + i) (position (is_named_below level (chars name.now)) (take (end - first) (drop first self.now))) }
+        ensures { result
+            ≡ option_map (λ i. first + i)
+            (position (is_named_below level (chars name.now)) (take (end - first) (drop first self.now))) }
     {
         let sides = self.sides.as_slice();
         first_named(sides, self.ranks.as_slice(), first, end, level, name)
     }
 
-    /// The nth rank from `first` to `end` one level below a level, counted from 0. It looks at no side below those before it.
+    /// The nth rank from `first` to `end` one level below a level,
+    /// counted from 0. It looks at no side below those before it.
     pub fn nth_below(&self, first: usize, end: usize, level: u32, place: u64) -> Option<usize>
         requires { end ≤ length self.now }
-        ensures value { result ≡ option_map (λ i. first + i) (nth_where (is_below level) place (take (end - first) (drop first self.now))) }
+        ensures value { result
+            ≡ option_map (λ i. first + i)
+            (nth_where (is_below level) place (take (end - first) (drop first self.now))) }
         ensures inside { IfSome result (λ r. r < end) }
     {
         nth_below(self.sides.as_slice(), first, end, level, place)

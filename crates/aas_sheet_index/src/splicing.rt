@@ -66,7 +66,9 @@ fn exchange<T>(items: &mut [T], first: usize, end: usize, added: usize)
     requires ordered { first ≤ end }
     requires before { end ≤ added }
     requires as_many { length items.old ≡ added + (end - first) }
-    ensures { items.new ≡ replace_range (take added items.old) first end (drop added items.old) ++ slice_range (take added items.old) first end }
+    ensures { items.new
+        ≡ replace_range (take added items.old) first end (drop added items.old)
+        ++ slice_range (take added items.old) first end }
 {
     let (front, back) = items.split_at_mut(added);
     front[first..end].swap_with_slice(back);

@@ -15,12 +15,16 @@ module _ (d : Submodel) (p : List PathStep) (rank : ℕ) (is : Some rank ≡ ran
   pub rank_within : rank < length (elements_of_all d.kids)
   rank_within =
       let there = at_rank d p rank (sym is) in
-      slice_get_within (elements_of_all d.kids) rank there.element (sym (element_of_path d p (Some rank) is) ∙ there.found)
+      slice_get_within (elements_of_all d.kids) rank there.element
+      (sym (element_of_path d p (Some rank) is) ∙ there.found)
 
-  pub copied : (r : Result Element Lack) → MatchResult r (λ e. slice_get (elements_of_all d.kids) rank ≡ Some e) (λ lack. lack ≡ NoMemory) → IfOk r (λ e. element_at d p ≡ Some e)
+  pub copied : (r : Result Element Lack)
+      → MatchResult r (λ e. slice_get (elements_of_all d.kids) rank ≡ Some e) (λ lack. lack ≡ NoMemory)
+      → IfOk r (λ e. element_at d p ≡ Some e)
   copied (Ok e) found = element_of_path d p (Some rank) is ∙ found
   copied (Err lack) found = tt
 
-pub no_other_lack : (r : Result Element Lack) (P : Element → Type 0) (lack : Lack) → MatchResult r P (λ lack. lack ≡ NoMemory) → (NoMemory ≡ lack → ⊥) → r ≡ Err lack → ⊥
+pub no_other_lack : (r : Result Element Lack) (P : Element → Type 0) (lack : Lack)
+    → MatchResult r P (λ lack. lack ≡ NoMemory) → (NoMemory ≡ lack → ⊥) → r ≡ Err lack → ⊥
 no_other_lack (Ok e) P lack found other is = absurd (cc)
 no_other_lack (Err k) P lack found other is = let same : k ≡ lack = cc in other (sym found ∙ same)

@@ -9,6 +9,7 @@ mod Laid
 mod Loans
 mod Made
 mod Putting
+mod Reached
 pub mod Standing
 mod Staying
 mod Updated

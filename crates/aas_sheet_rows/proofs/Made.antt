@@ -32,12 +32,14 @@ laid_deep es k rs ss high long are =
     ap levels_of (ap (rows_of_all es) back ∙ sym are) ∙ levels_same rs ss long in
     steps_deep (k - 1) (k - 1) ss (subst (InPreorder (k - 1)) same (rows_in_preorder es (k - 1)))
 
-pub made_table : (es : List Element) (rs : List Row) (ss : List Side) → length rs ≡ length ss → lines_of rs ss ≡ rows_of_all es 1 → sizes_of ss ≡ sizes (levels ss) → IsTable rs ss
+pub made_table : (es : List Element) (rs : List Row) (ss : List Side)
+    → length rs ≡ length ss → lines_of rs ss ≡ rows_of_all es 1 → sizes_of ss ≡ sizes (levels ss) → IsTable rs ss
 made_table es rs ss long are sized = record {
   long = long;
   ordered = subst (InPreorder 0) (ap levels_of (sym are) ∙ levels_same rs ss long) (rows_in_preorder es 0);
   sized = sized;
 }
 
-pub made_submodel : (head : Submodel) (es : List Element) (rs : List Row) (ss : List Side) → lines_of rs ss ≡ rows_of_all es 1 → submodel_of head rs ss ≡ record head { kids = es }
+pub made_submodel : (head : Submodel) (es : List Element) (rs : List Row) (ss : List Side)
+    → lines_of rs ss ≡ rows_of_all es 1 → submodel_of head rs ss ≡ record head { kids = es }
 made_submodel head es rs ss are = ap (λ es. record head { kids = es }) (ap trees_of are ∙ rows_give_trees es 1)

@@ -13,4 +13,5 @@ same_levels (r ∷ rs) (suc n) w = ap (λ ls. r.level ∷ ls) (same_levels rs n 
 
 pub others_stay : OthersStay
 others_stay d n w =
-    trees_give_rows (changed (rows_of_all d.kids 1) n w) 0 (subst (InPreorder 0) (sym (same_levels (rows_of_all d.kids 1) n w)) (rows_in_preorder d.kids 0))
+    trees_give_rows (changed (rows_of_all d.kids 1) n w) 0
+    (subst (InPreorder 0) (sym (same_levels (rows_of_all d.kids 1) n w)) (rows_in_preorder d.kids 0))

@@ -6,7 +6,12 @@ use Rattle.aas_sheet_rows.specs.declared.row.Row.{Row}
 
 -- a row with what w says; its level and its idShort stay
 abbrev pub with_own : Line → Row → Line
-with_own r w = record { level = r.level; common = record w.common { id_short = r.common.id_short }; payload = w.payload; role = w.role }
+with_own r w = record {
+  level = r.level;
+  common = record w.common { id_short = r.common.id_short };
+  payload = w.payload;
+  role = w.role;
+}
 
 abbrev pub changed : List Line → ℕ → Row → List Line
 changed [] n w = []

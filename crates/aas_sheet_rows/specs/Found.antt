@@ -8,7 +8,7 @@ use Rattle.aas_rows.specs.Children.{nth_where}
 use Rattle.aas_rows.specs.Rows.{Line, rows_of_all, BeginsRows}
 use Rattle.aas_sheet_index.specs.Sides.{is_below, is_named_below}
 use Rattle.aas_sheet_rows.specs.Table.{lines_of}
-use Rattle.aas_sheet_rows.specs.declared.finding.Span.{Span}
+use Rattle.aas_sheet_rows.specs.declared.finding.RowRange.{RowRange}
 use Rattle.aas_sheet_rows.specs.declared.row.Row.{Row}
 use Rattle.aas_sheet_index.specs.declared.side.Side.{Side}
 
@@ -27,10 +27,10 @@ pub record Among (rs : List Row) (ss : List Side) (first end k : ℕ) (ks : List
   pub higher : BeginsRows (k + 1) behind
 
 -- all rows, which stand below the submodel itself
-abbrev pub all_rows : List Side → Span
+abbrev pub all_rows : List Side → RowRange
 all_rows ss = record { first = 0; end = length ss; level = 0 }
 
 -- ks stand, as the children of one, in the rows that are given out, or there are none
-abbrev pub AreBelow : List Row → List Side → List Element → Option Span → Type 0
+abbrev pub AreBelow : List Row → List Side → List Element → Option RowRange → Type 0
 AreBelow rs ss ks None = ks ≡ []
 AreBelow rs ss ks (Some b) = Among rs ss b.first b.end b.level ks

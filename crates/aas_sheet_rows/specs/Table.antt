@@ -10,7 +10,8 @@ use Rattle.aas_sheet_index.specs.declared.side.Side.{Side}
 
 -- a row and what stands beside it, which has the idShort
 abbrev pub line_of : Row → Side → Line
-line_of r s = record { level = s.level; common = record r.common { id_short = s.id_short }; payload = r.payload; role = r.role }
+line_of r s =
+    record { level = s.level; common = record r.common { id_short = s.id_short }; payload = r.payload; role = r.role }
 
 abbrev pub lines_of : List Row → List Side → List Line
 lines_of [] ss = []

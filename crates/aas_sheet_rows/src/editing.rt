@@ -47,7 +47,8 @@ pub(crate) fn put_rows(
     requires high { 0 < level }
     requires low { level + length (kinds element) ≤ 4294967295 }
     requires few { length (replace_range (lines_of rows.old sides.old) first end (rows_of element level)) ≤ 2 ^ 31 }
-    ensures lines { OnOk result (lines_of rows.new sides.new ≡ replace_range (lines_of rows.old sides.old) first end (rows_of element level)) }
+    ensures lines { OnOk result
+        (lines_of rows.new sides.new ≡ replace_range (lines_of rows.old sides.old) first end (rows_of element level)) }
     ensures long { OnOk result (length rows.new ≡ length sides.new) }
     ensures sized { OnOk result (sizes_of sides.new ≡ sizes (levels sides.new)) }
     ensures same_rows { OnErr result (rows.new ≡ rows.old) }

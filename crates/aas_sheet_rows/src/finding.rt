@@ -1,4 +1,5 @@
-ghost use Rattle.std.specs.Prelude.{◌≡◌, ◌<◌, ◌≤◌, ◌+◌, ◌-◌, ◌^◌, List, length, take, drop, slice_get, option_map, IfErr, IfOk, Some};
+ghost use Rattle.std.specs.Prelude.{◌≡◌, ◌<◌, ◌≤◌, ◌+◌, ◌-◌, ◌^◌, List, length, take, drop, slice_get, option_map};
+ghost use Rattle.std.specs.Prelude.{IfErr, IfOk, Some};
 ghost use Rattle.std.specs.Option.{IfSome};
 ghost use Rattle.std.specs.Result.{result_ok};
 ghost use Rattle.aas_model.specs.declared.element.Element.{Element};
@@ -21,17 +22,17 @@ pub(crate) type Passed = ArrayVec<usize, 30>;
 
 /// Rows from `first` to `end`, which stand below one of a level.
 #[derive(Clone, Copy)]
-pub(crate) struct Span {
+pub(crate) struct RowRange {
     pub(crate) first: usize,
     pub(crate) end: usize,
     pub(crate) level: u32,
 }
 
 /// All rows, which stand below the submodel itself.
-pub(crate) fn all_rows(sides: &Sides) -> Span
+pub(crate) fn all_rows(sides: &Sides) -> RowRange
     ensures { result ≡ all_rows sides.now }
 {
-    Span {
+    RowRange {
         first: 0,
         end: sides.len(),
         level: 0,
@@ -54,16 +55,18 @@ pub(crate) fn is_list(payload: &Payload) -> bool
 /// The rank to which a step leads among the rows of a span.
 pub(crate) fn rank_of_step(
     sides: &Sides,
-    span: Span,
+    span: RowRange,
     in_list: bool,
     step: StepRef<'_>,
 ) -> Option<usize>
     requires ordered { span.first ≤ span.end }
     requires within { span.end ≤ length sides.now }
-    ensures value { result ≡ option_map (λ i. span.first + i) (side_of_step in_list (step_of step.entry) span.level (take (span.end - span.first) (drop span.first sides.now))) }
+    ensures value { result
+        ≡ option_map (λ i. span.first + i) (side_of_step in_list (step_of step.entry) span.level
+        (take (span.end - span.first) (drop span.first sides.now))) }
     ensures inside { IfSome result (λ r. r < span.end) }
 {
-    let Span { first, end, level } = span;
+    let RowRange { first, end, level } = span;
     match step {
         StepRef::Name(name) => {
             if in_list {
@@ -98,7 +101,7 @@ pub(crate) fn rank_behind(rows: &[Kept], sides: &[Side], rank: usize) -> usize
 pub(crate) fn find_among(
     rows: &[Kept],
     sides: &Sides,
-    span: Span,
+    span: RowRange,
     in_list: bool,
     step: &PathStep,
     path: &[PathStep],
@@ -108,9 +111,11 @@ pub(crate) fn find_among(
     requires ordered { span.first ≤ span.end }
     requires within { span.end ≤ length sides.now }
     requires short { length path.now < 2 ^ 63 }
-    ensures value { (ks : List Element) → Among rows.now sides.now span.first span.end span.level ks → result_ok result ≡ option_map (λ r. span.first + r) (rank_among in_list step.now path.now ks) }
+    ensures value { (ks : List Element) → Among rows.now sides.now span.first span.end span.level ks
+        → result_ok result ≡ option_map (λ r. span.first + r) (rank_among in_list step.now path.now ks) }
     ensures inside { IfOk result (λ r. r < length sides.now) }
-    ensures depth { (ks : List Element) → Among rows.now sides.now span.first span.end span.level ks → IfErr result (λ n. n ≡ depth_among in_list step.now path.now ks) }
+    ensures depth { (ks : List Element) → Among rows.now sides.now span.first span.end span.level ks
+        → IfErr result (λ n. n ≡ depth_among in_list step.now path.now ks) }
     ensures bound { IfErr result (λ n. n ≤ length path.now) }
 {
     let Some(rank) = rank_of_step(sides, span, in_list, step_ref(step)) else {
@@ -122,7 +127,7 @@ pub(crate) fn find_among(
             pass(passed, rank);
             let all = sides.as_slice();
             let in_list = is_list(&rows[rank].get().payload);
-            let span = Span {
+            let span = RowRange {
                 first: rank + 1,
                 end: rank_behind(rows, all, rank),
                 level: all[rank].level,
@@ -139,14 +144,15 @@ pub(crate) fn find_among(
 pub(crate) fn child_among(
     rows: &[Kept],
     sides: &Sides,
-    span: Span,
+    span: RowRange,
     in_list: bool,
     step: StepRef<'_>,
 ) -> Option<Spot>
     requires table { IsTable rows.now sides.now }
     requires ordered { span.first ≤ span.end }
     requires within { span.end ≤ length sides.now }
-    ensures { (ks : List Element) → Among rows.now sides.now span.first span.end span.level ks → result ≡ spot_among in_list ks span.first (step_of step.entry) }
+    ensures { (ks : List Element) → Among rows.now sides.now span.first span.end span.level ks
+        → result ≡ spot_among in_list ks span.first (step_of step.entry) }
 {
     match rank_of_step(sides, span, in_list, step) {
         Some(rank) => Some(Spot {

@@ -27,7 +27,8 @@ fn stack(waiting: &mut Many<Tree>, level: u32, elements: Many<Element>) -> Resul
 fn lay(rows: &mut Many<Kept>, sides: &mut Many<Side>, tree: Tree) -> Result<Many<Element>, NoMemory>
     requires { length rows.old ≡ length sides.old }
     ensures kids { IfOk result (λ kids. kids ≡ kids_of tree.element) }
-    ensures lines { IfOk result (λ _. lines_of rows.new sides.new ≡ lines_of rows.old sides.old ++ line_at tree.level tree.element ∷ []) }
+    ensures lines { IfOk result (λ _.
+        lines_of rows.new sides.new ≡ lines_of rows.old sides.old ++ line_at tree.level tree.element ∷ []) }
     ensures long { IfOk result (λ _. length rows.new ≡ length sides.new) }
     ensures keyed { IfOk result (λ _. AreKeyed sides.old → AreKeyed sides.new) }
 {
@@ -62,7 +63,8 @@ pub(crate) fn lay_all(
     requires long { length rows.old ≡ length sides.old }
     requires high { 0 < level }
     requires low { level + count elements ≤ 4294967295 }
-    ensures lines { OnOk result (lines_of rows.new sides.new ≡ lines_of rows.old sides.old ++ rows_of_all elements level) }
+    ensures lines { OnOk result
+        (lines_of rows.new sides.new ≡ lines_of rows.old sides.old ++ rows_of_all elements level) }
     ensures long { OnOk result (length rows.new ≡ length sides.new) }
     ensures keyed { OnOk result (AreKeyed sides.old → AreKeyed sides.new) }
 {

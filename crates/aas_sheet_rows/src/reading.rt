@@ -8,15 +8,16 @@ ghost use Rattle.aas_sheet_rows.specs.Table.{IsTable};
 ghost use Rattle.aas_path_trees.specs.ElementAt.{children_at};
 ghost use Rattle.aas_store.specs.Reads.{first_semantic_id};
 
-use crate::finding::{Passed, Span, all_rows, find_among, rank_behind};
+use crate::finding::{Passed, RowRange, all_rows, find_among, rank_behind};
 use crate::row::Kept;
 use aas_model::{Path, Reference};
 use aas_sheet_index::{Side, Sides};
 
 /// The rows below what is at the path, all rows at the empty path.
-pub(crate) fn below(rows: &[Kept], sides: &Sides, path: &Path) -> Option<Span>
+pub(crate) fn below(rows: &[Kept], sides: &Sides, path: &Path) -> Option<RowRange>
     requires { IsTable rows.now sides.now }
-    ensures rows { (s : Submodel) → Among rows.now sides.now 0 (length sides.now) 0 s.kids → AreBelow rows.now sides.now (children_at s path.now.steps) result }
+    ensures rows { (s : Submodel) → Among rows.now sides.now 0 (length sides.now) 0 s.kids
+        → AreBelow rows.now sides.now (children_at s path.now.steps) result }
     ensures ordered { IfSome result (λ b. b.first ≤ b.end) }
     ensures inside { IfSome result (λ b. b.end ≤ length sides.now) }
 {
@@ -28,7 +29,7 @@ pub(crate) fn below(rows: &[Kept], sides: &Sides, path: &Path) -> Option<Span>
     match find_among(rows, sides, span, false, step, rest, &mut passed) {
         Ok(rank) => {
             let all = sides.as_slice();
-            Some(Span {
+            Some(RowRange {
                 first: rank + 1,
                 end: rank_behind(rows, all, rank),
                 level: all[rank].level,
@@ -47,7 +48,8 @@ pub(crate) fn first_semantic_id<'a>(
 ) -> Option<&'a Reference>
     requires table { IsTable rows.now sides.now }
     requires within { end ≤ length sides.now }
-    ensures { (k : ℕ) (ks : List Element) → Among rows.now sides.now first end k ks → option_copied result ≡ first_semantic_id ks }
+    ensures { (k : ℕ) (ks : List Element) → Among rows.now sides.now first end k ks
+        → option_copied result ≡ first_semantic_id ks }
 {
     let mut rank = first;
     while rank < end {

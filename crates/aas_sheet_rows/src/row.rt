@@ -80,7 +80,8 @@ impl Kept {
 
 /// The row in a place, to be written in place.
 pub(crate) fn row_mut(rows: &mut Many<Kept>, place: usize) -> Option<&mut Row>
-    ensures* writes_back { sem 𝓛 (LendsIf kept_rows_type row_type rows.entry result (slice_set rows.old place) rows.old) }
+    ensures* writes_back { sem 𝓛
+        (LendsIf kept_rows_type row_type rows.entry result (slice_set rows.old place) rows.old) }
     ensures value { option_copied_mut result ≡ slice_get rows.old place }
 {
     match rows.get_mut(place) {

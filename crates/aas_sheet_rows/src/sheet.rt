@@ -1,10 +1,11 @@
-ghost use Rattle.std.specs.Prelude.{◌≡◌, ◌≢◌, ◌↔◌, ◌<◌, ◌≤◌, List, is_some, length, slice_get, option_map, unwrap_or, Err, IfErr, IfOk, IsSome, MatchOption, MatchResult, OnErr, OnOk, Some};
+ghost use Rattle.std.specs.Prelude.{◌≡◌, ◌≢◌, ◌↔◌, ◌<◌, ◌≤◌, List, is_some, length, slice_get, option_map, unwrap_or};
+ghost use Rattle.std.specs.Prelude.{Err, IfErr, IfOk, IsSome, MatchOption, MatchResult, OnErr, OnOk, Some};
 ghost use Rattle.std.specs.Option.{option_copied};
 ghost use Rattle.std.specs.Result.{result_ok};
 
 use crate::editing::{put_rows, remove_rows};
 use crate::finding::{
-    Passed, Span, all_rows, child_among, find_among, is_list, pass, rank_behind, rank_of_step,
+    Passed, RowRange, all_rows, child_among, find_among, is_list, pass, rank_behind, rank_of_step,
 };
 use crate::growing::{element_from, grow};
 use crate::laying::lay_all;
@@ -183,7 +184,9 @@ impl Sheet {
     /// The rank and the row of the element to which the path leads, or how far the path leads.
     pub fn find_row(&self, path: &Path) -> Result<(usize, RowView<'_>), Missing>
         ensures ranked { IfOk result (λ found. rank_at self.now path.now.steps ≡ Some found.0) }
-        ensures found { MatchResult result (λ found. MatchOption (element_at self.now path.now.steps) ⊥ (λ e. IsRowOf e found.1)) (LeadsNowhere self.now path.now.steps) }
+        ensures found { MatchResult result
+            (λ found. MatchOption (element_at self.now path.now.steps) ⊥ (λ e. IsRowOf e found.1))
+            (LeadsNowhere self.now path.now.steps) }
     {
         let rank = self.find(path)?;
         match self.row(rank) {
@@ -227,7 +230,8 @@ impl Sheet {
     pub fn element(&self, path: &Path) -> Result<Element, Lack>
         ensures found { IfOk result (λ e. element_at self.now path.now.steps ≡ Some e) }
         ensures there { result ≢ Err Lack.NoSubmodel }
-        ensures no_element { (m : Missing) → (result ≡ Err (Lack.NoElement m)) ↔ LeadsNowhere self.now path.now.steps m }
+        ensures no_element { (m : Missing)
+            → (result ≡ Err (Lack.NoElement m)) ↔ LeadsNowhere self.now path.now.steps m }
     {
         match self.find(path) {
             Ok(rank) => self.copy_of_rank(rank),
@@ -238,7 +242,8 @@ impl Sheet {
     /// A copy of the element of a rank, which is there.
     fn copy_of_rank(&self, rank: usize) -> Result<Element, Lack>
         requires { rank < length (elements_of_all self.now.kids) }
-        ensures { MatchResult result (λ e. slice_get (elements_of_all self.now.kids) rank ≡ Some e) (λ lack. lack ≡ Lack.NoMemory) }
+        ensures { MatchResult result (λ e. slice_get (elements_of_all self.now.kids) rank ≡ Some e)
+            (λ lack. lack ≡ Lack.NoMemory) }
     {
         match self.element_of_rank(rank) {
             Ok(Some(element)) => Ok(element),
@@ -290,7 +295,7 @@ impl Sheet {
             return None;
         }
         let in_list = is_list(&rows[rank].get().payload);
-        let span = Span {
+        let span = RowRange {
             first: rank + 1,
             end: rank_behind(rows, sides, rank),
             level: sides[rank].level,
@@ -304,7 +309,8 @@ impl Sheet {
     /// may say another kind.
     pub fn row_mut(&mut self, rank: usize) -> Option<&mut Row>
         ensures* writes_back { sem 𝓛 (LendsIf sheet_type row_type self.entry result (with_row self.old rank) self.old) }
-        ensures row { MatchOption result (length (rows_of_all self.old.kids 1) ≤ rank) (λ r. IsRow self.old rank r.now) }
+        ensures row { MatchOption result (length (rows_of_all self.old.kids 1) ≤ rank) (λ r.
+            IsRow self.old rank r.now) }
     {
         row_mut(&mut self.rows, rank)
     }
@@ -331,7 +337,8 @@ impl Sheet {
     /// Patches the element of the rank, or with rank 0 the submodel itself where the patch is one for it.
     pub fn update_from(&mut self, first: usize, patch: Patch)
         requires { (p : List PathStep) × (first ≡ unwrap_or (rank_at self.old p) 0) × FitsAt self.old p patch.rows }
-        ensures { (p : List PathStep) → first ≡ unwrap_or (rank_at self.old p) 0 → FitsAt self.old p patch.rows → self.new ≡ patched_at self.old p patch.rows }
+        ensures { (p : List PathStep) → first ≡ unwrap_or (rank_at self.old p) 0 → FitsAt self.old p patch.rows
+            → self.new ≡ patched_at self.old p patch.rows }
     {
         let mut patch = patch;
         put_payloads(self.rows.as_mut_slice(), patch.rows.as_mut_slice(), first);

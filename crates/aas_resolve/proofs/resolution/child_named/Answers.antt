@@ -16,7 +16,8 @@ returns-then-admits g c =
     let o = map.get (g.S.Store.documents c.args.store.now).submodels c.args.id.now in
     let spot = c.in_ok-spot.spot in
     named_by o c.args.at c.args.key.now c.is_list_at.result (step_of c.in_ok-step.step) c.rank_of.result
-    (Some spot) (Some spot) c.is_list_at.ensures c.rank_of.ensures c.in_ok-step.ensures c.in_ok-spot.ensures (omega arith)
+    (Some spot) (Some spot) c.is_list_at.ensures c.rank_of.ensures
+    c.in_ok-step.ensures c.in_ok-spot.ensures (omega arith)
     (sym (ap (λ b. cond b (Some spot) None) (sym c.admits.ensures ∙ c.if-admits.true)))
 
 pub returns-else-admits : goal.returns-else-admits

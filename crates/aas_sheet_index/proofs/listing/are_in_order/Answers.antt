@@ -13,7 +13,8 @@ isnt true e = cc
 isnt false e = refl
 
 in_order : (ss : List Side) (ranks : List ℕ) (b : Bool) (Other : Type 0)
-    → MatchBool b (AllAdjacentBelow (λ x y. true ≡ not (is_less ss y x)) ranks (length ranks)) Other → OnTrue b (IsSorted (order ss) ranks)
+    → MatchBool b (AllAdjacentBelow (λ x y. true ≡ not (is_less ss y x)) ranks (length ranks)) Other
+    → OnTrue b (IsSorted (order ss) ranks)
 in_order ss ranks true Other each = λ k d low high. isnt _ (each k d high)
 in_order ss ranks false Other some = tt
 

@@ -11,9 +11,12 @@ loop-rank-preserved c =
     let says : c.is_some.result ≡ is_some c.index-sides-rank.result.id_short = search rules in
     elim c.if-is_some.branch [
       | then-is_some+in_ok-push w ↦
-          let some = named_at c.args.sides.now l.rank c.index-sides-rank.result true inside c.index-sides-rank.is (sym w.if-is_some.true ∙ says) in
-          rw w.ranks-is (rw w.in_ok-push.ensures.ok (listed_more c.args.sides.now c.args.first l.rank l.ranks.items (search rules) some l.invariant))
+          let some = named_at c.args.sides.now l.rank c.index-sides-rank.result true inside c.index-sides-rank.is
+          (sym w.if-is_some.true ∙ says) in
+          rw w.ranks-is (rw w.in_ok-push.ensures.ok
+          (listed_more c.args.sides.now c.args.first l.rank l.ranks.items (search rules) some l.invariant))
       | else-is_some w ↦
-          let none = named_at c.args.sides.now l.rank c.index-sides-rank.result false inside c.index-sides-rank.is (sym w.if-is_some.false ∙ says) in
+          let none = named_at c.args.sides.now l.rank c.index-sides-rank.result false inside c.index-sides-rank.is
+          (sym w.if-is_some.false ∙ says) in
           rw w.ranks-is (listed_on c.args.sides.now c.args.first l.rank l.ranks.items none l.invariant)
     ]

@@ -14,7 +14,9 @@ returns-then-are_in_order c =
     let ss : List Side = c.args.sides.now in
     let same : c.as_slice.result.now ≡ c.in_ok-ranks.ranks.items = search rules in
     record {
-      ordered = subst (IsSorted (order ss)) same (in_order c.are_in_order.result c.if-are_in_order.true c.are_in_order.ensures);
+      ordered =
+          subst (IsSorted (order ss)) same
+          (in_order c.are_in_order.result c.if-are_in_order.true c.are_in_order.ensures);
       listed = c.in_ok-ranks.ensures;
     }
   where
@@ -24,6 +26,11 @@ returns-then-are_in_order c =
 
 pub returns : goal.returns
 returns c = record {
-  ordered = c.sort_unstable_by.ensures.sorted (is_less c.args.sides.now) (weak c.args.sides.now) (always_returns_same _ (λ a r. is_lt r ≡ is_less c.args.sides.now a.0.now a.1.0.now) _ (λ a r q k. search rules));
-  listed = λ r. sym (list_any-IsPermutation (λ q. q == r) c.in_ok-ranks.ranks.items c.sort_unstable_by.new.self.items c.sort_unstable_by.ensures.permutation) ∙ c.in_ok-ranks.ensures r;
+  ordered =
+      c.sort_unstable_by.ensures.sorted (is_less c.args.sides.now) (weak c.args.sides.now)
+      (always_returns_same _ (λ a r. is_lt r ≡ is_less c.args.sides.now a.0.now a.1.0.now) _ (λ a r q k. search rules));
+  listed = λ r.
+      sym (list_any-IsPermutation (λ q. q == r) c.in_ok-ranks.ranks.items
+      c.sort_unstable_by.new.self.items c.sort_unstable_by.ensures.permutation)
+      ∙ c.in_ok-ranks.ensures r;
 }

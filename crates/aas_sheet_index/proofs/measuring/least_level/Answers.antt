@@ -10,5 +10,6 @@ returns-then-known-first c =
     let first = c.args.first in
     let s : Side = c.index-sides-first.result in
     let inside : first < length ss = omega (arith, c.requires.ordered, c.requires.within, c.if-first-known.false) in
-    below_first (drop first ss) (c.args.known - first) s (drop (first + 1) ss) (drop_at ss first s inside c.index-sides-first.is)
+    below_first (drop first ss) (c.args.known - first) s
+    (drop (first + 1) ss) (drop_at ss first s inside c.index-sides-first.is)
     c.requires.sized c.if-known-first.true

@@ -22,7 +22,8 @@ pub loop-place-preserved : goal.loop-place-preserved
 loop-place-preserved c =
     let l = c.loop-place in record {
       ordered = omega (arith, c.loop-place-test.true);
-      sizes = measuring_on c.args.sides.now l.sides l.place (l.place - 1) c.size_at-size.result c.index-sides-place.result
+      sizes =
+          measuring_on c.args.sides.now l.sides l.place (l.place - 1) c.size_at-size.result c.index-sides-place.result
           (omega (arith, c.loop-place-test.true)) l.invariant.sizes c.size_at-size.ensures;
     }
 

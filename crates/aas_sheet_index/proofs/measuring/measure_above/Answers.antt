@@ -24,7 +24,9 @@ overflow_add-side c =
     let a = c.args in
     let l = c.loop-rank in
     let rank : ℕ = c.in-Some.field-0.now in
-    let fits = new_size_fits a.sides.now l.sides a.first a.known a.end l.place l.level l.invariant.left rank c.least_level-least.result
+    let fits =
+    new_size_fits a.sides.now l.sides a.first a.known a.end l.place
+    l.level l.invariant.left rank c.least_level-least.result
     c.index-sides-rank.result (c.if-is_above.ensures refl) c.least_level-least.ensures in
     search rules
 
@@ -35,7 +37,9 @@ loop-rank-preserved-then-is_above c =
     let rank : ℕ = c.in-Some.field-0.now in record {
       can_next = tt;
       is_finite = tt;
-      left = above_done a.sides.now l.sides a.first a.known a.end l.place l.level l.invariant.left rank c.least_level-least.result
+      left =
+          above_done a.sides.now l.sides a.first a.known a.end l.place
+          l.level l.invariant.left rank c.least_level-least.result
           c.index-sides-rank.result (c.if-is_above.ensures refl) c.least_level-least.ensures;
     }
 
@@ -58,4 +62,5 @@ pub returns-else-level-gt1 : goal.returns-else-level-gt1
 returns-else-level-gt1 c =
     let a = c.args in
     let l = c.loop-place in
-    front_done a.sides.now l.sides a.first a.known a.end l.place l.level l.invariant c.requires.levels (omega (arith, c.if-level-gt1.false))
+    front_done a.sides.now l.sides a.first a.known a.end l.place l.level l.invariant c.requires.levels
+    (omega (arith, c.if-level-gt1.false))

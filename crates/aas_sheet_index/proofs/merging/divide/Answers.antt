@@ -12,5 +12,7 @@ returns-clause-divided c =
     let small : half < length ranks - kept = omega arith in
     let long = length-take-le kept ranks (omega arith) in
     let inside = c.place_of_rank-place.ensures.inside in
-    divided c.args.sides.now ranks c.exchange.new.ranks (take kept ranks) kept (kept + half) c.place_of_rank-place.result refl (omega arith) (omega (arith, small)) (omega (arith, inside, long)) c.requires.front c.requires.back
+    divided c.args.sides.now ranks c.exchange.new.ranks (take kept ranks) kept
+    (kept + half) c.place_of_rank-place.result refl (omega arith) (omega (arith, small))
+    (omega (arith, inside, long)) c.requires.front c.requires.back
     c.place_of_rank-place.ensures.before c.place_of_rank-place.ensures.behind c.exchange.ensures.parts

@@ -9,7 +9,8 @@ loop-ranks-init c =
     let a = c.args in
     let p = c.place_of_rank-place in
     record {
-      gathered = gathered a.sides.now a.rank p.result a.kept a.ranks.now.items c.as_slice.result.now c.as_slice.ensures.value
+      gathered =
+          gathered a.sides.now a.rank p.result a.kept a.ranks.now.items c.as_slice.result.now c.as_slice.ensures.value
           c.requires.inside c.requires.sorted c.requires.others p.ensures.inside p.ensures.before p.ensures.behind;
       same = refl;
     }
@@ -39,5 +40,6 @@ pub returns-after-loop-ranks : goal.returns-after-loop-ranks
 returns-after-loop-ranks c =
     let past = c.loop-ranks-test.false in
     let long = c.len.ensures ∙ c.loop-ranks.ranks.ok.0 in
-    sym (gathered_none c.args.rank c.place_of_rank-place.result c.loop-ranks.ranks.items 0 c.loop-ranks.invariant.gathered
+    sym
+    (gathered_none c.args.rank c.place_of_rank-place.result c.loop-ranks.ranks.items 0 c.loop-ranks.invariant.gathered
     (λ lt e. omega arith)) ∙ c.loop-ranks.invariant.same

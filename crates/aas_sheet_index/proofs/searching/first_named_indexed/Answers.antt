@@ -9,9 +9,11 @@ use Rattle.aas_sheet_index.specs.declared.order.Key.{Key}
 use Rattle.aas_sheet_index.specs.declared.side.Side.{Side}
 use Rattle.aas_sheet_index.proofs.Searched.{none_behind, none_other, none_past, some_there, Sought}
 use Rattle.aas_sheet_index.proofs.searching.first_named_indexed.Goals as goal
+use Rattle.aas_sheet_index.proofs.searching.first_named_indexed.Goals.{After-place_of_key-place}
 
 -- what was looked for by a key that the code made
-sought : (ss : List Side) (ranks : List ℕ) (k k' : ℕ) (name : List ℕ) (first place : ℕ) (made : Key) → IsPart ss 0 ranks → AreKeyed ss → IsUtf8 name → k' ≡ k → listed made ≡ key (k' + 1) name
+sought : (ss : List Side) (ranks : List ℕ) (k k' : ℕ) (name : List ℕ) (first place : ℕ) (made : Key)
+    → IsPart ss 0 ranks → AreKeyed ss → IsUtf8 name → k' ≡ k → listed made ≡ key (k' + 1) name
     → AllWithin (λ r. is_lt (compared (key_at ss r) r (listed made) first) ≡ true) ranks 0 place
     → AllWithin (λ r. is_lt (compared (key_at ss r) r (listed made) first) ≡ false) ranks place (length ranks)
     → Sought ss ranks k name first place
@@ -20,52 +22,45 @@ sought ss ranks k k' name first place made index keyed utf8 is same before behin
       index = index;
       keyed = keyed;
       spelled = encodes-chars name utf8;
-      before = subst (λ (a : List ℕ). AllWithin (λ r. is_lt (compared (key_at ss r) r a first) ≡ true) ranks 0 place) by before;
-      behind = subst (λ (a : List ℕ). AllWithin (λ r. is_lt (compared (key_at ss r) r a first) ≡ false) ranks place (length ranks)) by behind;
+      before = subst
+          (λ (a : List ℕ). AllWithin (λ r. is_lt (compared (key_at ss r) r a first) ≡ true) ranks 0 place) by before;
+      behind =
+          subst (λ (a : List ℕ).
+          AllWithin (λ r. is_lt (compared (key_at ss r) r a first) ≡ false) ranks place (length ranks))
+          by behind;
     }
+
+found : (c : After-place_of_key-place)
+    → Sought c.args.sides.now c.args.ranks.now c.args.level c.args.name.now c.args.first c.place_of_key-place.result
+found c =
+    sought c.args.sides.now c.args.ranks.now c.args.level c.from.result c.args.name.now c.args.first
+    c.place_of_key-place.result c.new-key.result c.requires.index c.requires.keyed c.utf8.name
+    c.from.ensures c.new-key.ensures c.place_of_key-place.ensures.before c.place_of_key-place.ensures.behind
 
 pub returns-then-place-ranks : goal.returns-then-place-ranks
 returns-then-place-ranks c =
-    let ss : List Side = c.args.sides.now in
-    let ranks : List ℕ = c.args.ranks.now in
-    let name : List ℕ = c.args.name.now in
-    let place : ℕ = c.place_of_key-place.result in
-    let x =
-    sought ss ranks c.args.level c.from.result name c.args.first place c.new-key.result c.requires.index c.requires.keyed c.utf8.name
-    c.from.ensures c.new-key.ensures c.place_of_key-place.ensures.before c.place_of_key-place.ensures.behind in
-    none_past ss ranks c.args.level name c.args.first c.args.end place x c.if-place-ranks.true
+    let x = found (goal.at.returns-then-place-ranks c).After-place_of_key-place in
+    none_past c.args.sides.now c.args.ranks.now c.args.level c.args.name.now
+    c.args.first c.args.end c.place_of_key-place.result x c.if-place-ranks.true
 
 pub returns-then-rank-end : goal.returns-then-rank-end
 returns-then-rank-end c =
-    let ss : List Side = c.args.sides.now in
-    let ranks : List ℕ = c.args.ranks.now in
-    let name : List ℕ = c.args.name.now in
-    let place : ℕ = c.place_of_key-place.result in
-    let x =
-    sought ss ranks c.args.level c.from.result name c.args.first place c.new-key.result c.requires.index c.requires.keyed c.utf8.name
-    c.from.ensures c.new-key.ensures c.place_of_key-place.ensures.before c.place_of_key-place.ensures.behind in
-    none_behind ss ranks c.args.level name c.args.first c.args.end place x c.if-rank-end.true
+    none_behind c.args.sides.now c.args.ranks.now c.args.level
+    c.args.name.now c.args.first c.args.end c.place_of_key-place.result
+    (found (goal.at.returns-then-rank-end c).After-place_of_key-place) c.if-rank-end.true
 
 pub returns-then-is_named_below : goal.returns-then-is_named_below
 returns-then-is_named_below c =
-    let ss : List Side = c.args.sides.now in
-    let ranks : List ℕ = c.args.ranks.now in
-    let name : List ℕ = c.args.name.now in
-    let place : ℕ = c.place_of_key-place.result in
-    let x =
-    sought ss ranks c.args.level c.from.result name c.args.first place c.new-key.result c.requires.index c.requires.keyed c.utf8.name
-    c.from.ensures c.new-key.ensures c.place_of_key-place.ensures.before c.place_of_key-place.ensures.behind in
-    some_there ss ranks c.args.level name c.args.first c.args.end place x (omega (arith, c.if-place-ranks.false)) c.index-sides-rank.result
-    c.index-sides-rank.is (omega (arith, c.if-rank-end.false)) (sym c.is_named_below.ensures.value ∙ c.if-is_named_below.true)
+    let x = found (goal.at.returns-then-is_named_below c).After-place_of_key-place in
+    some_there c.args.sides.now c.args.ranks.now c.args.level c.args.name.now c.args.first
+    c.args.end c.place_of_key-place.result x (omega (arith, c.if-place-ranks.false))
+    c.index-sides-rank.result c.index-sides-rank.is (omega (arith, c.if-rank-end.false))
+    (sym c.is_named_below.ensures.value ∙ c.if-is_named_below.true)
 
 pub returns-else-is_named_below : goal.returns-else-is_named_below
 returns-else-is_named_below c =
-    let ss : List Side = c.args.sides.now in
-    let ranks : List ℕ = c.args.ranks.now in
-    let name : List ℕ = c.args.name.now in
-    let place : ℕ = c.place_of_key-place.result in
-    let x =
-    sought ss ranks c.args.level c.from.result name c.args.first place c.new-key.result c.requires.index c.requires.keyed c.utf8.name
-    c.from.ensures c.new-key.ensures c.place_of_key-place.ensures.before c.place_of_key-place.ensures.behind in
-    none_other ss ranks c.args.level name c.args.first c.args.end place x (omega (arith, c.if-place-ranks.false)) c.index-sides-rank.result
+    none_other c.args.sides.now c.args.ranks.now c.args.level
+    c.args.name.now c.args.first c.args.end c.place_of_key-place.result
+    (found (goal.at.returns-else-is_named_below c).After-place_of_key-place) (omega (arith, c.if-place-ranks.false))
+    c.index-sides-rank.result
     c.index-sides-rank.is c.is_named_below.result c.if-is_named_below.false c.is_named_below.ensures.bytes

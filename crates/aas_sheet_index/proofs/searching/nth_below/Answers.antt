@@ -1,8 +1,10 @@
-use Rattle.std.proofs.Common.{◌≡◌, ◌+◌, ◌-◌, ◌<◌, ◌≤◌, ℕ, suc, length, get_or, List, Some, slice_get, true, sym, ap, ap₂, ◌∙◌, arith, rules}
+use Rattle.std.proofs.Common.{◌≡◌, ◌+◌, ◌-◌, ◌<◌, ◌≤◌, ℕ, suc, length, get_or, List, Some, slice_get, true, sym, ap}
+use Rattle.std.proofs.Common.{ap₂, ◌∙◌, arith, rules}
 use Rattle.std.proofs.lemmas.Option.{slice_get-get_or}
 use Rattle.aas_sheet_index.specs.Sides.{is_below}
 use Rattle.aas_sheet_index.specs.declared.side.Side.{Side}
-use Rattle.aas_sheet_index.proofs.Counted.{deeper_is_not_below, found_here, nth_from, passed_all, passed_by, size_within}
+use Rattle.aas_sheet_index.proofs.Counted.{deeper_is_not_below, found_here, nth_from, passed_all}
+use Rattle.aas_sheet_index.proofs.Counted.{passed_by, size_within}
 use Rattle.aas_sheet_index.proofs.searching.nth_below.Goals as goal
 use Rattle.aas_sheet_index.proofs.searching.nth_below.Goals.{then-is_below+else-left-eq0, else-is_below}
 
@@ -14,17 +16,23 @@ returns-then-left-eq0-clause-value c =
     let ss : List Side = c.args.sides.now in
     let l = c.loop-rank in
     let inside = c.loop-rank-test.true in
-    let at : slice_get ss l.rank ≡ Some c.index-sides-rank.result = there ss l.rank c.index-sides-rank.result (omega (arith, inside, c.requires.within)) c.index-sides-rank.is in
+    let at : slice_get ss l.rank ≡ Some c.index-sides-rank.result =
+    there ss l.rank c.index-sides-rank.result (omega (arith, inside, c.requires.within)) c.index-sides-rank.is in
     let none : l.left ≡ 0 = c.if-left-eq0.true in
-    sym (l.invariant ∙ ap (nth_from (is_below c.args.level) ss c.args.end l.rank) none ∙ found_here (is_below c.args.level) ss c.args.end l.rank c.index-sides-rank.result inside at (sym c.is_below.ensures ∙ c.if-is_below.true))
+    sym (l.invariant ∙ ap (nth_from (is_below c.args.level) ss c.args.end l.rank) none
+    ∙ found_here (is_below c.args.level) ss c.args.end l.rank c.index-sides-rank.result inside at
+    (sym c.is_below.ensures ∙ c.if-is_below.true))
 
 pub overflow_add-rank : goal.overflow_add-rank
 overflow_add-rank c =
     let ss : List Side = c.args.sides.now in
     let inside = c.loop-rank-test.true in
-    let fits = size_within ss c.loop-rank.rank c.index-sides-rank.result c.requires.sized (there ss c.loop-rank.rank c.index-sides-rank.result (omega (arith, inside, c.requires.within)) c.index-sides-rank.is) in
+    let fits = size_within ss c.loop-rank.rank c.index-sides-rank.result c.requires.sized
+    (there ss c.loop-rank.rank c.index-sides-rank.result
+    (omega (arith, inside, c.requires.within)) c.index-sides-rank.is) in
     let sum = fits.1 in
-    let small : c.loop-rank.rank + c.index-sides-rank.result.size ≤ 18446744073709551615 = omega (arith, sum, c.requires.few) in
+    let small : c.loop-rank.rank + c.index-sides-rank.result.size ≤ 18446744073709551615 =
+    omega (arith, sum, c.requires.few) in
     search rules
 
 pub loop-left-init : goal.loop-left-init
@@ -40,12 +48,14 @@ loop-left-init c =
           let holds = sym c.is_below.ensures ∙ w.if-is_below.true in
           let some : l.left ≡ suc (l.left - 1) = omega (arith, w.if-left-eq0.false) in record {
             same = l.invariant ∙ ap (nth_from p ss c.args.end l.rank) some
-                ∙ passed_all p ss c.args.end l.rank s inside at (l.left - 1) holds (deeper_is_not_below c.args.level s holds) c.requires.sized
+                ∙ passed_all p ss c.args.end l.rank s inside at (l.left - 1) holds
+                (deeper_is_not_below c.args.level s holds) c.requires.sized
                 ∙ sym (ap₂ (nth_from p ss c.args.end) w.rank-is w.left-is);
             on = omega arith;
           }
       | else-is_below w ↦ record {
-        same = l.invariant ∙ passed_by p ss c.args.end l.rank s inside at l.left (sym c.is_below.ensures ∙ w.if-is_below.false)
+        same = l.invariant
+            ∙ passed_by p ss c.args.end l.rank s inside at l.left (sym c.is_below.ensures ∙ w.if-is_below.false)
             ∙ sym (ap₂ (nth_from p ss c.args.end) w.rank-is w.left-is);
         on = omega arith;
       }
@@ -56,7 +66,9 @@ loop-rank-smaller-else-is_leaf_below c =
     let ss : List Side = c.args.sides.now in
     let inside = c.loop-rank-test.true in
     let on = c.loop-left.invariant.on in
-    let fits = size_within ss c.loop-rank.rank c.index-sides-rank.result c.requires.sized (there ss c.loop-rank.rank c.index-sides-rank.result (omega (arith, inside, c.requires.within)) c.index-sides-rank.is) in
+    let fits = size_within ss c.loop-rank.rank c.index-sides-rank.result c.requires.sized
+    (there ss c.loop-rank.rank c.index-sides-rank.result
+    (omega (arith, inside, c.requires.within)) c.index-sides-rank.is) in
     let some = fits.0 in
     elim c.if-is_below.branch [
       | then-is_below+else-left-eq0 w ↦ let is = w.rank-is in omega (arith, inside, on, is, some)
@@ -68,7 +80,9 @@ loop-rank-smaller c =
     let ss : List Side = c.args.sides.now in
     let inside = c.loop-rank-test.true in
     let on = c.loop-left.invariant.on in
-    let fits = size_within ss c.loop-rank.rank c.index-sides-rank.result c.requires.sized (there ss c.loop-rank.rank c.index-sides-rank.result (omega (arith, inside, c.requires.within)) c.index-sides-rank.is) in
+    let fits = size_within ss c.loop-rank.rank c.index-sides-rank.result c.requires.sized
+    (there ss c.loop-rank.rank c.index-sides-rank.result
+    (omega (arith, inside, c.requires.within)) c.index-sides-rank.is) in
     let some = fits.0 in
     elim c.if-is_below.branch [
       | then-is_below+else-left-eq0 w ↦ let is = w.rank-is in omega (arith, inside, on, is, some)
@@ -87,7 +101,8 @@ loop-left-preserved c =
     let some : l.left ≡ suc (l.left - 1) = omega (arith, c.loop-left-test.true) in
     let on = l.invariant.on in record {
       same = l.invariant.same ∙ ap (nth_from p ss c.args.end l.rank) some
-          ∙ passed_all p ss c.args.end l.rank s inside at (l.left - 1) leaf.0 (deeper_is_not_below c.args.level s leaf.0) c.requires.sized
+          ∙ passed_all p ss c.args.end l.rank s inside at (l.left - 1) leaf.0
+          (deeper_is_not_below c.args.level s leaf.0) c.requires.sized
           ∙ ap (λ n. nth_from p ss c.args.end (l.rank + n) (l.left - 1)) leaf.1;
       on = omega (arith, on);
     }

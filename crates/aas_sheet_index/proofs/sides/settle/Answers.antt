@@ -8,51 +8,57 @@ use Rattle.aas_sheet_index.specs.Moving.{renumbered}
 use Rattle.aas_sheet_index.specs.Sides.{measured, HaveLevels}
 use Rattle.aas_sheet_index.specs.declared.side.Side.{Side}
 use Rattle.aas_sheet_index.proofs.Settled.{all_spliced, ends, fits, measured_in, meeting, merged, renewed, stand}
+use Rattle.aas_sheet_index.proofs.Settled.{Meeting, Renewed}
 use Rattle.aas_sheet_index.proofs.Spliced.{parts, take_seam}
 use Rattle.aas_sheet_index.proofs.sides.settle.Goals as goal
+use Rattle.aas_sheet_index.proofs.sides.settle.Goals.{After-len}
+
+-- the sides as they are then
+abbrev next : After-len → List Side
+next c = replace_range (take c.args.count c.args.sides.now) c.args.first c.args.end (drop c.args.count c.args.sides.now)
+
+-- the ranks as they are renumbered, and where the two parts of them meet
+here : (c : After-len) → Renewed (next c) c.renumber.new.ranks.items c.args.added
+here c =
+    let a = c.args in
+    let ss : List Side = a.sides.now in
+    let p = parts ss a.first a.end a.count c.requires.ordered c.requires.before c.requires.within in
+    renewed ss a.first a.end a.count p a.ranks.now.items c.renumber.new.ranks.items a.added c.requires.waiting
+    (c.renumber.ensures
+    ∙ ap (λ (xs : List Side). renumbered a.first a.end a.count (length xs) a.ranks.now.items) c.as_slice-2.ensures)
+
+met : (c : After-len) → Meeting (next c) c.renumber.new.ranks.items (c.len.result - c.args.added)
+met c =
+    meeting (next c) c.renumber.new.ranks.items c.args.added (c.len.result - c.args.added)
+    (here c) (ap (λ (n : ℕ). n - c.args.added) (c.len.ensures ∙ c.renumber.new.ranks.ok.0))
+
+part_sorted : (part : List ℕ → List ℕ) (ss ss' : List Side) (ranks ranks' : List ℕ)
+    → ss' ≡ ss → ranks' ≡ ranks → IsSorted (order ss) (part ranks) → IsSorted (order ss') (part ranks')
+part_sorted part ss ss' ranks ranks' sides_are ranks_are sorted =
+    subst (λ (ss : List Side). IsSorted (order ss) (part ranks')) (sym sides_are)
+    (subst (λ (xs : List ℕ). IsSorted (order ss) (part xs)) (sym ranks_are) sorted)
 
 pub overflow_sub-kept : goal.overflow_sub-kept
 overflow_sub-kept c =
-    let a = c.args in
-    let ss : List Side = a.sides.now in
-    let new : List ℕ = c.renumber.new.ranks.items in
-    let p = parts ss a.first a.end a.count c.requires.ordered c.requires.before c.requires.within in
-    let r =
-    renewed ss a.first a.end a.count p a.ranks.now.items new a.added c.requires.waiting
-    (c.renumber.ensures ∙ ap (λ (xs : List Side). renumbered a.first a.end a.count (length xs) a.ranks.now.items) c.as_slice-2.ensures) in
-    let inside : a.added ≤ length new = fits (replace_range (take a.count ss) a.first a.end (drop a.count ss)) new a.added r in
-    let long : c.len.result ≡ length new = c.len.ensures ∙ c.renumber.new.ranks.ok.0 in
+    let inside : c.args.added ≤ length c.renumber.new.ranks.items =
+    fits (next (goal.at.overflow_sub-kept c).After-len) c.renumber.new.ranks.items c.args.added
+    (here (goal.at.overflow_sub-kept c).After-len) in
+    let long : c.len.result ≡ length c.renumber.new.ranks.items = c.len.ensures ∙ c.renumber.new.ranks.ok.0 in
     omega arith
 
 pub merge-requires-clause-front : goal.merge-requires-clause-front
 merge-requires-clause-front c =
-    let a = c.args in
-    let ss : List Side = a.sides.now in
-    let next : List Side = replace_range (take a.count ss) a.first a.end (drop a.count ss) in
-    let new : List ℕ = c.renumber.new.ranks.items in
-    let kept : ℕ = c.len.result - a.added in
-    let p = parts ss a.first a.end a.count c.requires.ordered c.requires.before c.requires.within in
-    let r =
-    renewed ss a.first a.end a.count p a.ranks.now.items new a.added c.requires.waiting
-    (c.renumber.ensures ∙ ap (λ (xs : List Side). renumbered a.first a.end a.count (length xs) a.ranks.now.items) c.as_slice-2.ensures) in
-    let m = meeting next new a.added kept r (ap (λ (n : ℕ). n - a.added) (c.len.ensures ∙ c.renumber.new.ranks.ok.0)) in
-    subst (λ (ss : List Side). IsSorted (order ss) (take kept c.as_mut_slice.result.now)) (sym (c.as_slice-3.ensures ∙ c.splice.ensures))
-    (subst (λ (xs : List ℕ). IsSorted (order next) (take kept xs)) (sym c.as_mut_slice.ensures.value) m.front)
+    part_sorted (take (c.len.result - c.args.added))
+    (next (goal.at.merge-requires-clause-front c).After-len) c.as_slice-3.result.now
+    c.renumber.new.ranks.items c.as_mut_slice.result.now (c.as_slice-3.ensures ∙ c.splice.ensures)
+    c.as_mut_slice.ensures.value (met (goal.at.merge-requires-clause-front c).After-len).front
 
 pub merge-requires-clause-back : goal.merge-requires-clause-back
 merge-requires-clause-back c =
-    let a = c.args in
-    let ss : List Side = a.sides.now in
-    let next : List Side = replace_range (take a.count ss) a.first a.end (drop a.count ss) in
-    let new : List ℕ = c.renumber.new.ranks.items in
-    let kept : ℕ = c.len.result - a.added in
-    let p = parts ss a.first a.end a.count c.requires.ordered c.requires.before c.requires.within in
-    let r =
-    renewed ss a.first a.end a.count p a.ranks.now.items new a.added c.requires.waiting
-    (c.renumber.ensures ∙ ap (λ (xs : List Side). renumbered a.first a.end a.count (length xs) a.ranks.now.items) c.as_slice-2.ensures) in
-    let m = meeting next new a.added kept r (ap (λ (n : ℕ). n - a.added) (c.len.ensures ∙ c.renumber.new.ranks.ok.0)) in
-    subst (λ (ss : List Side). IsSorted (order ss) (drop kept c.as_mut_slice.result.now)) (sym (c.as_slice-3.ensures ∙ c.splice.ensures))
-    (subst (λ (xs : List ℕ). IsSorted (order next) (drop kept xs)) (sym c.as_mut_slice.ensures.value) m.back)
+    part_sorted (drop (c.len.result - c.args.added))
+    (next (goal.at.merge-requires-clause-back c).After-len) c.as_slice-3.result.now
+    c.renumber.new.ranks.items c.as_mut_slice.result.now (c.as_slice-3.ensures ∙ c.splice.ensures)
+    c.as_mut_slice.ensures.value (met (goal.at.merge-requires-clause-back c).After-len).back
 
 pub measure_edited-requires-clause-levels : goal.measure_edited-requires-clause-levels
 measure_edited-requires-clause-levels c =
@@ -73,7 +79,8 @@ measure_edited-requires-clause-others c =
     let p = parts a.sides.now a.first a.end a.count c.requires.ordered c.requires.before c.requires.within in
     stand a.sides.now a.first a.end a.count p c.as_mut_slice-2.result.now c.len-total.result c.level_at-level.result
     (c.as_mut_slice-2.ensures.value ∙ c.splice.ensures) c.len-total.ensures c.requires.sized
-    (subst (λ (ss : List Side). Begins c.level_at-level.result (drop a.first ss)) c.as_slice.ensures c.level_at-level.ensures)
+    (subst (λ (ss : List Side). Begins c.level_at-level.result (drop a.first ss))
+    c.as_slice.ensures c.level_at-level.ensures)
 
 pub returns-clause-index : goal.returns-clause-index
 returns-clause-index c =
@@ -82,14 +89,18 @@ returns-clause-index c =
     let next : List Side = replace_range (take a.count ss) a.first a.end (drop a.count ss) in
     let new : List ℕ = c.renumber.new.ranks.items in
     let last : List ℕ = c.merge.new.ranks in
-    let p = parts ss a.first a.end a.count c.requires.ordered c.requires.before c.requires.within in
-    let r =
-    renewed ss a.first a.end a.count p a.ranks.now.items new a.added c.requires.waiting
-    (c.renumber.ensures ∙ ap (λ (xs : List Side). renumbered a.first a.end a.count (length xs) a.ranks.now.items) c.as_slice-2.ensures) in
-    let sorted : IsSorted (order next) last = subst (λ (ss : List Side). IsSorted (order ss) last) (c.as_slice-3.ensures ∙ c.splice.ensures) c.merge.ensures.sorted in
-    let same : IsPermutation new last = subst (λ (xs : List ℕ). IsPermutation xs last) c.as_mut_slice.ensures.value c.merge.ensures.same in
+    let r = here (goal.at.returns-clause-index c).After-len in
+    let sorted : IsSorted (order next) last = subst (λ (ss : List Side). IsSorted (order ss) last)
+    (c.as_slice-3.ensures ∙ c.splice.ensures) c.merge.ensures.sorted in
+    let same : IsPermutation new last =
+    subst (λ (xs : List ℕ). IsPermutation xs last) c.as_mut_slice.ensures.value c.merge.ensures.same in
     let index : IsIndex (measured next) last = merged next new last a.added r c.requires.short sorted same in
-    let long : length last ≡ c.renumber.new.ranks.len = length_permutation new last same ∙ sym c.renumber.new.ranks.ok.0 in
-    let ranks_are = take_seam (last ++ drop (length last) new) last (drop (length last) new) c.renumber.new.ranks.len refl long in
-    let sides_are = measured_in c.splice.new.items c.as_mut_slice-2.result.now c.measure_edited.new.sides c.as_mut_slice-2.ensures.value c.measure_edited.ensures ∙ ap measured c.splice.ensures in
-    subst (λ (ss : List Side). IsIndex ss (take c.renumber.new.ranks.len (last ++ drop (length last) new))) (sym sides_are) (subst (IsIndex (measured next)) (sym ranks_are) index)
+    let long : length last ≡ c.renumber.new.ranks.len =
+    length_permutation new last same ∙ sym c.renumber.new.ranks.ok.0 in
+    let ranks_are =
+    take_seam (last ++ drop (length last) new) last (drop (length last) new) c.renumber.new.ranks.len refl long in
+    let sides_are = measured_in c.splice.new.items c.as_mut_slice-2.result.now
+    c.measure_edited.new.sides c.as_mut_slice-2.ensures.value c.measure_edited.ensures
+    ∙ ap measured c.splice.ensures in
+    subst (λ (ss : List Side). IsIndex ss (take c.renumber.new.ranks.len (last ++ drop (length last) new)))
+    (sym sides_are) (subst (IsIndex (measured next)) (sym ranks_are) index)

@@ -13,9 +13,15 @@ returns-in-Some c = λ ks a.
     let ss : List Side = c.args.sides.now in
     let rank : ℕ = c.in-Some.rank in
     let inside : rank < length ss = search rules in
-    spot_there rs ss c.args.span.first c.args.span.level rank ks c.args.in_list (step_of c.args.step) (get_or rs rank c.index-rows-rank.result) c.kind.result c.requires.table.long inside (ap (get_or rs rank) c.index-rows-rank.is) (c.kind.ensures ∙ ap (λ (r : Row). payload.kind_of r.payload) (c.get.ensures ∙ c.index-rows-rank.is))
-    (stepped rs ss c.args.span.first c.args.span.end c.args.span.level rank ks c.args.in_list (step_of c.args.step) c.requires.table a c.in-Some.ensures.value)
+    spot_there rs ss c.args.span.first c.args.span.level rank ks c.args.in_list (step_of c.args.step)
+    (get_or rs rank c.index-rows-rank.result) c.kind.result c.requires.table.long inside
+    (ap (get_or rs rank) c.index-rows-rank.is)
+    (c.kind.ensures ∙ ap (λ (r : Row). payload.kind_of r.payload) (c.get.ensures ∙ c.index-rows-rank.is))
+    (stepped rs ss c.args.span.first c.args.span.end c.args.span.level rank ks c.args.in_list
+    (step_of c.args.step) c.requires.table a c.in-Some.ensures.value)
 
 pub returns-in-None : goal.returns-in-None
 returns-in-None c = λ ks a.
-    no_spot c.args.span.first ks c.args.in_list (step_of c.args.step) (no_child c.args.rows.now c.args.sides.now c.args.span.first c.args.span.end c.args.span.level ks c.args.in_list (step_of c.args.step) c.requires.table a c.in-None.ensures.value)
+    no_spot c.args.span.first ks c.args.in_list (step_of c.args.step)
+    (no_child c.args.rows.now c.args.sides.now c.args.span.first c.args.span.end c.args.span.level ks c.args.in_list
+    (step_of c.args.step) c.requires.table a c.in-None.ensures.value)

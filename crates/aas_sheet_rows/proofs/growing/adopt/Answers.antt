@@ -9,5 +9,6 @@ loop-grown-preserved c =
     let test : top_is_deeper c.args.level l.grown ≡ true = sym c.is_deeper.ensures ∙ c.loop-grown-test.true in
     let some : 0 < length l.grown = top_there c.args.level l.grown test in
     let long : suc (c.len.result - 1) ≡ length l.grown = omega (arith, c.len.ensures) in
-    adopt_one c.args.level c.args.grown.now l.grown c.remove-top.new.self l.kids c.push.new.self (c.len.result - 1) c.remove-top.result l.invariant test long c.remove-top.ensures.item c.remove-top.ensures.rest
+    adopt_one c.args.level c.args.grown.now l.grown c.remove-top.new.self l.kids c.push.new.self
+    (c.len.result - 1) c.remove-top.result l.invariant test long c.remove-top.ensures.item c.remove-top.ensures.rest
     c.in_ok-push.ensures.ok

@@ -30,6 +30,10 @@ loop-at-preserved c =
       inside = omega (arith, l.invariant.inside);
       grown =
           ap placed_of c.in_ok-push.ensures.ok
-          ∙ grow_more rs ss at c.args.end row side (placed_of l.grown) (placed_of l.grown) c.adopt.new.grown g c.in_ok-kids.kids c.requires.long (omega (arith, l.invariant.inside)) c.requires.within c.index-rows-at.is c.index-sides-at.is
-          (l.invariant.grown ∙ ap (λ n. forest (rows_between rs ss n c.args.end)) back) c.in_ok-kids.ensures.kids c.in_ok-kids.ensures.rest refl (c.in_ok-element.ensures ∙ ap (λ (r : Row). element_of (line_of r side) c.in_ok-kids.kids) c.get.ensures);
+          ∙ grow_more rs ss at c.args.end row side (placed_of l.grown)
+          (placed_of l.grown) c.adopt.new.grown g c.in_ok-kids.kids c.requires.long
+          (omega (arith, l.invariant.inside)) c.requires.within c.index-rows-at.is c.index-sides-at.is
+          (l.invariant.grown ∙ ap (λ n. forest (rows_between rs ss n c.args.end)) back) c.in_ok-kids.ensures.kids
+          c.in_ok-kids.ensures.rest refl
+          (c.in_ok-element.ensures ∙ ap (λ (r : Row). element_of (line_of r side) c.in_ok-kids.kids) c.get.ensures);
     }

@@ -17,13 +17,18 @@ returns-clause-lines c =
     let k : ℕ = c.args.tree.level in
     let s : Side = c.new-2.result in
     let id_short = c.new-2.ensures.id_short ∙ c.take-id_short.ensures.value in
-    ap₂ lines_of c.in_ok-push.ensures.ok c.in_ok-push-2.ensures.ok ∙ lines_push rs ss c.in_ok-row.row s c.requires ∙ ap (λ (r : Row). lines_of rs ss ++ line_of r s ∷ []) c.in_ok-row.ensures
-    ∙ ap₂ (λ n l. lines_of rs ss ++ (record (line_at k e) { common = record (out-Element e).common { id_short = n }; level = l }) ∷ []) id_short c.new-2.ensures.level
+    ap₂ lines_of c.in_ok-push.ensures.ok c.in_ok-push-2.ensures.ok ∙ lines_push rs ss c.in_ok-row.row s c.requires
+    ∙ ap (λ (r : Row). lines_of rs ss ++ line_of r s ∷ []) c.in_ok-row.ensures
+    ∙ ap₂ (λ n l. lines_of rs ss
+    ++ (record (line_at k e) { common = record (out-Element e).common { id_short = n }; level = l }) ∷ [])
+    id_short c.new-2.ensures.level
 
 pub returns-clause-keyed : goal.returns-clause-keyed
 returns-clause-keyed c =
     let ss : List Side = c.args.sides.now in
     let s : Side = c.new-2.result in
     let made = c.new-2.ensures in
-    let kept : IsKeyed s = made.short_key ∙ ap₂ (λ l n. short_key l (name_bytes n)) (sym made.level) (sym made.id_short) in
-    λ keyed. subst AreKeyed (sym c.in_ok-push-2.ensures.ok) (All-append IsKeyed ss (s ∷ []) keyed (All-cons IsKeyed s [] kept (All-nil IsKeyed)))
+    let kept : IsKeyed s =
+    made.short_key ∙ ap₂ (λ l n. short_key l (name_bytes n)) (sym made.level) (sym made.id_short) in
+    λ keyed. subst AreKeyed (sym c.in_ok-push-2.ensures.ok)
+    (All-append IsKeyed ss (s ∷ []) keyed (All-cons IsKeyed s [] kept (All-nil IsKeyed)))

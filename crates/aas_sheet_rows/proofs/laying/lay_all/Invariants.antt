@@ -6,7 +6,9 @@ use Rattle.aas_sheet_rows.proofs.Laid.{Laying}
 use Rattle.aas_sheet_rows.proofs.laying.lay_all.Given as goal
 
 abbrev pub invariant-loop-waiting : goal.invariant-loop-waiting
-invariant-loop-waiting l = Laying l.fn.rows l.fn.sides l.fn.elements l.level l.rows l.sides l.waiting × (AreKeyed l.fn.sides → AreKeyed l.sides)
+invariant-loop-waiting l =
+    Laying l.fn.rows l.fn.sides l.fn.elements l.level l.rows l.sides l.waiting
+    × (AreKeyed l.fn.sides → AreKeyed l.sides)
 
 abbrev pub decreases-loop-waiting : goal.decreases-loop-waiting
 decreases-loop-waiting l = length (lines (placed_of l.waiting))

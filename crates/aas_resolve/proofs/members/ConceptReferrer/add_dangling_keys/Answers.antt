@@ -11,6 +11,8 @@ returns g c =
     let concept = c.args.self.now in
     let administration = flat_map held_by_administration (as_list concept.head.administration) in
     let extensions = flat_map held_by_extension concept.head.extensions in
-    let so_far = both m c.args.keys.now c.add_keys_if_any.new.keys c.add_keys_among.new.keys administration extensions c.in_ok-add_keys_if_any.ensures c.in_ok-add_keys_among.ensures in
-    both_of m c.add_keys_of_list.result c.args.keys.now c.add_keys_among.new.keys c.add_keys_of_list.new.keys (administration ++ extensions) concept.is_case_of
+    let so_far = both m c.args.keys.now c.add_keys_if_any.new.keys c.add_keys_among.new.keys
+    administration extensions c.in_ok-add_keys_if_any.ensures c.in_ok-add_keys_among.ensures in
+    both_of m c.add_keys_of_list.result c.args.keys.now c.add_keys_among.new.keys c.add_keys_of_list.new.keys
+    (administration ++ extensions) concept.is_case_of
     (held_by_concept concept) (concept_in_turn concept) so_far c.add_keys_of_list.ensures

@@ -19,10 +19,17 @@ returns g c =
     let five = four ++ as_list o.common.semantics.semantic_id in
     let six = five ++ behind_semantic_id o.payload in
     let seven = six ++ o.common.semantics.supplemental_semantic_ids in
-    let at_two = both m old c.add_keys_among.new.keys c.add_before_qualifiers.new.keys one (before_qualifiers o.payload) c.in_ok-add_keys_among.ensures c.in_ok-add_before_qualifiers.ensures in
-    let at_three = both m old c.add_before_qualifiers.new.keys c.add_keys_among-2.new.keys two (flat_map held_by_qualifier o.common.qualifiers) at_two c.in_ok-add_keys_among-2.ensures in
-    let at_four = both m old c.add_keys_among-2.new.keys c.add_before_semantic_id.new.keys three (before_semantic_id o.payload) at_three c.in_ok-add_before_semantic_id.ensures in
-    let at_five = both m old c.add_before_semantic_id.new.keys c.add_keys_of_option.new.keys four (as_list o.common.semantics.semantic_id) at_four c.in_ok-add_keys_of_option.ensures in
-    let at_six = both m old c.add_keys_of_option.new.keys c.add_behind_semantic_id.new.keys five (behind_semantic_id o.payload) at_five c.in_ok-add_behind_semantic_id.ensures in
-    let at_seven = both m old c.add_behind_semantic_id.new.keys c.add_keys_of_list.new.keys six o.common.semantics.supplemental_semantic_ids at_six c.in_ok-add_keys_of_list.ensures in
-    both_of m c.add_behind_all.result old c.add_keys_of_list.new.keys c.add_behind_all.new.keys seven (behind_all o.payload) (held_by_element o) (element_in_turn o) at_seven c.add_behind_all.ensures
+    let at_two = both m old c.add_keys_among.new.keys c.add_before_qualifiers.new.keys one
+    (before_qualifiers o.payload) c.in_ok-add_keys_among.ensures c.in_ok-add_before_qualifiers.ensures in
+    let at_three = both m old c.add_before_qualifiers.new.keys c.add_keys_among-2.new.keys two
+    (flat_map held_by_qualifier o.common.qualifiers) at_two c.in_ok-add_keys_among-2.ensures in
+    let at_four = both m old c.add_keys_among-2.new.keys c.add_before_semantic_id.new.keys three
+    (before_semantic_id o.payload) at_three c.in_ok-add_before_semantic_id.ensures in
+    let at_five = both m old c.add_before_semantic_id.new.keys c.add_keys_of_option.new.keys four
+    (as_list o.common.semantics.semantic_id) at_four c.in_ok-add_keys_of_option.ensures in
+    let at_six = both m old c.add_keys_of_option.new.keys c.add_behind_semantic_id.new.keys five
+    (behind_semantic_id o.payload) at_five c.in_ok-add_behind_semantic_id.ensures in
+    let at_seven = both m old c.add_behind_semantic_id.new.keys c.add_keys_of_list.new.keys
+    six o.common.semantics.supplemental_semantic_ids at_six c.in_ok-add_keys_of_list.ensures in
+    both_of m c.add_behind_all.result old c.add_keys_of_list.new.keys c.add_behind_all.new.keys seven
+    (behind_all o.payload) (held_by_element o) (element_in_turn o) at_seven c.add_behind_all.ensures

@@ -14,7 +14,11 @@ returns g c =
     let two = one ++ held_by_asset s.asset in
     let three = two ++ as_list s.derived_from in
     let four = three ++ flat_map held_by_extension s.head.extensions in
-    let at_two = both m old c.add_keys_if_any.new.keys c.add_dangling_keys.new.keys one (held_by_asset s.asset) c.in_ok-add_keys_if_any.ensures c.in_ok-add_dangling_keys.ensures in
-    let at_three = both m old c.add_dangling_keys.new.keys c.add_keys_of_option.new.keys two (as_list s.derived_from) at_two c.in_ok-add_keys_of_option.ensures in
-    let at_four = both m old c.add_keys_of_option.new.keys c.add_keys_among.new.keys three (flat_map held_by_extension s.head.extensions) at_three c.in_ok-add_keys_among.ensures in
-    both_of m c.add_keys_of_list.result old c.add_keys_among.new.keys c.add_keys_of_list.new.keys four s.submodels (held_by_shell s) (shell_in_turn s) at_four c.add_keys_of_list.ensures
+    let at_two = both m old c.add_keys_if_any.new.keys c.add_dangling_keys.new.keys one
+    (held_by_asset s.asset) c.in_ok-add_keys_if_any.ensures c.in_ok-add_dangling_keys.ensures in
+    let at_three = both m old c.add_dangling_keys.new.keys c.add_keys_of_option.new.keys two
+    (as_list s.derived_from) at_two c.in_ok-add_keys_of_option.ensures in
+    let at_four = both m old c.add_keys_of_option.new.keys c.add_keys_among.new.keys three
+    (flat_map held_by_extension s.head.extensions) at_three c.in_ok-add_keys_among.ensures in
+    both_of m c.add_keys_of_list.result old c.add_keys_among.new.keys c.add_keys_of_list.new.keys four s.submodels
+    (held_by_shell s) (shell_in_turn s) at_four c.add_keys_of_list.ensures

@@ -7,7 +7,8 @@ use Rattle.aas_sheet_index.proofs.sides.Sides.remove.Goals as goal
 
 pub settle-requires-clause-waiting : goal.settle-requires-clause-waiting
 settle-requires-clause-waiting c =
-    waiting_none c.self.inside.sides c.len-count.result c.self.inside.ranks.items c.len-count.ensures c.self.invariant.index
+    waiting_none c.self.inside.sides c.len-count.result
+    c.self.inside.ranks.items c.len-count.ensures c.self.invariant.index
 
 pub invariant_of-self : goal.invariant_of-self
 invariant_of-self c =
@@ -15,5 +16,7 @@ invariant_of-self c =
     let ss : List Side = c.self.inside.sides in
     let count : ℕ = c.len-count.result in
     let level : Side → Type 0 = λ s. 0 < s.level in
-    column (replace_range (take count ss) a.first a.end (drop count ss)) c.settle.new.sides c.settle.new.ranks.items c.settle.ensures.value
-    (all_spliced level ss a.first a.end count c.self.invariant.levels) (all_spliced IsKeyed ss a.first a.end count c.self.invariant.keyed) c.settle.ensures.index
+    column (replace_range (take count ss) a.first a.end (drop count ss))
+    c.settle.new.sides c.settle.new.ranks.items c.settle.ensures.value
+    (all_spliced level ss a.first a.end count c.self.invariant.levels)
+    (all_spliced IsKeyed ss a.first a.end count c.self.invariant.keyed) c.settle.ensures.index

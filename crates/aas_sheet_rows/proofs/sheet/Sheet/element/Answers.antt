@@ -9,17 +9,22 @@ pub copy_of_rank-requires : goal.copy_of_rank-requires
 copy_of_rank-requires c = rank_within c.args.self.now c.args.path.now.steps c.in-Ok.rank c.in-Ok.ensures.value
 
 pub returns-in-Ok-clause-found : goal.returns-in-Ok-clause-found
-returns-in-Ok-clause-found c = copied c.args.self.now c.args.path.now.steps c.in-Ok.rank c.in-Ok.ensures.value c.copy_of_rank.result c.copy_of_rank.ensures
+returns-in-Ok-clause-found c =
+    copied c.args.self.now c.args.path.now.steps c.in-Ok.rank
+    c.in-Ok.ensures.value c.copy_of_rank.result c.copy_of_rank.ensures
 
 pub returns-in-Ok-clause-there : goal.returns-in-Ok-clause-there
 returns-in-Ok-clause-there c =
-    no_other_lack c.copy_of_rank.result (λ e. slice_get (elements_of_all c.args.self.now.kids) c.in-Ok.rank ≡ Some e) NoSubmodel c.copy_of_rank.ensures (λ e. cc)
+    no_other_lack c.copy_of_rank.result (λ e. slice_get (elements_of_all c.args.self.now.kids) c.in-Ok.rank ≡ Some e)
+    NoSubmodel c.copy_of_rank.ensures (λ e. cc)
 
 pub returns-in-Ok-clause-no_element : goal.returns-in-Ok-clause-no_element
 returns-in-Ok-clause-no_element c = λ m.
     is_not_missing c.args.self.now c.args.path.now.steps c.in-Ok.rank m c.copy_of_rank.result c.in-Ok.ensures.value
-    (no_other_lack c.copy_of_rank.result (λ e. slice_get (elements_of_all c.args.self.now.kids) c.in-Ok.rank ≡ Some e) (NoElement m) c.copy_of_rank.ensures (λ e. cc))
+    (no_other_lack c.copy_of_rank.result (λ e. slice_get (elements_of_all c.args.self.now.kids) c.in-Ok.rank ≡ Some e)
+    (NoElement m) c.copy_of_rank.ensures (λ e. cc))
 
 pub returns-in-Err-clause-no_element : goal.returns-in-Err-clause-no_element
 returns-in-Err-clause-no_element c = λ m.
-    leads_nowhere c.args.self.now c.args.path.now.steps c.in-Err.missing.steps m c.in-Err.ensures.missing.0 c.in-Err.ensures.missing.1
+    leads_nowhere c.args.self.now c.args.path.now.steps c.in-Err.missing.steps
+    m c.in-Err.ensures.missing.0 c.in-Err.ensures.missing.1

@@ -20,8 +20,10 @@ new-requires-2-clause-few c =
     let d : Submodel = c.args.submodel in
     let rs : List Row = c.lay_all.new.rows in
     let ss : List Side = c.lay_all.new.sides in
-    let start : lines_of c.new-rows.result c.new-sides.result ≡ [] = ap (λ (rs : List Row). lines_of rs c.new-sides.result) c.new-rows.ensures in
-    let are : lines_of rs ss ≡ rows_of_all d.kids 1 = c.in_ok-lay_all.ensures.lines ∙ ap₂ (λ xs ks. xs ++ rows_of_all ks 1) start c.replace-kids.ensures.value in
+    let start : lines_of c.new-rows.result c.new-sides.result ≡ [] =
+    ap (λ (rs : List Row). lines_of rs c.new-sides.result) c.new-rows.ensures in
+    let are : lines_of rs ss ≡ rows_of_all d.kids 1 =
+    c.in_ok-lay_all.ensures.lines ∙ ap₂ (λ xs ks. xs ++ rows_of_all ks 1) start c.replace-kids.ensures.value in
     let long : length rs ≡ length ss = c.in_ok-lay_all.ensures.long in
     let many : length (lines_of rs ss) ≡ count d.kids = ap length are ∙ count_at d.kids 1 in
     let all : length (lines_of rs ss) ≡ length rs = lines_long rs ss long in
@@ -42,14 +44,17 @@ pub invariant_of-result : goal.invariant_of-result
 invariant_of-result c =
     let rs : List Row = c.lay_all.new.rows in
     let ss : List Side = c.lay_all.new.sides in
-    let start : lines_of c.new-rows.result c.new-sides.result ≡ [] = ap (λ (rs : List Row). lines_of rs c.new-sides.result) c.new-rows.ensures in
-    let are : lines_of rs ss ≡ rows_of_all c.args.submodel.kids 1 = c.in_ok-lay_all.ensures.lines ∙ ap₂ (λ xs ks. xs ++ rows_of_all ks 1) start c.replace-kids.ensures.value in
+    let start : lines_of c.new-rows.result c.new-sides.result ≡ [] =
+    ap (λ (rs : List Row). lines_of rs c.new-sides.result) c.new-rows.ensures in
+    let are : lines_of rs ss ≡ rows_of_all c.args.submodel.kids 1 =
+    c.in_ok-lay_all.ensures.lines ∙ ap₂ (λ xs ks. xs ++ rows_of_all ks 1) start c.replace-kids.ensures.value in
     let kids : List Element = c.args.submodel.kids in
     let long : length rs ≡ length (measured ss) = c.in_ok-lay_all.ensures.long ∙ sym (measured_long ss) in
     let same : lines_of rs (measured ss) ≡ rows_of_all kids 1 = lines_measured rs ss ∙ are in
     let counted = siblings_counted 0 rs (measured ss) kids long (sym same) in (
       subst (IsTable rs) (sym c.in_ok-sides.ensures) (made_table kids rs (measured ss) long same (sized_measured ss)),
-      c.len-children.ensures ∙ ap length c.replace-kids.ensures.value ∙ sym counted ∙ ap children_in (sym c.in_ok-sides.ensures),
+      c.len-children.ensures ∙ ap length c.replace-kids.ensures.value
+          ∙ sym counted ∙ ap children_in (sym c.in_ok-sides.ensures),
     )
 
 pub returns : goal.returns
@@ -58,6 +63,9 @@ returns c =
     let head : Submodel = record d { kids = c.replace-kids.new.dest } in
     let rs : List Row = c.lay_all.new.rows in
     let ss : List Side = c.lay_all.new.sides in
-    let start : lines_of c.new-rows.result c.new-sides.result ≡ [] = ap (λ (rs : List Row). lines_of rs c.new-sides.result) c.new-rows.ensures in
-    let are : lines_of rs ss ≡ rows_of_all d.kids 1 = c.in_ok-lay_all.ensures.lines ∙ ap₂ (λ xs ks. xs ++ rows_of_all ks 1) start c.replace-kids.ensures.value in
-    ap (submodel_of head rs) c.in_ok-sides.ensures ∙ made_submodel head d.kids rs (measured ss) (lines_measured rs ss ∙ are)
+    let start : lines_of c.new-rows.result c.new-sides.result ≡ [] =
+    ap (λ (rs : List Row). lines_of rs c.new-sides.result) c.new-rows.ensures in
+    let are : lines_of rs ss ≡ rows_of_all d.kids 1 =
+    c.in_ok-lay_all.ensures.lines ∙ ap₂ (λ xs ks. xs ++ rows_of_all ks 1) start c.replace-kids.ensures.value in
+    ap (submodel_of head rs) c.in_ok-sides.ensures
+    ∙ made_submodel head d.kids rs (measured ss) (lines_measured rs ss ∙ are)

@@ -7,6 +7,12 @@ pub returns : goal.returns
 returns c =
     let a = c.args in
     let t = c.self.inside in (
-      same_read c.row_mut.result _ (with_row a.self.now a.rank) _ _ (λ w. written t.head t.rows t.sides a.rank w a.self.now c.self.invariant.0 c.self.view_is) c.self.view_is,
-      record { writes_back = tt; row = row_found c.row_mut.result t.head t.rows t.sides a.rank a.self.now c.self.invariant.0 c.self.view_is c.row_mut.ensures.value },
+      same_read c.row_mut.result _ (with_row a.self.now a.rank) _ _
+          (λ w. written t.head t.rows t.sides a.rank w a.self.now c.self.invariant.0 c.self.view_is) c.self.view_is,
+      record {
+        writes_back = tt;
+        row =
+            row_found c.row_mut.result t.head t.rows t.sides a.rank a.self.now
+            c.self.invariant.0 c.self.view_is c.row_mut.ensures.value;
+      },
     )

@@ -8,5 +8,7 @@ pub returns : goal.returns
 returns c =
     let t = c.self.inside in
     ap₂ (λ (d : Submodel) (es : List Element). record d { kids = es }) c.in_ok-copied.ensures
-    (c.in_ok-copied-2.ensures ∙ whole_grown t.rows c.as_slice-rows.result.now t.sides c.as_slice-sides.result.now c.self.invariant.0 c.as_slice-rows.ensures c.as_slice-sides.ensures)
+    (c.in_ok-copied-2.ensures
+    ∙ whole_grown t.rows c.as_slice-rows.result.now t.sides c.as_slice-sides.result.now
+    c.self.invariant.0 c.as_slice-rows.ensures c.as_slice-sides.ensures)
     ∙ c.self.view_is

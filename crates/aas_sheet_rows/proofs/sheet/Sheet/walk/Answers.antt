@@ -1,12 +1,10 @@
-use Rattle.std.proofs.Common.{◌≡◌, ◌+◌, ℕ, List, Result, Ok, Err, IfErr, false, option_map, refl, sym, ap, ◌∙◌, subst}
+use Rattle.std.proofs.Common.{◌≡◌, ◌+◌, ℕ, Result, Ok, Err, IfErr, false, option_map, sym, ap, ◌∙◌}
 use Rattle.aas_path_trees.specs.ElementAt.{depth_among, depth_found}
 use Rattle.aas_rows.specs.Edits.{rank_among}
 use Rattle.aas_store.specs.Spots.{rank_at}
 use Rattle.aas_store.proofs.Paths.{from_zero}
-use Rattle.aas_sheet_rows.specs.Found.{Among}
-use Rattle.aas_sheet_rows.specs.declared.finding.Span.{Span}
-use Rattle.aas_sheet_rows.specs.declared.row.Row.{Row}
-use Rattle.aas_sheet_rows.proofs.Standing.{all_among, viewed}
+use Rattle.aas_sheet_rows.specs.declared.finding.RowRange.{RowRange}
+use Rattle.aas_sheet_rows.proofs.Standing.{all_spanned}
 use Rattle.aas_sheet_rows.proofs.sheet.Sheet.walk.Goals as goal
 
 -- how far a path leads, told of an equal depth
@@ -18,17 +16,20 @@ pub returns-clause-value : goal.returns-clause-value
 returns-clause-value c =
     let t = c.self.inside in
     let d = c.args.self.now in
-    let rs : List Row = c.as_slice-rows.result.now in
-    let v = viewed t.head t.rows rs t.sides t.sides d c.self.invariant.0 c.self.view_is c.as_slice-rows.ensures refl in
-    c.find_among.ensures.value d.kids (subst (λ (b : Span). Among rs t.sides b.first b.end b.level d.kids) (sym c.all_rows-span.ensures) (all_among t.head rs t.sides d v.0 v.1))
-    ∙ ap (λ (b : Span). option_map (λ r. b.first + r) (rank_among false c.in-Some.step.now c.in-Some.rest.now d.kids)) c.all_rows-span.ensures ∙ from_zero (rank_among false c.in-Some.step.now c.in-Some.rest.now d.kids)
+    c.find_among.ensures.value d.kids
+    (all_spanned t.head t.rows c.as_slice-rows.result.now t.sides d c.all_rows-span.result
+    c.self.invariant.0 c.self.view_is c.as_slice-rows.ensures c.all_rows-span.ensures)
+    ∙ ap (λ (b : RowRange).
+    option_map (λ r. b.first + r) (rank_among false c.in-Some.step.now c.in-Some.rest.now d.kids))
+    c.all_rows-span.ensures
+    ∙ from_zero (rank_among false c.in-Some.step.now c.in-Some.rest.now d.kids)
     ∙ ap (rank_at d) (sym c.in-Some.ensures.cases.0 ∙ c.as_slice.ensures)
 
 pub returns-clause-depth : goal.returns-clause-depth
 returns-clause-depth c =
     let t = c.self.inside in
     let d = c.args.self.now in
-    let rs : List Row = c.as_slice-rows.result.now in
-    let v = viewed t.head t.rows rs t.sides t.sides d c.self.invariant.0 c.self.view_is c.as_slice-rows.ensures refl in
-    as_far c.find_among.result (depth_among false c.in-Some.step.now c.in-Some.rest.now d.kids) (depth_found d c.args.path.now.steps) (ap (depth_found d) (sym c.in-Some.ensures.cases.0 ∙ c.as_slice.ensures))
-    (c.find_among.ensures.depth d.kids (subst (λ (b : Span). Among rs t.sides b.first b.end b.level d.kids) (sym c.all_rows-span.ensures) (all_among t.head rs t.sides d v.0 v.1)))
+    as_far c.find_among.result (depth_among false c.in-Some.step.now c.in-Some.rest.now d.kids)
+    (depth_found d c.args.path.now.steps) (ap (depth_found d) (sym c.in-Some.ensures.cases.0 ∙ c.as_slice.ensures))
+    (c.find_among.ensures.depth d.kids (all_spanned t.head t.rows c.as_slice-rows.result.now t.sides
+    d c.all_rows-span.result c.self.invariant.0 c.self.view_is c.as_slice-rows.ensures c.all_rows-span.ensures))
