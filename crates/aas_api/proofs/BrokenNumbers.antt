@@ -1,8 +1,10 @@
 -- No number is broken exactly where each is whole.
-use Rattle.std.proofs.Common.{◌≡◌, ℕ, ◌+◌, ◌^◌, pos, negsuc, [], ◌∷◌, Bool, true, false, Option, Some, None, refl, lt-ltb}
+use Rattle.std.proofs.Common.{◌≡◌, ℕ, ◌+◌, ◌^◌, pos, negsuc, [], ◌∷◌, Bool, true, false, Option, Some, None}
+use Rattle.std.proofs.Common.{refl, lt-ltb}
 use Rattle.std.proofs.lemmas.Bool.{ltb-true}
 use Rattle.std.specs.Prelude.{if◌then◌else◌}
-use Rattle.serde_json.specs.Data.{Num, unsigned, negative, float, Data, null, boolean, number, string, array, object, Items, no_items, item, Members, no_members, member}
+use Rattle.serde_json.specs.Data.{Num, unsigned, negative, float, Data, null, boolean, number, string, array, object}
+use Rattle.serde_json.specs.Data.{Items, no_items, item, Members, no_members, member}
 use Rattle.aas_json_table.specs.Rows.{Pointer, Token, in_member, in_item, below, first_of}
 use Rattle.aas_json_spelling.specs.Values.{HasWholeNumbers, HaveWholeNumbers, IsWholeNumber, MembersHaveWholeNumbers}
 use Rattle.aas_json_spelling.proofs.Fits.{first_none, map_none}
@@ -19,7 +21,8 @@ whole (float x) e = cc
 whole_number : (n : Num) → broken_number (number n) ≡ None → IsWholeNumber n
 whole_number n e = by_test (is_whole n) refl e
   where
-    by_test : (b : Bool) → is_whole n ≡ b → (let found : Option Pointer = if b then None else Some [] in found ≡ None) → IsWholeNumber n
+    by_test : (b : Bool)
+        → is_whole n ≡ b → (let found : Option Pointer = if b then None else Some [] in found ≡ None) → IsWholeNumber n
     by_test true is e = whole n is
     by_test false is e = cc
 
@@ -68,9 +71,11 @@ mutual
   no_broken_item : (ds : Items) (n : ℕ) → HaveWholeNumbers ds → broken_number_of_items ds n ≡ None
   no_broken_item no_items n is = refl
   no_broken_item (item d ds) n is =
-      none_of (in_item n) (broken_number d) (broken_number_of_items ds (n + 1)) (none_broken d is.0) (no_broken_item ds (n + 1) is.1)
+      none_of (in_item n) (broken_number d) (broken_number_of_items ds (n + 1))
+      (none_broken d is.0) (no_broken_item ds (n + 1) is.1)
 
   no_broken_member : (ms : Members) → MembersHaveWholeNumbers ms → broken_number_of_members ms ≡ None
   no_broken_member no_members is = refl
   no_broken_member (member k d ms) is =
-      none_of (in_member k) (broken_number d) (broken_number_of_members ms) (none_broken d is.0) (no_broken_member ms is.1)
+      none_of (in_member k) (broken_number d) (broken_number_of_members ms)
+      (none_broken d is.0) (no_broken_member ms is.1)

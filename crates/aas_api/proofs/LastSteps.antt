@@ -10,4 +10,6 @@ last_at s (t ∷ p) = last_at t p
 
 pub last_is : (p : List PathStep) → last_or None p ≡ slice_get p (length p - 1)
 last_is [] = refl
-last_is (s ∷ p) = let less : length (s ∷ p) - 1 ≡ length p = omega arith in last_at s p ∙ ap (slice_get (s ∷ p)) (sym less)
+last_is (s ∷ p) =
+    let less : length (s ∷ p) - 1 ≡ length p = omega arith in
+    last_at s p ∙ ap (slice_get (s ∷ p)) (sym less)

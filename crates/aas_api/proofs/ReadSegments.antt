@@ -17,8 +17,11 @@ by_id segment Asks id stands asked (inl none) = inl none
 by_id segment Asks id stands asked (inr asks) = inr (inl (id, stands, asks))
 
 -- a question, by the path of an element too
-pub shown_at : (t : Texts) (resource : Resource) (query : List ℕ) (ask : List ℕ → Path → Given → Question) (id : List ℕ) (path : Path)
-    → StandsFor t.id id → IsPath (percent_decode t.path) path.steps → (asked : Asked) → OrNoMemory (Shows resource query (ask id path)) asked
+pub shown_at : (t : Texts) (resource : Resource) (query : List ℕ)
+    (ask : List ℕ → Path → Given → Question) (id : List ℕ) (path : Path)
+    → StandsFor t.id id → IsPath (percent_decode t.path) path.steps → (asked : Asked)
+    → OrNoMemory (Shows resource query (ask id path)) asked
     → OrNoMemory (AtElement t (λ i p. Shows resource query (ask i p))) asked
 shown_at t resource query ask id path stands writes asked (inl none) = inl none
-shown_at t resource query ask id path stands writes asked (inr shows) = inr (inl (id, stands, inl (path, writes, shows)))
+shown_at t resource query ask id path stands writes asked (inr shows) =
+    inr (inl (id, stands, inl (path, writes, shows)))

@@ -1,7 +1,8 @@
--- What a request asks for: a command, a question or new metadata, or why it is refused. Causes are tried in this order: no such path, the method, the
--- identifiers, the path of an element, the query, the body, and then that the body's identifier or name isn't the path's. This profile's
--- own rule.
-use Rattle.std.specs.Prelude.{◌≡◌, ◌⊎◌, ℕ, ◌+◌, List, [], length, bytes_eq, Bool, true, if◌then◌else◌, Option, Some, None, Result, Ok, Err}
+-- What a request asks for: a command, a question or new metadata, or why it is refused. Causes are tried in this order:
+-- no such path, the method, the identifiers, the path of an element, the query, the body, and then that the body's
+-- identifier or name isn't the path's. This profile's own rule.
+use Rattle.std.specs.Prelude.{◌≡◌, ◌⊎◌, ℕ, ◌+◌, List, [], length, bytes_eq, Bool, true, if◌then◌else◌, Option, Some}
+use Rattle.std.specs.Prelude.{None, Result, Ok, Err}
 use Rattle.std.specs.List.{last_or}
 use Rattle.std.specs.Str.{chars}
 use Rattle.percent_encoding.specs.Percent.{percent_decode}
@@ -26,22 +27,33 @@ use Rattle.aas_path.specs.PathText.{IsPath, IsNoPath}
 use Rattle.aas_edit_laws.specs.Laws.{at_level}
 use Rattle.aas_command.specs.Refusals.{refusal_of_read}
 use Rattle.aas_command.specs.declared.command.Command.{Command}
-use Rattle.aas_command.specs.declared.command.Command.TheVariants.{SetAsset, AddReference, DropReference, InsertElement, ReplaceElement, DeleteElement, UpdateValue}
+use Rattle.aas_command.specs.declared.command.Command.TheVariants.{SetAsset, AddReference, DropReference, InsertElement}
+use Rattle.aas_command.specs.declared.command.Command.TheVariants.{ReplaceElement, DeleteElement, UpdateValue}
 use Rattle.aas_command.specs.declared.refusal.Refusal.{Refusal}
-use Rattle.aas_command.specs.declared.refusal.Refusal.TheVariants.{NoRoute, NotAllowed, BadIdentifier, BadPath, BadQuery, NotJson, NotMapping, IdMismatch}
+use Rattle.aas_command.specs.declared.refusal.Refusal.TheVariants.{NoRoute, NotAllowed, BadIdentifier, BadPath}
+use Rattle.aas_command.specs.declared.refusal.Refusal.TheVariants.{BadQuery, NotJson, NotMapping, IdMismatch}
 use Rattle.aas_question.specs.declared.question.Question.{Question}
 use Rattle.aas_question.specs.declared.question.Question.TheVariants as question
 use Rattle.aas_http.specs.FirstRequest.{Message}
 use Rattle.aas_page.specs.Segment.{StandsFor}
 use Rattle.aas_target.specs.Given.{Gives, IsBadIn, concepts_of, extent_of, level_of, limit_of, selection_of, span_of}
 use Rattle.aas_target.specs.Query.{parameter_name}
-use Rattle.aas_target.specs.Routes.{Found, Texts, allow_text, method_among, methods_of, parameters_of, path_in, query_in, resource_at}
+use Rattle.aas_target.specs.Routes.{Found, Texts, allow_text, method_among, methods_of, parameters_of, path_in}
+use Rattle.aas_target.specs.Routes.{query_in, resource_at}
 use Rattle.aas_target.specs.declared.given.Given.{Given}
 use Rattle.aas_target.specs.declared.method.Method.{Method}
 use Rattle.aas_target.specs.declared.method.Method.TheVariants.{Get, Post, Put, Patch, Delete}
 use Rattle.aas_target.specs.declared.parameter.Parameter.{Parameter}
 use Rattle.aas_target.specs.declared.routes.Resource.{Resource}
-use Rattle.aas_target.specs.declared.routes.Resource.TheVariants.{Shells, ShellsReference, Shell, ShellReference, AssetInformation, ReferencesOf, ReferencesTo, Submodels, SubmodelsMetadata, SubmodelsValue, SubmodelsReference, Submodel, SubmodelMetadata, SubmodelValue, SubmodelReference, SubmodelPaths, Elements, ElementsMetadata, ElementsReference, Element, ElementMetadata, ElementValue, ElementReference, ElementPaths, Concepts, Concept, Lookup, Serialization}
+use Rattle.aas_target.specs.declared.routes.Resource.TheVariants.{Shells, ShellsReference, Shell, ShellReference}
+use Rattle.aas_target.specs.declared.routes.Resource.TheVariants.{AssetInformation, ReferencesOf, ReferencesTo}
+use Rattle.aas_target.specs.declared.routes.Resource.TheVariants.{Submodels, SubmodelsMetadata, SubmodelsValue}
+use Rattle.aas_target.specs.declared.routes.Resource.TheVariants.{SubmodelsReference, Submodel, SubmodelMetadata}
+use Rattle.aas_target.specs.declared.routes.Resource.TheVariants.{SubmodelValue, SubmodelReference, SubmodelPaths}
+use Rattle.aas_target.specs.declared.routes.Resource.TheVariants.{Elements, ElementsMetadata, ElementsReference}
+use Rattle.aas_target.specs.declared.routes.Resource.TheVariants.{Element, ElementMetadata, ElementValue}
+use Rattle.aas_target.specs.declared.routes.Resource.TheVariants.{ElementReference, ElementPaths, Concepts, Concept}
+use Rattle.aas_target.specs.declared.routes.Resource.TheVariants.{Lookup, Serialization}
 use Rattle.aas_api.specs.Interfaces.{Interface, shell_interface, submodel_interface, concept_interface}
 use Rattle.aas_api.specs.Numbers.{broken_number}
 use Rattle.aas_api.specs.declared.ask.Ask.{Ask}
@@ -129,20 +141,23 @@ AsksCollection i resource query body method asked = ⊥
 abbrev pub AsksDocument : {D : Type 0} → Interface D → Resource → List ℕ → List ℕ → List ℕ → Method → Asked → Type 0
 AsksDocument i resource segment query body Get asked = ById segment (λ id. Shows resource query (i.get id)) asked
 AsksDocument i resource segment query body Put asked =
-    ById segment (λ id. ByBody i.documents limits body (λ d. if_same (bytes_eq id (i.id_of d)) (Act (i.replace d)))) asked
+    ById segment
+    (λ id. ByBody i.documents limits body (λ d. if_same (bytes_eq id (i.id_of d)) (Act (i.replace d)))) asked
 AsksDocument i resource segment query body Delete asked = ById segment (λ id. IsCommand (i.delete id)) asked
 AsksDocument i resource segment query body method asked = ⊥
 
 abbrev pub AsksAsset : List ℕ → List ℕ → Method → Asked → Type 0
 AsksAsset segment body Get asked = ById segment (λ id. IsQuestion (question.Asset id)) asked
-AsksAsset segment body Put asked = ById segment (λ id. ByBody asset_informations limits body (λ d. Ok (Act (SetAsset id d)))) asked
+AsksAsset segment body Put asked =
+    ById segment (λ id. ByBody asset_informations limits body (λ d. Ok (Act (SetAsset id d)))) asked
 AsksAsset segment body method asked = ⊥
 
 -- the references of a shell to submodels
 abbrev pub AsksReferences : List ℕ → List ℕ → List ℕ → Method → Asked → Type 0
 AsksReferences segment query body Get asked =
     ById segment (λ id. Shows ReferencesOf query (λ g. question.ReferencesOf id (span_of g))) asked
-AsksReferences segment query body Post asked = ById segment (λ id. ByBody references limits body (λ r. Ok (Act (AddReference id r)))) asked
+AsksReferences segment query body Post asked =
+    ById segment (λ id. ByBody references limits body (λ r. Ok (Act (AddReference id r)))) asked
 AsksReferences segment query body method asked = ⊥
 
 -- what a body spells becomes a child of that to which a path leads: an element, or the submodel where the path is empty
@@ -152,20 +167,24 @@ Inserts id path body = ByBody elements (at_level (length path.steps + 1)) body (
 -- it takes the place of the element to which the path leads
 abbrev pub Replaces : List ℕ → Path → List ℕ → Asked → Type 0
 Replaces id path body =
-    ByBody elements (at_level (length path.steps)) body (λ e. if_same (has_last (last_or None path.steps) e) (Act (ReplaceElement id path e)))
+    ByBody elements (at_level (length path.steps)) body (λ e.
+    if_same (has_last (last_or None path.steps) e) (Act (ReplaceElement id path e)))
 
--- the value that a body sends updates those of the element to which a path leads, or of the submodel where the path is empty
+-- the value that a body sends updates those of the element to which a path leads,
+-- or of the submodel where the path is empty
 abbrev pub Updates : List ℕ → Path → List ℕ → Asked → Type 0
 Updates id path body = BySent body (λ v. Ok (Act (UpdateValue id path v)))
 
 -- The metadata form that a body spells takes the place of that of the submodel, which has its identifier, ...
 abbrev pub DescribesSubmodel : List ℕ → List ℕ → Asked → Type 0
-DescribesSubmodel id body = ByBody submodel_metadata_forms limits body (λ d. if_same (bytes_eq id d.head.id) (Describe (metadata.Submodel d)))
+DescribesSubmodel id body =
+    ByBody submodel_metadata_forms limits body (λ d. if_same (bytes_eq id d.head.id) (Describe (metadata.Submodel d)))
 
 -- ... or of the element to which a path leads, which has its name
 abbrev pub DescribesElement : List ℕ → Path → List ℕ → Asked → Type 0
 DescribesElement id path body =
-    ByBody metadata_forms limits body (λ e. if_same (has_last (last_or None path.steps) e) (Describe (metadata.Element id path e)))
+    ByBody metadata_forms limits body (λ e.
+    if_same (has_last (last_or None path.steps) e) (Describe (metadata.Element id path e)))
 
 -- the submodel itself
 abbrev pub root : Path
@@ -178,7 +197,8 @@ AsksElements segment query body Post asked = ById segment (λ id. Inserts id roo
 AsksElements segment query body method asked = ⊥
 
 abbrev pub AsksElement : Texts → List ℕ → List ℕ → Method → Asked → Type 0
-AsksElement t query body Get asked = AtElement t (λ id p. Shows Element query (λ g. question.Element id p (level_of g) (extent_of g))) asked
+AsksElement t query body Get asked =
+    AtElement t (λ id p. Shows Element query (λ g. question.Element id p (level_of g) (extent_of g))) asked
 AsksElement t query body Post asked = AtElement t (λ id p. Inserts id p body) asked
 AsksElement t query body Put asked = AtElement t (λ id p. Replaces id p body) asked
 AsksElement t query body Delete asked = AtElement t (λ id p. IsCommand (DeleteElement id p)) asked
@@ -208,25 +228,31 @@ AsksElementValue t query body method asked = ⊥
 
 -- ---- one row a resource
 
--- By the parameters of its path, the query, the body and the method, which is one of the resource's; some have only one.
+-- By the parameters of its path, the query, the body and the method,
+-- which is one of the resource's; some have only one.
 abbrev pub AsksResource : Resource → Texts → List ℕ → List ℕ → Method → Asked → Type 0
 AsksResource Shells t query body method = AsksCollection shell_interface Shells query body method
-AsksResource ShellsReference t query body method = Shows ShellsReference query (λ g. question.ShellsReference (selection_of g))
+AsksResource ShellsReference t query body method =
+    Shows ShellsReference query (λ g. question.ShellsReference (selection_of g))
 AsksResource Shell t query body method = AsksDocument shell_interface Shell t.id query body method
 AsksResource ShellReference t query body method = ById t.id (λ id. IsQuestion (question.ShellReference id))
 AsksResource AssetInformation t query body method = AsksAsset t.id body method
 AsksResource ReferencesOf t query body method = AsksReferences t.id query body method
-AsksResource ReferencesTo t query body method = ById t.id (λ shell. ById t.submodel (λ submodel. IsCommand (DropReference shell submodel)))
+AsksResource ReferencesTo t query body method =
+    ById t.id (λ shell. ById t.submodel (λ submodel. IsCommand (DropReference shell submodel)))
 AsksResource Submodels t query body method = AsksCollection submodel_interface Submodels query body method
-AsksResource SubmodelsMetadata t query body method = Shows SubmodelsMetadata query (λ g. question.SubmodelsMetadata (selection_of g))
+AsksResource SubmodelsMetadata t query body method =
+    Shows SubmodelsMetadata query (λ g. question.SubmodelsMetadata (selection_of g))
 AsksResource SubmodelsValue t query body method =
     Shows SubmodelsValue query (λ g. question.SubmodelsValue (selection_of g) (level_of g) (extent_of g))
-AsksResource SubmodelsReference t query body method = Shows SubmodelsReference query (λ g. question.SubmodelsReference (selection_of g))
+AsksResource SubmodelsReference t query body method =
+    Shows SubmodelsReference query (λ g. question.SubmodelsReference (selection_of g))
 AsksResource Submodel t query body method = AsksDocument submodel_interface Submodel t.id query body method
 AsksResource SubmodelMetadata t query body method = AsksSubmodelMetadata t.id body method
 AsksResource SubmodelValue t query body method = AsksSubmodelValue t.id query body method
 AsksResource SubmodelReference t query body method = ById t.id (λ id. IsQuestion (question.SubmodelReference id))
-AsksResource SubmodelPaths t query body method = ById t.id (λ id. Shows SubmodelPaths query (λ g. question.SubmodelPaths id (level_of g)))
+AsksResource SubmodelPaths t query body method =
+    ById t.id (λ id. Shows SubmodelPaths query (λ g. question.SubmodelPaths id (level_of g)))
 AsksResource Elements t query body method = AsksElements t.id query body method
 AsksResource ElementsMetadata t query body method =
     ById t.id (λ id. Shows ElementsMetadata query (λ g. question.ElementsMetadata id (span_of g)))
@@ -241,7 +267,8 @@ AsksResource ElementPaths t query body method =
 AsksResource Concepts t query body method = AsksCollection concept_interface Concepts query body method
 AsksResource Concept t query body method = AsksDocument concept_interface Concept t.id query body method
 AsksResource Lookup t query body method = Shows Lookup query (λ g. question.Lookup g.asset_ids g.after (limit_of g))
-AsksResource Serialization t query body method = Shows Serialization query (λ g. question.Serialization g.shells g.submodels (concepts_of g))
+AsksResource Serialization t query body method =
+    Shows Serialization query (λ g. question.Serialization g.shells g.submodels (concepts_of g))
 
 -- ---- requests
 

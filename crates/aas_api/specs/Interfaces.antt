@@ -1,5 +1,5 @@
--- The three interfaces of the repository, each for documents of one type (IDTA-01002-3-0): which documents, and what is done to one and
--- asked of one and of all.
+-- The three interfaces of the repository, each for documents of one type (IDTA-01002-3-0): which documents, and what is
+-- done to one and asked of one and of all.
 use Rattle.std.specs.Prelude.{ℕ, List}
 use Rattle.aas_json_spelling.specs.Spells.{Trees}
 use Rattle.aas_json_mapping.specs.Trees.{concepts, shells, submodels}
@@ -7,7 +7,9 @@ use Rattle.aas_model.specs.declared.documents.Concept.{Concept}
 use Rattle.aas_model.specs.declared.documents.Shell.{Shell}
 use Rattle.aas_model.specs.declared.documents.Submodel.{Submodel}
 use Rattle.aas_command.specs.declared.command.Command.{Command}
-use Rattle.aas_command.specs.declared.command.Command.TheVariants.{CreateShell, CreateSubmodel, CreateConcept, ReplaceShell, ReplaceSubmodel, ReplaceConcept, DeleteShell, DeleteSubmodel, DeleteConcept}
+use Rattle.aas_command.specs.declared.command.Command.TheVariants.{CreateShell, CreateSubmodel, CreateConcept}
+use Rattle.aas_command.specs.declared.command.Command.TheVariants.{ReplaceShell, ReplaceSubmodel, ReplaceConcept}
+use Rattle.aas_command.specs.declared.command.Command.TheVariants.{DeleteShell, DeleteSubmodel, DeleteConcept}
 use Rattle.aas_question.specs.declared.question.Question.{Question}
 use Rattle.aas_question.specs.declared.question.Question.TheVariants as question
 use Rattle.aas_target.specs.Given.{extent_of, level_of, selection_of}

@@ -1,7 +1,8 @@
 -- The submodel that a question, a command or metadata is about, of those that may be asked through a shell.
 use Rattle.std.specs.Prelude.{ℕ, List, Option, Some, None}
 use Rattle.aas_command.specs.declared.command.Command.{Command}
-use Rattle.aas_command.specs.declared.command.Command.TheVariants.{ReplaceSubmodel, InsertElement, ReplaceElement, DeleteElement, UpdateValue}
+use Rattle.aas_command.specs.declared.command.Command.TheVariants.{ReplaceSubmodel, InsertElement, ReplaceElement}
+use Rattle.aas_command.specs.declared.command.Command.TheVariants.{DeleteElement, UpdateValue}
 use Rattle.aas_question.specs.declared.question.Question.{Question}
 use Rattle.aas_question.specs.declared.question.Question.TheVariants as question
 use Rattle.aas_api.specs.declared.ask.Ask.{Ask}

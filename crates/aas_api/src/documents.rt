@@ -6,7 +6,8 @@ ghost use Rattle.aas_target.specs.Given.{shown_of};
 ghost use Rattle.aas_target.specs.Routes.{IsOneOf};
 ghost use Rattle.aas_target.specs.declared.given.Given as declared;
 ghost use Rattle.aas_target.specs.declared.method.Method.TheVariants.{Get, Post, Put, Delete};
-ghost use Rattle.aas_api.specs.Asked.{AsksCollection, AsksDocument, ByBody, ById, IsCommand, OrNoMemory, Shows, if_same};
+ghost use Rattle.aas_api.specs.Asked.{AsksCollection, AsksDocument, ByBody, ById, IsCommand, OrNoMemory};
+ghost use Rattle.aas_api.specs.Asked.{Shows, if_same};
 ghost use Rattle.aas_api.specs.Interfaces.{Interface, concept_interface, shell_interface, submodel_interface};
 ghost use Rattle.aas_api.specs.declared.ask.Ask.TheVariants.{Act};
 
@@ -220,7 +221,8 @@ fn list<D: Document>(alloc: Global, resource: Resource, query: &[u8]) -> Result<
 }
 
 fn create<D: Document>(alloc: Global, body: &[u8]) -> Result<Ask, Refusal>
-    ensures { OrNoMemory (ByBody D.interface.documents limits body.now (λ document. Ok (Act (D.interface.create document)))) result }
+    ensures { OrNoMemory
+        (ByBody D.interface.documents limits body.now (λ document. Ok (Act (D.interface.create document)))) result }
 {
     let document = D::read(alloc, body)?;
     Ok(Ask::Act {

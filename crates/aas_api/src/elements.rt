@@ -10,7 +10,8 @@ ghost use Rattle.aas_target.specs.Seen.{texts_of};
 ghost use Rattle.aas_target.specs.declared.method.Method.TheVariants.{Get, Post, Put, Delete};
 ghost use Rattle.aas_target.specs.declared.routes.Resource.TheVariants as resource;
 ghost use Rattle.aas_api.specs.declared.ask.Ask.TheVariants.{Act};
-ghost use Rattle.aas_api.specs.Asked.{AsksElement, AsksElements, AtElement, ById, Inserts, IsCommand, IsQuestion, OrNoMemory, Replaces, Shows, has_last, if_same, root};
+ghost use Rattle.aas_api.specs.Asked.{AsksElement, AsksElements, AtElement, ById, Inserts, IsCommand, IsQuestion};
+ghost use Rattle.aas_api.specs.Asked.{OrNoMemory, Replaces, Shows, has_last, if_same, root};
 
 use crate::ask::Ask;
 use crate::segments::{element_path, given_by, identifier, shown_by};
@@ -99,7 +100,8 @@ pub(crate) fn ask_element(
 
 /// What is asked of the reference to the element.
 pub(crate) fn ask_element_reference(alloc: Global, texts: Texts<'_>) -> Result<Ask, Refusal>
-    ensures { OrNoMemory (AtElement (texts_of texts.entry) (λ id path. IsQuestion (question.ElementReference id path))) result }
+    ensures { OrNoMemory
+        (AtElement (texts_of texts.entry) (λ id path. IsQuestion (question.ElementReference id path))) result }
 {
     let id = identifier(alloc, texts.id)?;
     let path = element_path(alloc, texts.path)?;
@@ -231,7 +233,8 @@ fn replace(alloc: Global, submodel: Text, path: Path, body: &[u8]) -> Result<Ask
 /// Puts the element in the place of that to which the path leads, if it has the name with which the path ends.
 #[tactic(auto, using(crate::proofs::LastSteps::last_is))]
 fn if_same(submodel: Text, path: Path, element: Boxed<Element>) -> Result<Ask, Refusal>
-    ensures { result ≡ if_same (has_last (last_or None path.steps) element) (Act (ReplaceElement submodel path element)) }
+    ensures { result
+        ≡ if_same (has_last (last_or None path.steps) element) (Act (ReplaceElement submodel path element)) }
 {
     if !has_last(path.steps.as_slice().last(), element.get()) {
         return Err(Refusal::IdMismatch);

@@ -1,7 +1,7 @@
 //! From a request to what it asks for.
 //!
-//! The resources are a table in `aas_target`: the path of each, its methods and the parameters of its query. What a command, a
-//! question or new metadata comes to in a repository belongs to the crates above.
+//! The resources are a table in `aas_target`: the path of each, its methods and the parameters of its query. What a
+//! command, a question or new metadata comes to in a repository belongs to the crates above.
 //!
 //! Proved: a request is read as exactly what its path, its method, its identifier, the path of its element, its
 //! query and its body ask for, or refused by the first of their faults. A value has no broken number exactly

@@ -5,7 +5,8 @@ ghost use Rattle.aas_question.specs.declared.question.Question.TheVariants as qu
 ghost use Rattle.aas_target.specs.Routes.{IsOneOf};
 ghost use Rattle.aas_target.specs.Seen.{texts_of};
 ghost use Rattle.aas_target.specs.declared.method.Method.TheVariants.{Get, Patch};
-ghost use Rattle.aas_api.specs.Asked.{AsksElementMetadata, AsksSubmodelMetadata, AtElement, ById, DescribesElement, DescribesSubmodel, IsQuestion, OrNoMemory, has_last, if_same};
+ghost use Rattle.aas_api.specs.Asked.{AsksElementMetadata, AsksSubmodelMetadata, AtElement, ById, DescribesElement};
+ghost use Rattle.aas_api.specs.Asked.{DescribesSubmodel, IsQuestion, OrNoMemory, has_last, if_same};
 ghost use Rattle.aas_api.specs.declared.ask.Ask.TheVariants.{Describe};
 ghost use Rattle.aas_api.specs.declared.ask.Metadata.TheVariants as metadata;
 
@@ -65,7 +66,8 @@ fn get_submodel_metadata(alloc: Global, submodel: &[u8]) -> Result<Ask, Refusal>
 }
 
 fn get_element_metadata(alloc: Global, texts: Texts<'_>) -> Result<Ask, Refusal>
-    ensures { OrNoMemory (AtElement (texts_of texts.entry) (λ id path. IsQuestion (question.ElementMetadata id path))) result }
+    ensures { OrNoMemory
+        (AtElement (texts_of texts.entry) (λ id path. IsQuestion (question.ElementMetadata id path))) result }
 {
     let id = identifier(alloc, texts.id)?;
     let path = element_path(alloc, texts.path)?;
@@ -127,7 +129,8 @@ fn put_element_metadata(
 
 #[tactic(auto, using(crate::proofs::LastSteps::last_is))]
 fn if_same_name(submodel: Text, path: Path, form: Boxed<Element>) -> Result<Ask, Refusal>
-    ensures { result ≡ if_same (has_last (last_or None path.steps) form) (Describe (metadata.Element submodel path form)) }
+    ensures { result
+        ≡ if_same (has_last (last_or None path.steps) form) (Describe (metadata.Element submodel path form)) }
 {
     if !has_last(path.steps.as_slice().last(), form.get()) {
         return Err(Refusal::IdMismatch);

@@ -66,8 +66,8 @@ fn broken_number_of_members(
     Ok(None)
 }
 
-/// A value has no broken number exactly where each of its numbers is whole, as they are in a value that can be sent. The function
-/// does nothing.
+/// A value has no broken number exactly where each of its numbers is whole, as they are in a value that can be sent.
+/// The function does nothing.
 pub fn unbroken_numbers_are_whole()
     ensures { (v : Data) → (broken_number v ≡ None) ↔ HasWholeNumbers v }
 {}

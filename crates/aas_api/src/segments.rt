@@ -48,7 +48,8 @@ pub(crate) fn element_path(alloc: Global, segment: &[u8]) -> Result<Path, Refusa
 pub(crate) fn given_by(alloc: Global, resource: Resource, query: &[u8]) -> Result<Given, Refusal>
     ensures ok { IfOk result (λ given. Gives (parameters_of resource) query.now given) }
     ensures err { IfErr result (λ refusal. (refusal ≡ NoMemory) ⊎ ((parameter : Parameter)
-        × IsBadIn (parameters_of resource) query.now parameter × (refusal ≡ BadQuery (chars (parameter_name parameter))))) }
+        × IsBadIn (parameters_of resource) query.now parameter
+        × (refusal ≡ BadQuery (chars (parameter_name parameter))))) }
 {
     match read_query(alloc, query, resource.parameters()) {
         Ok(given) => Ok(given),
@@ -59,9 +60,11 @@ pub(crate) fn given_by(alloc: Global, resource: Resource, query: &[u8]) -> Resul
 
 /// How much is shown by what a query gives of the parameters that the resource lists.
 pub(crate) fn shown_by(alloc: Global, resource: Resource, query: &[u8]) -> Result<Shown, Refusal>
-    ensures ok { IfOk result (λ shown. (given : Given) × Gives (parameters_of resource) query.now given × (shown ≡ shown_of given)) }
+    ensures ok { IfOk result (λ shown.
+        (given : Given) × Gives (parameters_of resource) query.now given × (shown ≡ shown_of given)) }
     ensures err { IfErr result (λ refusal. (refusal ≡ NoMemory) ⊎ ((parameter : Parameter)
-        × IsBadIn (parameters_of resource) query.now parameter × (refusal ≡ BadQuery (chars (parameter_name parameter))))) }
+        × IsBadIn (parameters_of resource) query.now parameter
+        × (refusal ≡ BadQuery (chars (parameter_name parameter))))) }
 {
     match read_shown(alloc, query, resource.parameters()) {
         Ok(shown) => Ok(shown),

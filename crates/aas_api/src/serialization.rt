@@ -13,7 +13,10 @@ use std::alloc::Global;
 
 /// What is asked of the environment of some chosen documents.
 pub(crate) fn ask_serialization(alloc: Global, query: &[u8]) -> Result<Ask, Refusal>
-    ensures { OrNoMemory (Shows resource.Serialization query.now (λ given. question.Serialization given.shells given.submodels (concepts_of given))) result }
+    ensures { OrNoMemory
+        (Shows resource.Serialization query.now (λ given.
+        question.Serialization given.shells given.submodels (concepts_of given)))
+        result }
 {
     let given = given_by(alloc, Resource::Serialization, query)?;
     Ok(Ask::Answer {

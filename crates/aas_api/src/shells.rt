@@ -10,7 +10,8 @@ ghost use Rattle.aas_target.specs.Given.{limit_of, selection_of, span_of};
 ghost use Rattle.aas_target.specs.Routes.{IsOneOf};
 ghost use Rattle.aas_target.specs.declared.method.Method.TheVariants.{Get, Post, Put};
 ghost use Rattle.aas_target.specs.declared.routes.Resource.TheVariants as resource;
-ghost use Rattle.aas_api.specs.Asked.{AsksAsset, AsksReferences, ByBody, ById, IsCommand, IsQuestion, OrNoMemory, Shows};
+ghost use Rattle.aas_api.specs.Asked.{AsksAsset, AsksReferences, ByBody, ById, IsCommand, IsQuestion};
+ghost use Rattle.aas_api.specs.Asked.{OrNoMemory, Shows};
 ghost use Rattle.aas_api.specs.declared.ask.Ask.TheVariants.{Act};
 
 use crate::ask::Ask;
@@ -26,7 +27,8 @@ use std::alloc::Global;
 
 /// What is asked of references to shells.
 pub(crate) fn ask_shells_reference(alloc: Global, query: &[u8]) -> Result<Ask, Refusal>
-    ensures { OrNoMemory (Shows resource.ShellsReference query.now (λ given. question.ShellsReference (selection_of given))) result }
+    ensures { OrNoMemory
+        (Shows resource.ShellsReference query.now (λ given. question.ShellsReference (selection_of given))) result }
 {
     let given = given_by(alloc, Resource::ShellsReference, query)?;
     Ok(Ask::Answer {
@@ -98,7 +100,8 @@ pub(crate) fn ask_references(
 
 /// Drops the references of a shell to a submodel.
 pub(crate) fn drop_reference(alloc: Global, shell: &[u8], submodel: &[u8]) -> Result<Ask, Refusal>
-    ensures { OrNoMemory (ById shell.now (λ shell. ById submodel.now (λ submodel. IsCommand (DropReference shell submodel)))) result }
+    ensures { OrNoMemory
+        (ById shell.now (λ shell. ById submodel.now (λ submodel. IsCommand (DropReference shell submodel)))) result }
 {
     let shell = identifier(alloc, shell)?;
     let submodel = identifier(alloc, submodel)?;
@@ -119,7 +122,9 @@ fn get_asset(alloc: Global, shell: &[u8]) -> Result<Ask, Refusal>
 }
 
 fn set_asset(alloc: Global, shell: &[u8], body: &[u8]) -> Result<Ask, Refusal>
-    ensures { OrNoMemory (ById shell.now (λ id. ByBody asset_informations limits body.now (λ asset. Ok (Act (SetAsset id asset))))) result }
+    ensures { OrNoMemory
+        (ById shell.now (λ id. ByBody asset_informations limits body.now (λ asset. Ok (Act (SetAsset id asset)))))
+        result }
 {
     let shell = identifier(alloc, shell)?;
     match read_asset_information(alloc, body) {

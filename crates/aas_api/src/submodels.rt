@@ -14,7 +14,8 @@ use std::alloc::Global;
 
 /// What is asked of the metadata forms of submodels.
 pub(crate) fn ask_submodels_metadata(alloc: Global, query: &[u8]) -> Result<Ask, Refusal>
-    ensures { OrNoMemory (Shows resource.SubmodelsMetadata query.now (λ given. question.SubmodelsMetadata (selection_of given))) result }
+    ensures { OrNoMemory
+        (Shows resource.SubmodelsMetadata query.now (λ given. question.SubmodelsMetadata (selection_of given))) result }
 {
     let given = given_by(alloc, Resource::SubmodelsMetadata, query)?;
     Ok(Ask::Answer {
@@ -42,7 +43,9 @@ pub(crate) fn ask_submodels_value(alloc: Global, query: &[u8]) -> Result<Ask, Re
 
 /// What is asked of references to submodels.
 pub(crate) fn ask_submodels_reference(alloc: Global, query: &[u8]) -> Result<Ask, Refusal>
-    ensures { OrNoMemory (Shows resource.SubmodelsReference query.now (λ given. question.SubmodelsReference (selection_of given))) result }
+    ensures { OrNoMemory
+        (Shows resource.SubmodelsReference query.now (λ given. question.SubmodelsReference (selection_of given)))
+        result }
 {
     let given = given_by(alloc, Resource::SubmodelsReference, query)?;
     Ok(Ask::Answer {

@@ -11,7 +11,8 @@ ghost use Rattle.aas_target.specs.Routes.{IsOneOf};
 ghost use Rattle.aas_target.specs.Seen.{texts_of};
 ghost use Rattle.aas_target.specs.declared.method.Method.TheVariants.{Get, Patch};
 ghost use Rattle.aas_target.specs.declared.routes.Resource.TheVariants as resource;
-ghost use Rattle.aas_api.specs.Asked.{AsksElementValue, AsksSubmodelValue, AtElement, ById, OrNoMemory, Shows, Updates, root};
+ghost use Rattle.aas_api.specs.Asked.{AsksElementValue, AsksSubmodelValue, AtElement, ById, OrNoMemory, Shows};
+ghost use Rattle.aas_api.specs.Asked.{Updates, root};
 ghost use Rattle.aas_api.specs.Numbers.{broken_number};
 
 use crate::ask::Ask;
@@ -136,7 +137,8 @@ fn sent_value(alloc: Global, body: &[u8]) -> Result<SentValue, Refusal>
     ensures ok { IfOk result (λ sent. (reading body.now ≡ Some sent) × (broken_number sent ≡ None)) }
     ensures err { IfErr result (λ refusal. (refusal ≡ NoMemory)
         ⊎ ((reading body.now ≡ None) × (refusal ≡ NotJson))
-        ⊎ ((v : Data) × (text : List ℕ) × (reading body.now ≡ Some v) × IsPointer (broken_number v) text × (refusal ≡ NotMapping text))) }
+        ⊎ ((v : Data) × (text : List ℕ) × (reading body.now ≡ Some v)
+        × IsPointer (broken_number v) text × (refusal ≡ NotMapping text))) }
 {
     let value = read_value(alloc, body)?;
     check_numbers(alloc, &value)?;

@@ -20,7 +20,8 @@ name_utf8 n h = subst IsUtf8 (sym (name_bytes n h.0)) (IsUtf8-from_ascii n (name
 place_utf8 : (i : ℕ) → i < 10 ^ 9 → IsUtf8 (step_text (Place i))
 place_utf8 i small =
     IsUtf8-append (codes "[") (decimal i ++ codes "]") (one_utf8 91 (omega arith))
-    (IsUtf8-append (decimal i) (codes "]") (IsUtf8-from_ascii (decimal i) (IsAscii-decimal i (omega (arith, small)))) (one_utf8 93 (omega arith)))
+    (IsUtf8-append (decimal i) (codes "]")
+    (IsUtf8-from_ascii (decimal i) (IsAscii-decimal i (omega (arith, small)))) (one_utf8 93 (omega arith)))
 
 step_utf8 : (s : PathStep) → StepKeepsRule s → IsUtf8 (step_text s)
 step_utf8 (Name n) h = IsUtf8-append (codes ".") (encode_utf8_all n) (one_utf8 46 (omega arith)) (name_utf8 n h)
@@ -32,7 +33,8 @@ steps_utf8 (s ∷ p) h = IsUtf8-append (step_text s) (flat_map step_text p) (ste
 
 pub path_text_utf8 : (p : List PathStep) → IsPlace p → IsUtf8 (path_text p)
 path_text_utf8 [] h = IsUtf8-nil
-path_text_utf8 (Name n ∷ p) h = IsUtf8-append (encode_utf8_all n) (flat_map step_text p) (name_utf8 n h.0) (steps_utf8 p h.1)
+path_text_utf8 (Name n ∷ p) h =
+    IsUtf8-append (encode_utf8_all n) (flat_map step_text p) (name_utf8 n h.0) (steps_utf8 p h.1)
 path_text_utf8 (Place i ∷ p) h = absurd h
 
 -- a path that can be written isn't empty

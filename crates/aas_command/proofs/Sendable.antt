@@ -19,4 +19,5 @@ shallow bytes v is = by_utf8 (is_utf8 bytes) is
     by_utf8 false e = absurd (cc)
 
 pub read_sendable : (bytes : List ℕ) (v : Data) → reading bytes ≡ Some v → HasWholeNumbers v → IsSendable v
-read_sendable bytes v is numbers = record { order = reading_ordered bytes v is; numbers = numbers; shallow = shallow bytes v is }
+read_sendable bytes v is numbers =
+    record { order = reading_ordered bytes v is; numbers = numbers; shallow = shallow bytes v is }

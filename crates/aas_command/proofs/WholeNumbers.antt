@@ -1,7 +1,8 @@
 -- A value whose numbers are whole has no float.
 use Rattle.std.proofs.Common.{◌≡◌, false, refl}
 use Rattle.std.proofs.lemmas.Bool.{or_from}
-use Rattle.serde_json.specs.Data.{Num, unsigned, negative, float, Data, null, boolean, number, string, array, object, Items, no_items, item, Members, no_members, member}
+use Rattle.serde_json.specs.Data.{Num, unsigned, negative, float, Data, null, boolean, number, string, array, object}
+use Rattle.serde_json.specs.Data.{Items, no_items, item, Members, no_members, member}
 use Rattle.serde_json.specs.Find.{is_float}
 use Rattle.serde_json.specs.Written.{has_float, items_have_float, members_have_float}
 use Rattle.aas_json_spelling.specs.Values.{IsWholeNumber, HasWholeNumbers, HaveWholeNumbers, MembersHaveWholeNumbers}
@@ -26,4 +27,5 @@ mutual
 
   members_no_float : (ms : Members) → MembersHaveWholeNumbers ms → members_have_float ms ≡ false
   members_no_float no_members whole = refl
-  members_no_float (member k d ms) whole = or_from (has_float d) (members_have_float ms) (no_float d whole.0) (members_no_float ms whole.1)
+  members_no_float (member k d ms) whole =
+      or_from (has_float d) (members_have_float ms) (no_float d whole.0) (members_no_float ms whole.1)

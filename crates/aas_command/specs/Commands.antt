@@ -1,5 +1,6 @@
--- Which commands are well formed, and the payloads in which they are kept: a tag byte, and then fields, each with its length as four bytes, greatest first, before
--- it. Documents, environments, elements and references are canonical texts, values compact ones, identifiers and paths are UTF-8. This profile's own rule.
+-- Which commands are well formed, and the payloads in which they are kept: a tag byte, and then fields, each with its
+-- length as four bytes, greatest first, before it. Documents, environments, elements and references are canonical
+-- texts, values compact ones, identifiers and paths are UTF-8. This profile's own rule.
 use Rattle.std.specs.Prelude.{ℕ, ◌+◌, ◌≤◌, List, [], ◌∷◌, ◌++◌, length, flat_map, ⊤}
 use Rattle.std.specs.Int.{to_be_bytes, w32}
 use Rattle.std.specs.Str.{encode_utf8_all}
@@ -16,15 +17,19 @@ use Rattle.aas_path_trees.specs.PathRule.{KeepsRule}
 use Rattle.aas_edit_laws.specs.Laws.{at_level}
 use Rattle.aas_reference.specs.Trees.{references}
 use Rattle.aas_command.specs.declared.command.Command.{Command}
-use Rattle.aas_command.specs.declared.command.Command.TheVariants.{CreateShell, CreateSubmodel, CreateConcept, ReplaceShell, ReplaceSubmodel, ReplaceConcept, DeleteShell, DeleteSubmodel, DeleteConcept, SetAsset, AddReference, DropReference, InsertElement, ReplaceElement, DeleteElement, UpdateValue, Import}
+use Rattle.aas_command.specs.declared.command.Command.TheVariants.{CreateShell, CreateSubmodel, CreateConcept}
+use Rattle.aas_command.specs.declared.command.Command.TheVariants.{ReplaceShell, ReplaceSubmodel, ReplaceConcept}
+use Rattle.aas_command.specs.declared.command.Command.TheVariants.{DeleteShell, DeleteSubmodel, DeleteConcept, SetAsset}
+use Rattle.aas_command.specs.declared.command.Command.TheVariants.{AddReference, DropReference, InsertElement}
+use Rattle.aas_command.specs.declared.command.Command.TheVariants.{ReplaceElement, DeleteElement, UpdateValue, Import}
 
 -- a path that can be written, or the empty one, which leads to the submodel
 abbrev pub IsPlace : List PathStep → Type 0
 IsPlace [] = ⊤
 IsPlace (s ∷ p) = KeepsRule (s ∷ p)
 
--- A JSON value can be sent: names rise in it, as in each value that is read, its numbers are whole, and at most 127 arrays and objects nest. So its text, where it
--- is UTF-8, is read as the same value.
+-- A JSON value can be sent: names rise in it, as in each value that is read, its numbers are whole, and at most 127
+-- arrays and objects nest. So its text, where it is UTF-8, is read as the same value.
 pub record IsSendable (v : Data) : Type 0 where
   pub order : IsOrdered v
   pub numbers : HasWholeNumbers v

@@ -3,7 +3,8 @@ use Rattle.std.specs.Prelude.{◌≡◌, ◌⊎◌, ℕ, ℤ, List, Float}
 use Rattle.std.proofs.Common.{inl, inr, refl, ap, ap₂, arith}
 use Rattle.std.specs.Coded.{Coded, code_by, coded_bool, coded_list, coded_ℕ, coded_ℤ, coded⊎}
 use base.Stored.{Gv, gnil, gnum, gcons, coded_float}
-use Rattle.serde_json.specs.Data.{Num, unsigned, negative, float, Data, null, boolean, number, string, array, object, Items, no_items, item, Members, no_members, member}
+use Rattle.serde_json.specs.Data.{Num, unsigned, negative, float, Data, null, boolean, number, string, array, object}
+use Rattle.serde_json.specs.Data.{Items, no_items, item, Members, no_members, member}
 
 -- ---- numbers and texts
 
@@ -23,7 +24,8 @@ from_sign-by_sign (negative z) = refl
 from_sign-by_sign (float x) = refl
 
 abbrev number_code : Coded Num
-number_code = code_by (ℕ ⊎ (ℤ ⊎ Float)) (coded⊎ coded_ℕ (coded⊎ coded_ℤ coded_float)) by_sign from_sign from_sign-by_sign
+number_code =
+    code_by (ℕ ⊎ (ℤ ⊎ Float)) (coded⊎ coded_ℕ (coded⊎ coded_ℤ coded_float)) by_sign from_sign from_sign-by_sign
 
 abbrev text_code : Coded (List ℕ)
 text_code = coded_list coded_ℕ

@@ -10,7 +10,12 @@ use Rattle.aas_path.specs.declared.path_fault.PathFault.TheVariants as path
 use Rattle.aas_command.specs.declared.refusal.Absent.{Absent}
 use Rattle.aas_command.specs.declared.refusal.Absent.TheVariants as absent
 use Rattle.aas_command.specs.declared.refusal.Refusal.{Refusal}
-use Rattle.aas_command.specs.declared.refusal.Refusal.TheVariants.{BadRequest, TooLarge, NotImplemented, NoRoute, NotAllowed, BadIdentifier, BadPath, BadQuery, NotJson, NotMapping, TooDeep, IdMismatch, NotFound, Conflict, NotAContainer, NoValueForm, Shape, Lexical, Constraint, TooMany, StorageFull, StorageFault, NoMemory}
+use Rattle.aas_command.specs.declared.refusal.Refusal.TheVariants.{BadRequest, TooLarge, NotImplemented, NoRoute}
+use Rattle.aas_command.specs.declared.refusal.Refusal.TheVariants.{NotAllowed, BadIdentifier, BadPath, BadQuery}
+use Rattle.aas_command.specs.declared.refusal.Refusal.TheVariants.{NotJson, NotMapping, TooDeep, IdMismatch, NotFound}
+use Rattle.aas_command.specs.declared.refusal.Refusal.TheVariants.{Conflict, NotAContainer, NoValueForm, Shape, Lexical}
+use Rattle.aas_command.specs.declared.refusal.Refusal.TheVariants.{Constraint, TooMany, StorageFull}
+use Rattle.aas_command.specs.declared.refusal.Refusal.TheVariants.{StorageFault, NoMemory}
 
 -- ---- the table
 
@@ -24,7 +29,8 @@ row code text = record { code = code; text = text }
 
 -- a constraint of IDTA-01001-3-0 by its number, in three digits
 abbrev pub constraint_name : ℕ → List ℕ
-constraint_name n = codes "AASd-" ++ (if nat_lt n 10 then codes "00" else (if nat_lt n 100 then codes "0" else codes "")) ++ decimal n
+constraint_name n =
+    codes "AASd-" ++ (if nat_lt n 10 then codes "00" else (if nat_lt n 100 then codes "0" else codes "")) ++ decimal n
 
 abbrev pub absent_text : Absent → List ℕ
 absent_text absent.Shell = codes "shell"

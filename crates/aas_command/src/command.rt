@@ -53,7 +53,8 @@ pub enum Command {
         shell: Text,
         submodel: Text,
     },
-    /// Post an element: the last child of the element to which the path leads, or of the submodel where the path is empty.
+    /// Post an element: the last child of the element to which the path leads,
+    /// or of the submodel where the path is empty.
     InsertElement {
         submodel: Text,
         path: Path,
@@ -70,8 +71,8 @@ pub enum Command {
         submodel: Text,
         path: Path,
     },
-    /// Update the values of the element to which the path leads, or of the submodel where the path is empty, by the value form
-    /// that is sent, or a part of it (PatchSubmodelElementByPath and PatchSubmodel, ValueOnly).
+    /// Update the values of the element to which the path leads, or of the submodel where the path is empty, by the
+    /// value form that is sent, or a part of it (PatchSubmodelElementByPath and PatchSubmodel, ValueOnly).
     UpdateValue {
         submodel: Text,
         path: Path,

@@ -161,7 +161,7 @@ fn element_payload(
     ensures fields { OnOk result (IsField (encode_utf8_all submodel.now) × IsField (path_text path.now.steps)
         × IsField (canonical_text elements element.now)) }
 {
-    let path = written(alloc, path)?;
+    let path = path_bytes(alloc, path)?;
     let text = element_text(alloc, element)?;
     fields(alloc, tag, &[submodel.as_str().as_bytes(), &path, &text])
 }
@@ -183,7 +183,7 @@ fn value_payload(
     ensures fields { OnOk result (IsField (encode_utf8_all submodel.now) × IsField (path_text path.now.steps)
         × IsField (compact_text value.now)) }
 {
-    let path = written(alloc, path)?;
+    let path = path_bytes(alloc, path)?;
     let text = value.text(alloc)?;
     fields(alloc, 16, &[submodel.as_str().as_bytes(), &path, &text])
 }
@@ -197,7 +197,8 @@ fn path_payload(
 ) -> Result<Vec<u8>, EncodeFault>
     requires { IsPlace path.now.steps }
     ensures payload { MatchResult result
-        (λ payload. payload.items ≡ bytes_of (tagged tag (encode_utf8_all submodel.now ∷ path_text path.now.steps ∷ [])))
+        (λ payload.
+        payload.items ≡ bytes_of (tagged tag (encode_utf8_all submodel.now ∷ path_text path.now.steps ∷ [])))
         (IsFaultOf (bytes_of (tagged tag (encode_utf8_all submodel.now ∷ path_text path.now.steps ∷ [])))) }
     ensures fields { OnOk result (IsField (encode_utf8_all submodel.now) × IsField (path_text path.now.steps)) }
 {
@@ -205,13 +206,13 @@ fn path_payload(
         alloc,
         tag,
         submodel.as_str().as_bytes(),
-        &written(alloc, path)?,
+        &path_bytes(alloc, path)?,
     )
 }
 
 /// The text of a path, which can be written.
 #[tactic(auto, using(crate::proofs::PathTexts::path_text_utf8))]
-fn written(alloc: Global, path: &Path) -> Result<Vec<u8>, NoMemory>
+fn path_bytes(alloc: Global, path: &Path) -> Result<Vec<u8>, NoMemory>
     requires { IsPlace path.now.steps }
     ensures text { IfOk result (λ text. text.items ≡ path_text path.now.steps) }
     ensures utf8 { IfOk result (λ text. IsUtf8 text.items) }

@@ -1,5 +1,5 @@
-//! Commands, which change a repository, with the payloads in which they are kept; and why a command or a request is refused: each
-//! refusal with its code and its text.
+//! Commands, which change a repository, with the payloads in which they are kept; and why a command or a request is
+//! refused: each refusal with its code and its text.
 //!
 //! What a command comes to is said above (`aas_step`), and so is the reply that tells a refusal.
 //!

@@ -2,7 +2,8 @@ ghost use Rattle.std.specs.Prelude.{◌≡◌, IfOk, MatchBool};
 ghost use Rattle.std.specs.Str.{IsUtf8};
 ghost use Rattle.serde_json.specs.View.{view, number_view, items_view, members_view};
 ghost use Rattle.serde_json.specs.Written.{compact_text};
-ghost use Rattle.aas_json_spelling.specs.Values.{HasWholeNumbers, HaveWholeNumbers, IsWholeNumber, MembersHaveWholeNumbers};
+ghost use Rattle.aas_json_spelling.specs.Values.{HasWholeNumbers, HaveWholeNumbers, IsWholeNumber};
+ghost use Rattle.aas_json_spelling.specs.Values.{MembersHaveWholeNumbers};
 
 use aas_model::NoMemory;
 use serde_json::{Map, Number, Value};
@@ -79,7 +80,8 @@ fn is_whole(number: &Number) -> bool
 
 #[cycle(whole)]
 fn have_whole_numbers(items: &Vec<Value>) -> bool
-    ensures { MatchBool result (HaveWholeNumbers (items_view items.now.items)) (¬ (HaveWholeNumbers (items_view items.now.items))) }
+    ensures { MatchBool result (HaveWholeNumbers (items_view items.now.items))
+        (¬ (HaveWholeNumbers (items_view items.now.items))) }
 {
     for item in items {
         if !has_whole_numbers(item) {

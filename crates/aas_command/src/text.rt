@@ -15,31 +15,31 @@ impl Refusal {
         ensures { IfOk result (λ text. text.items ≡ text_of self.now) }
     {
         match self {
-            Refusal::NoMemory => joined(alloc, "out of memory", ""),
-            Refusal::BadRequest => joined(alloc, "bad request", ""),
-            Refusal::TooLarge => joined(alloc, "too large", ""),
-            Refusal::NotImplemented => joined(alloc, "not implemented", ""),
-            Refusal::NoRoute => joined(alloc, "no route", ""),
-            Refusal::NotAllowed { .. } => joined(alloc, "method not allowed", ""),
-            Refusal::BadIdentifier => joined(alloc, "bad identifier", ""),
-            Refusal::BadPath { at } => joined(alloc, "bad path at ", Buffer::new().format(*at)),
-            Refusal::BadQuery { name } => joined(alloc, "bad query: ", name.as_str()),
-            Refusal::NotJson => joined(alloc, "not JSON", ""),
+            Refusal::NoMemory => join_words(alloc, "out of memory", ""),
+            Refusal::BadRequest => join_words(alloc, "bad request", ""),
+            Refusal::TooLarge => join_words(alloc, "too large", ""),
+            Refusal::NotImplemented => join_words(alloc, "not implemented", ""),
+            Refusal::NoRoute => join_words(alloc, "no route", ""),
+            Refusal::NotAllowed { .. } => join_words(alloc, "method not allowed", ""),
+            Refusal::BadIdentifier => join_words(alloc, "bad identifier", ""),
+            Refusal::BadPath { at } => join_words(alloc, "bad path at ", Buffer::new().format(*at)),
+            Refusal::BadQuery { name } => join_words(alloc, "bad query: ", name.as_str()),
+            Refusal::NotJson => join_words(alloc, "not JSON", ""),
             Refusal::NotMapping { pointer } => {
-                joined(alloc, "not in the mapping at ", pointer.as_str())
+                join_words(alloc, "not in the mapping at ", pointer.as_str())
             }
-            Refusal::TooDeep { pointer } => joined(alloc, "too deep at ", pointer.as_str()),
-            Refusal::IdMismatch => joined(alloc, "identifiers differ", ""),
+            Refusal::TooDeep { pointer } => join_words(alloc, "too deep at ", pointer.as_str()),
+            Refusal::IdMismatch => join_words(alloc, "identifiers differ", ""),
             Refusal::NotFound { what } => not_found_text(alloc, what),
-            Refusal::Conflict => joined(alloc, "already there", ""),
-            Refusal::NotAContainer => joined(alloc, "not a container", ""),
-            Refusal::NoValueForm => joined(alloc, "no value form", ""),
+            Refusal::Conflict => join_words(alloc, "already there", ""),
+            Refusal::NotAContainer => join_words(alloc, "not a container", ""),
+            Refusal::NoValueForm => join_words(alloc, "no value form", ""),
             Refusal::Shape { path } => with_path(alloc, "wrong shape at ", path),
             Refusal::Lexical { path } => with_path(alloc, "lexical fault at ", path),
             Refusal::Constraint { fault } => constraint_text(alloc, fault),
-            Refusal::TooMany => joined(alloc, "too many elements", ""),
-            Refusal::StorageFull => joined(alloc, "storage full", ""),
-            Refusal::StorageFault => joined(alloc, "storage fault", ""),
+            Refusal::TooMany => join_words(alloc, "too many elements", ""),
+            Refusal::StorageFull => join_words(alloc, "storage full", ""),
+            Refusal::StorageFault => join_words(alloc, "storage fault", ""),
         }
     }
 }
@@ -63,7 +63,7 @@ impl Absent {
     }
 }
 
-fn joined(alloc: Global, words: &str, rest: &str) -> Result<Vec<u8>, NoMemory>
+fn join_words(alloc: Global, words: &str, rest: &str) -> Result<Vec<u8>, NoMemory>
     ensures { IfOk result (λ text. text.items ≡ words.now ++ rest.now) }
 {
     let mut text = Vec::from_slice(alloc, words.as_bytes())?;
@@ -88,14 +88,15 @@ fn not_found_text(alloc: Global, what: &Absent) -> Result<Vec<u8>, NoMemory>
 }
 
 fn constraint_text(alloc: Global, fault: &Fault) -> Result<Vec<u8>, NoMemory>
-    ensures { IfOk result (λ text. text.items ≡ constraint_name fault.now.number ++ codes " at " ++ fault_path_text fault.now.path.steps) }
+    ensures { IfOk result (λ text.
+        text.items ≡ constraint_name fault.now.number ++ codes " at " ++ fault_path_text fault.now.path.steps) }
 {
     let zeros = match fault.number {
         0..10 => "00",
         10..100 => "0",
         _ => "",
     };
-    let mut text = joined(alloc, "AASd-", zeros)?;
+    let mut text = join_words(alloc, "AASd-", zeros)?;
     text.extend_from_slice(Buffer::new().format(fault.number).as_bytes())?;
     text.extend_from_slice(b" at ")?;
     print_fault_path(&fault.path, &mut text)?;

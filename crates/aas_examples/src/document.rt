@@ -1,5 +1,5 @@
-// Documents, and elements, as examples read and write them. What is done with one is generic, so that it is proved once for all
-// of them.
+// Documents, and elements, as examples read and write them. What is done with one is generic, so that it is proved once
+// for all of them.
 use crate::text::{done, text, text_of};
 use aas_command::Refusal;
 use aas_json_input::read_value;
@@ -85,7 +85,8 @@ impl Document for AssetInformation {
     }
 }
 
-/// What a copy of the document is written as: `as sent` where that is the JSON value that was sent, with its members in byte order.
+/// What a copy of the document is written as: `as sent` where that is
+/// the JSON value that was sent, with its members in byte order.
 pub(crate) fn written<D: Document>(alloc: Global, json: &str) -> Result<String, Refusal> {
     let document = D::read(alloc, json)?;
     as_sent(alloc, json, copy_written(alloc, &document)?)

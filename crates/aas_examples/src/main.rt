@@ -1,5 +1,6 @@
-//! Worked examples that cross crates. Each line of the input is an example: a call, what it is to give, and what it is called
-//! with, with tabs between them. Printed are the examples that give something else, and how many there are in all.
+//! Worked examples that cross crates. Each line of the input is an example: a call, what it is to give, and what it is
+//! called with, with tabs between them. Printed are the examples that give something else, and how many there are in
+//! all.
 //!
 //! No definition and no rule stands here.
 //!
@@ -34,7 +35,8 @@ fn failure(alloc: Global, line: &str) -> Result<Option<String>, NoMemory> {
 
 /// What is given, where that isn't what is expected.
 fn unexpected(given: String, expected: &str) -> Option<String>
-    ensures { MatchOption result (string_bytes given ≡ expected.now) (λ told. (told ≡ given) × ¬ (string_bytes given ≡ expected.now)) }
+    ensures { MatchOption result (string_bytes given ≡ expected.now) (λ told.
+        (told ≡ given) × ¬ (string_bytes given ≡ expected.now)) }
 {
     if given.as_str() == expected {
         None

@@ -2,9 +2,11 @@
 //
 // - `files`: what the three files hold before the run. Without it, what `init` leaves. `empty`: nothing. `left`: what
 //   the example before left.
-//   `old`, `new`, `ones`: what such a crash leaves after the example before; then several examples may begin with what the same one left.
+//   `old`, `new`, `ones`: what such a crash leaves after the example before;
+//   then several examples may begin with what the same one left.
 // - `main`, `spare`, `selector`: what this file holds, in hexadecimal.
-// - `fails`: the numbers of the disk's calls that fail, with commas between them. `stop`: that of the call from which on all fail.
+// - `fails`: the numbers of the disk's calls that fail, with commas between them.
+//   `stop`: that of the call from which on all fail.
 // - `leaves`: what the main file holds after the run, in hexadecimal.
 // - `room`: the most bytes that each file holds. Without it they are 65,536.
 use crate::columns::{column, number, numbers};

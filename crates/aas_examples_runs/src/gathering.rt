@@ -1,6 +1,6 @@
-// The environment in memory of documents that requests leave. The words of an example of this are `gather`, the identifiers of
-// the shells, those of the submodels, with commas between them or `-` for none, and `true` where concept descriptions are
-// asked for. The console gets the environment's text, or what is missing.
+// The environment in memory of documents that requests leave. The words of an example of this are `gather`, the
+// identifiers of the shells, those of the submodels, with commas between them or `-` for none, and `true` where concept
+// descriptions are asked for. The console gets the environment's text, or what is missing.
 use crate::example::Example;
 use crate::keepers::{console, served};
 use crate::not_run::NotRun;

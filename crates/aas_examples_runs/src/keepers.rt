@@ -1,5 +1,5 @@
-// Requests that are served without a disk, by a repository behind its interface, whose keeper is in memory. The words of an
-// example of this are `keeper` and how many bytes of frames it takes.
+// Requests that are served without a disk, by a repository behind its interface, whose keeper is in memory. The words
+// of an example of this are `keeper` and how many bytes of frames it takes.
 ghost use Rattle.std.specs.Prelude.{◌≡◌};
 ghost use Rattle.aas_store.specs.Documents.{empty};
 

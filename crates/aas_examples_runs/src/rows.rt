@@ -1,4 +1,5 @@
-// A row that a store of tables lends to be written. The words are `row_mut`, the rank of the row in the submodel `urn:x1`, and paths.
+// A row that a store of tables lends to be written. The words are `row_mut`,
+// the rank of the row in the submodel `urn:x1`, and paths.
 ghost use Rattle.std.specs.Prelude.{IfOk};
 ghost use Rattle.aas_store.specs.Storable.{IsStorable};
 

@@ -1,5 +1,6 @@
 -- Laws of the first request.
-use Rattle.std.proofs.Common.{◌≡◌, ◌⊎◌, inl, inr, ℕ, ◌+◌, ◌<◌, false, List, length, Some, refl, sym, ap, ◌∙◌, arith, length-append}
+use Rattle.std.proofs.Common.{◌≡◌, ◌⊎◌, inl, inr, ℕ, ◌+◌, ◌<◌, false, List, length, Some, refl, sym, ap, ◌∙◌}
+use Rattle.std.proofs.Common.{arith, length-append}
 use Rattle.std.specs.Prelude.{nat_le}
 use Rattle.std.proofs.lemmas.Bool.{cond-false, le-ltb}
 use Rattle.std.proofs.lemmas.Bool.Decides.{nat_tests}
@@ -22,12 +23,20 @@ unfinished b some (inr body) =
     let h = body.head in let rest = body.rest in
     let cut : nat_le body.size (length rest) ≡ false = grind (arith, nat_tests, body.short) in
     let step : first_by_length h (Some body.size) rest ≡ Bad =
-    cond-false _ _ _ (le-ltb body_limit body.size body.within) ∙ cond-false _ _ _ body.supported ∙ cond-false _ _ _ cut in
+    cond-false _ _ _ (le-ltb body_limit body.size body.within)
+    ∙ cond-false _ _ _ body.supported ∙ cond-false _ _ _ cut in
     inr (inr (h, rest, some, body.admits, sym (ap (λ r. first_by_length h r rest) body.said ∙ step)))
 
 more_short : (b : List ℕ) → AwaitsHead b ⊎ AwaitsBody b → length b < head_limit + body_limit
 more_short b (inl head) = omega (arith, head.short)
-more_short b (inr body) = omega (arith, ap length body.admits.reads.1, length-append (print_request body.head) body.rest, body.admits.size, body.short, body.within)
+more_short b (inr body) = omega (
+  arith,
+  ap length body.admits.reads.1,
+  length-append (print_request body.head) body.rest,
+  body.admits.size,
+  body.short,
+  body.within,
+)
 
 pub ends_unfinished : EndsUnfinished
 ends_unfinished b awaits = (blank_first b, λ some. unfinished b some awaits)

@@ -1,5 +1,7 @@
--- How long the body of a request is, by its Content-Length. HTTP/1.1 (RFC 9112, section 6), within the limits of this profile.
-use Rattle.std.specs.Prelude.{ℕ, Bool, ◌&&◌, nat_lt, nat_le, List, [], ◌∷◌, length, Option, Some, None, codes, if◌then◌else◌}
+-- How long the body of a request is, by its Content-Length.
+-- HTTP/1.1 (RFC 9112, section 6), within the limits of this profile.
+use Rattle.std.specs.Prelude.{ℕ, Bool, ◌&&◌, nat_lt, nat_le, List, [], ◌∷◌, length, Option, Some, None}
+use Rattle.std.specs.Prelude.{codes, if◌then◌else◌}
 use Rattle.std.specs.List.{list_all}
 use Rattle.std.specs.Char.{is_ascii_digit}
 use Rattle.std.specs.Str.Parse.{digits_value}

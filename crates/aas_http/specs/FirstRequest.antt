@@ -1,5 +1,6 @@
 -- The first request of some bytes. HTTP/1.1 (RFC 9112), within the limits of this profile.
-use Rattle.std.specs.Prelude.{◌≡◌, ◌<◌, ◌⊎◌, ℕ, Bool, ◌||◌, ◌==◌, nat_lt, nat_le, List, take, drop, length, Option, Some, None, true, if◌then◌else◌}
+use Rattle.std.specs.Prelude.{◌≡◌, ◌<◌, ◌⊎◌, ℕ, Bool, ◌||◌, ◌==◌, nat_lt, nat_le, List, take, drop, length, Option}
+use Rattle.std.specs.Prelude.{Some, None, true, if◌then◌else◌}
 use Rattle.std.specs.List.{list_all}
 use Rattle.httparse.specs.Grammar.{RequestHead}
 use Rattle.aas_http.specs.BodyLength.{body_limit, body_length}
@@ -29,7 +30,12 @@ pub record IsBlank (bytes : List ℕ) : Type 0 where
   pub short : length bytes < head_limit
 
 abbrev pub message : RequestHead → List ℕ → Message
-message head body = record { method = head.method; target = head.target; body = body; close = asks_to_close head.minor (fields_of head) }
+message head body = record {
+  method = head.method;
+  target = head.target;
+  body = body;
+  close = asks_to_close head.minor (fields_of head);
+}
 
 -- behind a head with a body of n bytes: the request and the rest, if the body is whole
 abbrev pub first_with_body : RequestHead → ℕ → List ℕ → FirstRequest
@@ -52,4 +58,5 @@ unfoldable pub IsFirstRequest : List ℕ → FirstRequest → Type 0
 IsFirstRequest bytes first =
     (IsBlank bytes × (first ≡ Nothing))
     ⊎ ((¬ (IsBlank bytes) × AdmitsNone bytes × (first ≡ Bad))
-    ⊎ ((head : RequestHead) × (rest : List ℕ) × ¬ (IsBlank bytes) × Admits bytes head rest × (first ≡ first_of_head head rest)))
+    ⊎ ((head : RequestHead) × (rest : List ℕ) × ¬ (IsBlank bytes)
+    × Admits bytes head rest × (first ≡ first_of_head head rest)))

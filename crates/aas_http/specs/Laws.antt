@@ -21,4 +21,5 @@ FitsLimits = (bytes : List ℕ) → AwaitsHead bytes ⊎ AwaitsBody bytes → le
 -- A whole request ends by itself: its bytes are the first ones, and whatever follows them, it is the first request.
 abbrev pub EndsByItself : Type 0
 EndsByItself = (bytes : List ℕ) (message : Message) (rest : List ℕ) → IsFirstRequest bytes (Whole message rest)
-    → (front : List ℕ) × (bytes ≡ front ++ rest) × ((more : List ℕ) → IsFirstRequest (front ++ more) (Whole message more))
+    → (front : List ℕ) × (bytes ≡ front ++ rest)
+    × ((more : List ℕ) → IsFirstRequest (front ++ more) (Whole message more))

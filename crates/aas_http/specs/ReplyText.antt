@@ -1,5 +1,6 @@
 -- The text of a reply. HTTP/1.1 (RFC 9112), in the form of this profile.
-use Rattle.std.specs.Prelude.{◌==◌, ◌+◌, ℕ, Bool, List, [], ◌++◌, length, decimal, codes, if◌then◌else◌, Option, Some, None, unwrap_or}
+use Rattle.std.specs.Prelude.{◌==◌, ◌+◌, ℕ, Bool, List, [], ◌++◌, length, decimal, codes, if◌then◌else◌, Option, Some}
+use Rattle.std.specs.Prelude.{None, unwrap_or}
 use Rattle.std.specs.Str.{encode_utf8_all}
 use Rattle.aas_http.specs.declared.replies.Reply.{Reply}
 
@@ -28,7 +29,8 @@ status_line status = codes "HTTP/1.1 " ++ decimal status ++ codes " " ++ unwrap_
 -- the length is that of the body and of what follows it; none on 204, which has no body
 abbrev pub content_fields : ℕ → List ℕ → ℕ → List ℕ
 content_fields status body later =
-    if status == 204 then [] else codes "Content-Type: application/json\r\nContent-Length: " ++ decimal (length body + later) ++ crlf
+    if status == 204 then []
+    else codes "Content-Type: application/json\r\nContent-Length: " ++ decimal (length body + later) ++ crlf
 
 -- the methods, on 405
 abbrev pub allow_field : ℕ → List ℕ → List ℕ
@@ -43,5 +45,6 @@ body_bytes status body = if status == 204 then [] else body
 -- the status line, the fields, an empty line and the body
 unfoldable pub reply_text : Reply → List ℕ
 reply_text reply =
-    status_line reply.status ++ content_fields reply.status reply.body reply.later ++ allow_field reply.status reply.allow
+    status_line reply.status ++ content_fields reply.status reply.body reply.later
+    ++ allow_field reply.status reply.allow
     ++ connection_field reply.close ++ crlf ++ body_bytes reply.status reply.body

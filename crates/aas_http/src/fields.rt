@@ -1,5 +1,5 @@
 // What the fields of a head say of its body.
-ghost use Rattle.std.specs.Prelude.{◌≡◌, ◌<◌, All, length, map, Option, codes, nat_lt};
+ghost use Rattle.std.specs.Prelude.{◌≡◌, All, length, map, codes, nat_lt};
 ghost use Rattle.httparse.specs.Spans.{IsHeaderWithin, header_bytes};
 ghost use Rattle.http1.specs.Fields.{values_named, known_fields};
 ghost use Rattle.aas_http.specs.BodyLength.{body_length};
@@ -80,7 +80,8 @@ pub fn is_not_implemented(bytes: &[u8], method: &[u8], headers: &[HeaderSpan]) -
 
 fn is_coded(bytes: &[u8], headers: &[HeaderSpan]) -> bool
     requires { All (IsHeaderWithin (length bytes.now)) headers.now }
-    ensures { result ≡ nat_lt 0 (length (values_named (codes "transfer-encoding") (map (header_bytes bytes.now) headers.now))) }
+    ensures { result
+        ≡ nat_lt 0 (length (values_named (codes "transfer-encoding") (map (header_bytes bytes.now) headers.now))) }
 {
     match only_value(bytes, headers, b"transfer-encoding") {
         OnlyValue::Absent => false,

@@ -56,7 +56,7 @@ pub fn next_request<'a>(bytes: &'a [u8]) -> Step<'a>
     let front = &bytes[..bytes.len().min(HEAD_LIMIT)];
     let mut headers = [EMPTY_HEADER_SPAN; FIELD_LIMIT];
     match parse_request(front, &mut headers) {
-        Ok(Status::Complete(head)) => judged(bytes, front, &head, &headers[..head.headers]),
+        Ok(Status::Complete(head)) => judge(bytes, front, &head, &headers[..head.headers]),
         Ok(Status::Partial) => {
             if bytes.len() < HEAD_LIMIT {
                 Step::More
@@ -88,7 +88,7 @@ fn ends_line(byte: u8) -> bool
 }
 
 /// What the bytes begin with where a head stands at their front.
-fn judged<'a>(
+fn judge<'a>(
     bytes: &'a [u8],
     front: &'a [u8],
     head: &RequestSpans,

@@ -1,7 +1,8 @@
 // Replies given to a link.
 ghost use Rattle.std.specs.Prelude.{◌≡◌, [], unwrap_or, OnOk, OnErr};
 ghost use Rattle.std.specs.Io.KnownBytes.{append_known};
-ghost use Rattle.aas_http.specs.ReplyText.{phrase, status_line, content_fields, allow_field, connection_field, body_bytes, reply_text};
+ghost use Rattle.aas_http.specs.ReplyText.{phrase, status_line, content_fields, allow_field, connection_field};
+ghost use Rattle.aas_http.specs.ReplyText.{body_bytes, reply_text};
 ghost use Rattle.aas_out.specs.Adds.{Adds};
 ghost use Rattle.aas_outside.specs.Faults.{HasCause};
 ghost use Rattle.aas_outside.specs.Link.{GivesFront};
@@ -56,7 +57,8 @@ fn put_status_line<O: Out>(so_far: Pouring, status: u16, out: &mut O) -> Pouring
 
 #[tactic(auto, using(crate::proofs::Adding::adds_none))]
 fn put_content_fields<O: Out>(so_far: Pouring, reply: &Reply, out: &mut O) -> Pouring
-    ensures { Adds so_far result (O.told out.old) (O.told out.new) (content_fields reply.now.status reply.now.body reply.now.later) }
+    ensures { Adds so_far result (O.told out.old) (O.told out.new)
+        (content_fields reply.now.status reply.now.body reply.now.later) }
 {
     if reply.status == 204 {
         return so_far;

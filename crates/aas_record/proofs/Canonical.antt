@@ -22,10 +22,13 @@ within_level n from = record { elements = omega (arith, from); references = le_r
 
 -- what a reader says that answers the tree whose canonical text it is given
 abbrev pub Answered : {A : Type 0} → Trees A → Levels → Result A ReadFault → List ℕ → Type 0
-Answered trees left result bytes = (type : IsCanonical trees left bytes) → (result ≡ Ok type.1.0) ⊎ (result ≡ Err NoMemory)
+Answered trees left result bytes =
+    (type : IsCanonical trees left bytes) → (result ≡ Ok type.1.0) ⊎ (result ≡ Err NoMemory)
 
 -- where it answers another tree, or a fault, it was given none
-pub another_tree : {A : Type 0} (trees : Trees A) (left : Levels) (result : Result A ReadFault) (t : A) (text bytes : List ℕ) → Answered trees left result bytes → result ≡ Ok t
+pub another_tree : {A : Type 0} (trees : Trees A) (left : Levels)
+    (result : Result A ReadFault) (t : A) (text bytes : List ℕ)
+    → Answered trees left result bytes → result ≡ Ok t
     → text ≡ canonical_text trees t → text ≢ bytes → ¬ (IsCanonical trees left bytes)
 another_tree trees left result t text bytes answered read is differs type = ⊎_elim
     (λ e. let same : t ≡ type.1.0 = cc in differs (is ∙ ap (canonical_text trees) same ∙ sym type.1.2))
@@ -37,19 +40,25 @@ abbrev pub IsOfInput : ReadFault → Type 0
 IsOfInput NoMemory = ⊥
 IsOfInput fault = ⊤
 
-pub a_fault : {A : Type 0} (trees : Trees A) (left : Levels) (result : Result A ReadFault) (fault : ReadFault) (bytes : List ℕ) → Answered trees left result bytes → result ≡ Err fault → IsOfInput fault
+pub a_fault : {A : Type 0} (trees : Trees A) (left : Levels)
+    (result : Result A ReadFault) (fault : ReadFault) (bytes : List ℕ)
+    → Answered trees left result bytes → result ≡ Err fault → IsOfInput fault
     → ¬ (IsCanonical trees left bytes)
-a_fault trees left result fault bytes answered read of_input type = ⊎_elim (λ e. cc) (λ e. let same : fault ≡ NoMemory = cc in subst IsOfInput same of_input) (answered type)
+a_fault trees left result fault bytes answered read of_input type =
+    ⊎_elim (λ e. cc) (λ e. let same : fault ≡ NoMemory = cc in subst IsOfInput same of_input) (answered type)
 
-module _ {A : Type 0} (trees : Trees A) (Shape : A → Type 0) (laws : Laws trees Shape) (left : Levels) (within : IsWithinLimits left) where
+module _ {A : Type 0} (trees : Trees A) (Shape : A → Type 0)
+    (laws : Laws trees Shape) (left : Levels) (within : IsWithinLimits left) where
   -- a reader answers the tree whose canonical text it is given
-  pub answers : (result : Result A ReadFault) (bytes : List ℕ) → ReadsEachOfBytes trees left result bytes → Answered trees left result bytes
+  pub answers : (result : Result A ReadFault) (bytes : List ℕ)
+      → ReadsEachOfBytes trees left result bytes → Answered trees left result bytes
   answers result bytes each (utf8, (t, whole, same)) =
       let read = reads_back trees Shape laws left t within whole (subst IsUtf8 same utf8) in
       (subst (λ o. ReadsEachIf trees left result o) (ap reading same ∙ read.1) each) t read.2
 
   -- whole trees of one canonical text are the same
-  pub same_by_text : (s t : A) → trees.IsWhole left s → trees.IsWhole left t → IsUtf8 (canonical_text trees s) → canonical_text trees s ≡ canonical_text trees t → s ≡ t
+  pub same_by_text : (s t : A) → trees.IsWhole left s → trees.IsWhole left t
+      → IsUtf8 (canonical_text trees s) → canonical_text trees s ≡ canonical_text trees t → s ≡ t
   same_by_text s t whole_s whole_t utf8 same =
       let a = reads_back trees Shape laws left s within whole_s utf8 in
       let b = reads_back trees Shape laws left t within whole_t (subst IsUtf8 same utf8) in

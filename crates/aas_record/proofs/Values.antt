@@ -15,10 +15,13 @@ use Rattle.aas_record.specs.FieldTypes.{IsCompact}
 
 reads : (v : Data) → IsSendable v → IsUtf8 (compact_text v) → reading (compact_text v) ≡ Some v
 reads v is utf8 =
-    ap (λ (b : Bool). if b then read (compact_text v) else None) (is_utf8-from_IsUtf8 (compact_text v) utf8) ∙ read_back v is.order is.numbers is.shallow
+    ap (λ (b : Bool). if b then read (compact_text v) else None) (is_utf8-from_IsUtf8 (compact_text v) utf8)
+    ∙ read_back v is.order is.numbers is.shallow
 
-pub same_value : (v w : Data) → IsSendable v → IsSendable w → IsUtf8 (compact_text v) → compact_text v ≡ compact_text w → v ≡ w
-same_value v w is other utf8 same = same_Some v w (sym (reads v is utf8) ∙ ap reading same ∙ reads w other (subst IsUtf8 same utf8))
+pub same_value : (v w : Data)
+    → IsSendable v → IsSendable w → IsUtf8 (compact_text v) → compact_text v ≡ compact_text w → v ≡ w
+same_value v w is other utf8 same =
+    same_Some v w (sym (reads v is utf8) ∙ ap reading same ∙ reads w other (subst IsUtf8 same utf8))
 
 -- ---- what is read
 
@@ -35,5 +38,7 @@ one_read bytes v is type = same_Some v type.1.0 (sym is ∙ form_read bytes type
 pub not_whole : (bytes : List ℕ) (v : Data) → reading bytes ≡ Some v → ¬ (HasWholeNumbers v) → ¬ (IsCompact bytes)
 not_whole bytes v is broken type = broken (subst HasWholeNumbers (sym (one_read bytes v is type)) type.1.1.numbers)
 
-pub written_otherwise : (bytes text : List ℕ) (v : Data) → reading bytes ≡ Some v → text ≡ compact_text v → text ≢ bytes → ¬ (IsCompact bytes)
-written_otherwise bytes text v is written other type = other (written ∙ ap compact_text (one_read bytes v is type) ∙ sym type.1.2)
+pub written_otherwise : (bytes text : List ℕ) (v : Data)
+    → reading bytes ≡ Some v → text ≡ compact_text v → text ≢ bytes → ¬ (IsCompact bytes)
+written_otherwise bytes text v is written other type =
+    other (written ∙ ap compact_text (one_read bytes v is type) ∙ sym type.1.2)

@@ -35,7 +35,8 @@ pub data FieldType : Type 0 where
 
 -- the canonical text of a whole tree, in UTF-8
 abbrev pub IsCanonical : {A : Type 0} → Trees A → Levels → List ℕ → Type 0
-IsCanonical {A = A} trees levels content = IsUtf8 content × ((t : A) × trees.IsWhole levels t × (content ≡ canonical_text trees t))
+IsCanonical {A = A} trees levels content =
+    IsUtf8 content × ((t : A) × trees.IsWhole levels t × (content ≡ canonical_text trees t))
 
 -- the compact text of a value that can be sent, in UTF-8
 abbrev pub IsCompact : List ℕ → Type 0
@@ -56,8 +57,10 @@ HasType asset_information before content = IsCanonical asset_informations limits
 HasType reference before content = IsCanonical references limits content
 HasType path before content = (p : List PathStep) × IsPath content p
 HasType place before content = (p : List PathStep) × IsPlace p × (content ≡ path_text p)
-HasType element before content = (p : List PathStep) × KeepsRule p × IsBehind before p × IsCanonical elements (at_level (length p)) content
-HasType child before content = (p : List PathStep) × IsPlace p × IsBehind before p × IsCanonical elements (at_level (length p + 1)) content
+HasType element before content =
+    (p : List PathStep) × KeepsRule p × IsBehind before p × IsCanonical elements (at_level (length p)) content
+HasType child before content =
+    (p : List PathStep) × IsPlace p × IsBehind before p × IsCanonical elements (at_level (length p + 1)) content
 HasType value before content = IsCompact content
 HasType environment before content = IsCanonical environments limits content
 

@@ -19,5 +19,6 @@ IsFieldFault HasType place bytes NoMemory = ⊤
 
 -- they don't, or there are bytes behind it
 abbrev pub IsLastFault : (List ℕ → Type 0) → ℕ → List ℕ → RecordFault → Type 0
-IsLastFault HasType place bytes (NotARecord at) = GoesWrong HasType (λ content rest. IsMore (place + 4 + length content) rest at) place bytes at
+IsLastFault HasType place bytes (NotARecord at) =
+    GoesWrong HasType (λ content rest. IsMore (place + 4 + length content) rest at) place bytes at
 IsLastFault HasType place bytes NoMemory = ⊤

@@ -18,7 +18,8 @@ pub record IsRecord (payload : List ℕ) (c : Command) : Type 0 where
 abbrev pub IsMore : ℕ → List ℕ → ℕ → Type 0
 IsMore place bytes at = (0 < length bytes) × (at ≡ place)
 
--- The bytes, which stand at a place, go wrong in their first field, which passes their end or isn't of its type, or else behind it.
+-- The bytes, which stand at a place, go wrong in their first field,
+-- which passes their end or isn't of its type, or else behind it.
 abbrev pub GoesWrong : (List ℕ → Type 0) → (List ℕ → List ℕ → Type 0) → ℕ → List ℕ → ℕ → Type 0
 GoesWrong HasType Later place bytes at =
     (LacksField HasType bytes × (at ≡ place))
@@ -28,10 +29,11 @@ GoesWrong HasType Later place bytes at =
 abbrev pub FailsAt : List FieldType → List (List ℕ) → ℕ → List ℕ → ℕ → Type 0
 FailsAt [] before place bytes at = IsMore place bytes at
 FailsAt (type ∷ types) before place bytes at =
-    GoesWrong (HasType type before) (λ content rest. FailsAt types (before ++ content ∷ []) (place + 4 + length content) rest at) place bytes at
+    GoesWrong (HasType type before)
+    (λ content rest. FailsAt types (before ++ content ∷ []) (place + 4 + length content) rest at) place bytes at
 
--- The payload is that of no command, and goes wrong at this place: at 0 where it is empty or no command has its tag, else where its fields do. A
--- field goes wrong where its length stands.
+-- The payload is that of no command, and goes wrong at this place: at 0 where it is empty or no command has its tag,
+-- else where its fields do. A field goes wrong where its length stands.
 unfoldable pub IsNoRecord : List ℕ → ℕ → Type 0
 IsNoRecord [] at = at ≡ 0
 IsNoRecord (tag ∷ fields) at = MatchOption (types_of tag) (at ≡ 0) (λ types. FailsAt types [] 1 fields at)

@@ -47,7 +47,8 @@ pub(crate) trait Content: Drop + Sized {
             (λ value. is_whole value × has_type bytes.now × (bytes.now ≡ bytes_of value))) };
 }
 
-/// A tree that is written as its canonical text: a document, an environment, a part of a document, or an element at a level.
+/// A tree that is written as its canonical text: a document, an environment,
+/// a part of a document, or an element at a level.
 pub(crate) trait Tree: Drop + Sized {
     ghost trees: { Trees Self };
 

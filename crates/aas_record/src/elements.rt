@@ -84,7 +84,8 @@ pub(crate) fn update(alloc: Global, payload: &[u8], fields: &[u8]) -> Result<Com
     })
 }
 
-/// The level of what a path leads to; as many levels are left for it as for what stands below all levels, where it is deeper.
+/// The level of what a path leads to; as many levels are left for
+/// it as for what stands below all levels, where it is deeper.
 #[tactic(auto, using(crate::proofs::Levels::same_level))]
 fn level(path: &Path) -> u32
     ensures same { at_level result ≡ at_level (length path.now.steps) }

@@ -54,8 +54,8 @@ pub(crate) fn last_field<C: Content>(alloc: Global, bytes: &[u8], at: u64) -> Re
     ended(value, bytes, rest, at)
 }
 
-/// The tree at a level that the first field of some bytes holds, and what is behind it. The bytes stand at the place `at` of a
-/// payload.
+/// The tree at a level that the first field of some bytes holds, and what is behind it. The bytes stand at the place
+/// `at` of a payload.
 fn tree_field<T: Tree>(
     alloc: Global,
     bytes: &[u8],
@@ -64,7 +64,8 @@ fn tree_field<T: Tree>(
 ) -> Result<(T, &[u8]), RecordFault>
     requires { 1 ≤ level }
     ensures { MatchResult result
-        (λ r. HasField (T.trees.IsWhole (T.left level)) (canonical_text T.trees) (IsCanonical T.trees (T.left level)) bytes.now r.0 r.1.now)
+        (λ r. HasField (T.trees.IsWhole (T.left level)) (canonical_text T.trees)
+        (IsCanonical T.trees (T.left level)) bytes.now r.0 r.1.now)
         (IsFieldFault (IsCanonical T.trees (T.left level)) at bytes.now) }
 {
     let Some((content, rest)) = first_field(bytes) else {
@@ -86,7 +87,8 @@ pub(crate) fn last_tree<T: Tree>(
     requires level { 1 ≤ level }
     requires place { at + length bytes.now < 2 ^ 64 }
     ensures { MatchResult result
-        (λ tree. HasField (T.trees.IsWhole (T.left level)) (canonical_text T.trees) (IsCanonical T.trees (T.left level)) bytes.now tree [])
+        (λ tree. HasField (T.trees.IsWhole (T.left level)) (canonical_text T.trees)
+        (IsCanonical T.trees (T.left level)) bytes.now tree [])
         (IsLastFault (IsCanonical T.trees (T.left level)) at bytes.now) }
 {
     let (tree, rest) = tree_field(alloc, bytes, at, level)?;
@@ -99,7 +101,8 @@ fn ended<V: Drop>(value: V, bytes: &[u8], rest: &[u8], at: u64) -> Result<V, Rec
     requires place { at + length bytes.now < 2 ^ 64 }
     ensures { MatchResult result
         (λ it. (it ≡ value) × (rest.now ≡ []))
-        (λ fault. (0 < length rest.now) × (fault ≡ RecordFault.NotARecord (at + (length bytes.now - length rest.now)))) }
+        (λ fault.
+        (0 < length rest.now) × (fault ≡ RecordFault.NotARecord (at + (length bytes.now - length rest.now)))) }
 {
     if rest.is_empty() {
         Ok(value)

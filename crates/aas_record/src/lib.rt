@@ -1,8 +1,9 @@
-//! Reads payloads back as commands: those that `aas_command` writes and no others, with the exact place where another one
-//! goes wrong.
+//! Reads payloads back as commands: those that `aas_command` writes and no others, with the exact place where another
+//! one goes wrong.
 //!
-//! Of which types the fields behind a tag are is the table in `specs/FieldTypes.antt`. Commands and how they are written belong
-//! to `aas_command`; the journal that keeps payloads, and what a command comes to, belong to other crates.
+//! Of which types the fields behind a tag are is the table in `specs/FieldTypes.antt`. Commands and how they are
+//! written belong to `aas_command`; the journal that keeps payloads, and what a command comes to, belong to other
+//! crates.
 //!
 //! Proved: a payload is read as the command whose payload it is, or it is that of none, and this is the exact
 //! place where it goes wrong; a payload is that of one command alone, so what `encode` wrote is read as the

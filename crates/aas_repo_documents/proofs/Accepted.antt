@@ -1,5 +1,6 @@
 -- What an accepted change comes to.
-use Rattle.std.proofs.Common.{◌≡◌, ℕ, ◌<◌, length, Bool, true, false, List, [], ◌∷◌, Option, Some, None, refl, sym, ap, ap₂, ◌∙◌, subst, arith}
+use Rattle.std.proofs.Common.{◌≡◌, ℕ, ◌<◌, length, Bool, true, false, List, [], ◌∷◌, Option, Some, None, refl, sym, ap}
+use Rattle.std.proofs.Common.{ap₂, ◌∙◌, subst, arith}
 use Rattle.std.specs.Prelude.{◌≢◌, MatchOption, option_map}
 use Rattle.std.specs.FinMap as map
 use Rattle.std.specs.Option.{option_map_or}
@@ -32,10 +33,12 @@ use Rattle.aas_repo_documents.specs.declared.decision.Decision.TheVariants as de
 pub holds_at : (d : Documents) (id bytes : List ℕ) (P : Submodel → Type 0) → bytes ≡ id → Holds d id P → Holds d bytes P
 holds_at d id bytes P same holds = subst (λ (b : List ℕ). Holds d b P) (sym same) holds
 
-pub holds_then : (d : Documents) (id : List ℕ) (P Q : Submodel → Type 0) → ((s : Submodel) → map.get d.submodels id ≡ Some s → P s → Q s) → Holds d id P → Holds d id Q
+pub holds_then : (d : Documents) (id : List ℕ) (P Q : Submodel → Type 0)
+    → ((s : Submodel) → map.get d.submodels id ≡ Some s → P s → Q s) → Holds d id P → Holds d id Q
 holds_then d id P Q then holds = by_submodel (map.get d.submodels id) refl holds
   where
-    by_submodel : (found : Option Submodel) → map.get d.submodels id ≡ found → MatchOption found ⊥ P → MatchOption found ⊥ Q
+    by_submodel : (found : Option Submodel)
+        → map.get d.submodels id ≡ found → MatchOption found ⊥ P → MatchOption found ⊥ Q
     by_submodel None is holds = absurd holds
     by_submodel (Some s) is holds = then s is holds
 
@@ -50,35 +53,47 @@ module _ (d : Documents) (c : Command) (id : List ℕ) (causes_in : Submodel →
   abbrev Accepted : Submodel → Type 0
   Accepted = IsAccepted causes_in changed
 
-  pub storable : ValidIsStorable → Holds d (encode_utf8_all id) Accepted → Holds d (encode_utf8_all id) (λ s. IsStorable (changed s))
-  storable law = holds_then d (encode_utf8_all id) Accepted (λ s. IsStorable (changed s)) (λ s there accepted. law (changed s) accepted.valid accepted.few)
+  pub storable : ValidIsStorable → Holds d (encode_utf8_all id) Accepted
+      → Holds d (encode_utf8_all id) (λ s. IsStorable (changed s))
+  storable law = holds_then d (encode_utf8_all id) Accepted (λ s. IsStorable (changed s)) (λ s there accepted.
+      law (changed s) accepted.valid accepted.few)
 
-  later : (s : Submodel) (has_room : Bool) → Accepted s → first_of (unless has_room StorageFull ∷ []) ≡ first_of (later_causes has_room (submodel (changed s) ∷ []))
+  later : (s : Submodel) (has_room : Bool) → Accepted s
+      → first_of (unless has_room StorageFull ∷ []) ≡ first_of (later_causes has_room (submodel (changed s) ∷ []))
   later s has_room accepted =
-      sym (ap₂ (λ (fs : List Fault) (b : Bool). first_of (option_map refusal_of_fault (first fs) ∷ when b TooMany ∷ unless has_room StorageFull ∷ []))
+      sym (ap₂ (λ (fs : List Fault) (b : Bool).
+      first_of (option_map refusal_of_fault (first fs) ∷ when b TooMany ∷ unless has_room StorageFull ∷ []))
       accepted.valid.faultless accepted.few)
 
   pub no_room : Holds d (encode_utf8_all id) Accepted → IsDecision false d c d (decision.Refused StorageFull)
   no_room holds = by_submodel (map.get d.submodels (encode_utf8_all id)) refl holds
     where
-      by_submodel : (found : Option Submodel) → map.get d.submodels (encode_utf8_all id) ≡ found → MatchOption found ⊥ Accepted
+      by_submodel : (found : Option Submodel)
+          → map.get d.submodels (encode_utf8_all id) ≡ found → MatchOption found ⊥ Accepted
           → IsDecision false d c d (decision.Refused StorageFull)
       by_submodel None is holds = absurd holds
       by_submodel (Some s) is accepted =
-          refuses false d d c (submodel (changed s)) StorageFull (makes_one d c id causes_in changed edits s is accepted.no_cause) (later s false accepted) refl
+          refuses false d d c (submodel (changed s)) StorageFull
+          (makes_one d c id causes_in changed edits s is accepted.no_cause) (later s false accepted) refl
 
   -- the change of one that keeps its identifier
-  pub made : (new : Documents) → AreValid d → ((s : Submodel) → (changed s).head ≡ s.head) → Holds d (encode_utf8_all id) Accepted
+  pub made : (new : Documents)
+      → AreValid d → ((s : Submodel) → (changed s).head ≡ s.head) → Holds d (encode_utf8_all id) Accepted
       → new ≡ with_changed d (encode_utf8_all id) changed → IsDecision true d c new decision.Made
   made new valid same_head holds same = by_submodel (map.get d.submodels (encode_utf8_all id)) refl holds
     where
-      by_submodel : (found : Option Submodel) → map.get d.submodels (encode_utf8_all id) ≡ found → MatchOption found ⊥ Accepted
+      by_submodel : (found : Option Submodel)
+          → map.get d.submodels (encode_utf8_all id) ≡ found → MatchOption found ⊥ Accepted
           → IsDecision true d c new decision.Made
       by_submodel None is holds = absurd holds
       by_submodel (Some s) is accepted =
           let own : encode_utf8_all id ≡ encode_utf8_all (changed s).head.id =
-          sym (ap (λ (h : Head). encode_utf8_all h.id) (same_head s) ∙ (valid.submodels (encode_utf8_all id) s is).own) in
-          makes true d new c (submodel (changed s)) (makes_one d c id causes_in changed edits s is accepted.no_cause) (later s true accepted)
+          sym
+          (ap (λ (h : Head). encode_utf8_all h.id) (same_head s) ∙ (valid.submodels (encode_utf8_all id) s is).own) in
+          makes true d new c (submodel (changed s))
+          (makes_one d c id causes_in changed edits s is accepted.no_cause) (later s true accepted)
           (same
-          ∙ ap (λ (o : Option Submodel). option_map_or (λ s. record d { submodels = map.insert d.submodels (encode_utf8_all id) (changed s) }) o d) is
+          ∙ ap (λ (o : Option Submodel).
+          option_map_or (λ s. record d { submodels = map.insert d.submodels (encode_utf8_all id) (changed s) }) o d)
+          is
           ∙ ap (λ (k : List ℕ). record d { submodels = map.insert d.submodels k (changed s) }) own)

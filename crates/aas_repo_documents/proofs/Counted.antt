@@ -12,7 +12,8 @@ count_out e ks kids =
     omega (arith, all, out)
 
 -- an element before those below it
-pub counted : (rest : Option ℕ) (left m n : ℕ) → left ≢ 0 → n ≡ m + 1 → MatchOption rest (left - 1 < m) (λ r. r + m ≡ left - 1)
+pub counted : (rest : Option ℕ) (left m n : ℕ)
+    → left ≢ 0 → n ≡ m + 1 → MatchOption rest (left - 1 < m) (λ r. r + m ≡ left - 1)
     → MatchOption rest (left < n) (λ r. r + n ≡ left)
 counted None left m n some is fewer = omega (arith, some, is, fewer)
 counted (Some r) left m n some is same = omega (arith, some, is, same)

@@ -5,7 +5,8 @@ use Rattle.std.specs.Option.{option_or}
 use Rattle.aas_command.specs.Refusals.{refusal_of_fault}
 use Rattle.aas_command.specs.declared.command.Command.{Command}
 use Rattle.aas_command.specs.declared.refusal.Refusal.{Refusal}
-use Rattle.aas_command.specs.declared.refusal.Refusal.TheVariants.{Constraint, Lexical, NoMemory, StorageFault, StorageFull, TooMany}
+use Rattle.aas_command.specs.declared.refusal.Refusal.TheVariants.{Constraint, Lexical, NoMemory, StorageFault}
+use Rattle.aas_command.specs.declared.refusal.Refusal.TheVariants.{StorageFull, TooMany}
 use Rattle.aas_constraint_rules.specs.Faults.{Document, faults_of}
 use Rattle.aas_model.specs.declared.path.Fault.{Fault}
 use Rattle.aas_reference.specs.Rules.{first}
@@ -54,7 +55,8 @@ is_refused_or_no_memory has_room d new c refusal why same =
 -- ---- by the document that is made
 
 three : List Fault → Bool → Bool → Cause
-three faults many has_room = first_of (option_map refusal_of_fault (first faults) ∷ when many TooMany ∷ unless has_room StorageFull ∷ [])
+three faults many has_room =
+    first_of (option_map refusal_of_fault (first faults) ∷ when many TooMany ∷ unless has_room StorageFull ∷ [])
 
 nothing : (faults : List Fault) (many has_room : Bool) → None ≡ three faults many has_room
     → (faults ≡ []) × (many ≡ false) × (has_room ≡ true)
@@ -64,12 +66,14 @@ nothing [] false true e = (refl, refl, refl)
 nothing [] false false e = absurd (cc)
 nothing (f ∷ fs) many has_room e = absurd (cc)
 
-pub of_fault : (b : Bool) (f : Fault) (refusal : Refusal) → Some refusal ≡ Some (if b then Lexical f.path else Constraint f)
+pub of_fault : (b : Bool) (f : Fault) (refusal : Refusal)
+    → Some refusal ≡ Some (if b then Lexical f.path else Constraint f)
     → refusal ≢ StorageFault
 of_fault true f refusal e is = absurd (cc)
 of_fault false f refusal e is = absurd (cc)
 
-no_storage_fault : (faults : List Fault) (many has_room : Bool) (refusal : Refusal) → Some refusal ≡ three faults many has_room
+no_storage_fault : (faults : List Fault) (many has_room : Bool) (refusal : Refusal)
+    → Some refusal ≡ three faults many has_room
     → refusal ≢ StorageFault
 unfolding three
 no_storage_fault [] true has_room refusal e is = absurd (cc)
@@ -90,5 +94,8 @@ pub refuses : (has_room : Bool) (d new : Documents) (c : Command) (x : Document)
     → Some refusal ≡ first_of (later_causes has_room (x ∷ [])) → new ≡ d
     → IsDecision has_room d c new (decision.Refused refusal)
 unfolding three
-refuses has_room d new c x refusal puts is same =
-    (same, no_storage_fault (faults_of x) (has_too_many x) has_room refusal is, comes has_room d c x (Some refusal) puts is)
+refuses has_room d new c x refusal puts is same = (
+  same,
+  no_storage_fault (faults_of x) (has_too_many x) has_room refusal is,
+  comes has_room d c x (Some refusal) puts is,
+)

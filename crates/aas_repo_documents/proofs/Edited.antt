@@ -27,32 +27,45 @@ use Rattle.aas_repo_documents.specs.declared.decision.Decision.TheVariants as de
 
 -- ---- whole submodels
 
-pub replacement_keeps_whole : (id : List ℕ) (p : Path) (e : Element) (s : Submodel) → IsWellFormed (ReplaceElement id p e)
-    → first_of (replace_causes p.steps e s) ≡ None → is_whole_submodel limits s ≡ true → is_whole_submodel limits (replaced s p.steps e) ≡ true
+pub replacement_keeps_whole : (id : List ℕ) (p : Path) (e : Element) (s : Submodel)
+    → IsWellFormed (ReplaceElement id p e)
+    → first_of (replace_causes p.steps e s) ≡ None → is_whole_submodel limits s ≡ true
+    → is_whole_submodel limits (replaced s p.steps e) ≡ true
 unfolding IsWellFormed
-replacement_keeps_whole id p e s formed none whole = replaced_whole s p.steps e (element_at s p.steps) refl none whole formed.1
+replacement_keeps_whole id p e s formed none whole =
+    replaced_whole s p.steps e (element_at s p.steps) refl none whole formed.1
 
 -- ---- by the submodel
 
 module _ (d : Documents) (c : Command) (id : List ℕ) (causes_in : Submodel → List Cause) (changed : Submodel → Submodel)
     (edits : Edits c id causes_in changed d) where
   first_by : (found : Option Submodel) → map.get d.submodels (encode_utf8_all id) ≡ found
-      → first_of (causes d c) ≡ first_of (unless (is_some found) (NotFound (absent_of Submodels)) ∷ option_map_or causes_in found [])
+      → first_of (causes d c)
+      ≡ first_of (unless (is_some found) (NotFound (absent_of Submodels)) ∷ option_map_or causes_in found [])
   first_by found is = ap first_of edits.causes_are
-      ∙ ap (λ (o : Option Submodel). first_of (unless (is_some o) (NotFound (absent_of Submodels)) ∷ option_map_or causes_in o [])) is
+      ∙ ap (λ (o : Option Submodel).
+      first_of (unless (is_some o) (NotFound (absent_of Submodels)) ∷ option_map_or causes_in o []))
+      is
 
   pub is_missing : (has_room : Bool) (new : Documents) → map.get d.submodels (encode_utf8_all id) ≡ None → new ≡ d
       → IsDecision has_room d c new (decision.Refused (NotFound (absent_of Submodels)))
-  is_missing has_room new is same = (same, λ fault. absurd (cc), refused_by has_room d c _ (causes d c) refl (first_by None is))
+  is_missing has_room new is same =
+      (same, λ fault. absurd (cc), refused_by has_room d c _ (causes d c) refl (first_by None is))
 
-  pub is_refused : (has_room : Bool) (new : Documents) (s : Submodel) (refusal : Refusal) → map.get d.submodels (encode_utf8_all id) ≡ Some s
-      → (refusal ≢ NoMemory → (refusal ≢ StorageFault) × (first_of (causes_in s) ≡ Some refusal)) → new ≡ d → IsDecision has_room d c new (decision_of refusal)
+  pub is_refused : (has_room : Bool) (new : Documents) (s : Submodel) (refusal : Refusal)
+      → map.get d.submodels (encode_utf8_all id) ≡ Some s
+      → (refusal ≢ NoMemory → (refusal ≢ StorageFault) × (first_of (causes_in s) ≡ Some refusal)) → new ≡ d
+      → IsDecision has_room d c new (decision_of refusal)
   is_refused has_room new s refusal is why same =
-      is_refused_or_no_memory has_room d new c refusal (λ other. let cause = why other in (cause.0, first_by (Some s) is ∙ cause.1)) same
+      is_refused_or_no_memory has_room d new c refusal
+      (λ other. let cause = why other in (cause.0, first_by (Some s) is ∙ cause.1)) same
 
-  pub makes_one : (s : Submodel) → map.get d.submodels (encode_utf8_all id) ≡ Some s → first_of (causes_in s) ≡ None → Makes d c (submodel (changed s))
+  pub makes_one : (s : Submodel) → map.get d.submodels (encode_utf8_all id) ≡ Some s
+      → first_of (causes_in s) ≡ None → Makes d c (submodel (changed s))
   makes_one s is none = record {
     no_cause = first_by (Some s) is ∙ none;
-    made = edits.made (submodel (changed s) ∷ []) (sym (ap (λ (o : Option Submodel). option_map_or (λ s. submodel (changed s) ∷ []) o []) is));
+    made =
+        edits.made (submodel (changed s) ∷ [])
+        (sym (ap (λ (o : Option Submodel). option_map_or (λ s. submodel (changed s) ∷ []) o []) is));
     left_are = edits.left_are;
   }

@@ -15,7 +15,8 @@ use Rattle.aas_repo_documents.specs.declared.decision.Decision.TheVariants as de
 -- with the documents before and after
 abbrev pub IsDecision : Bool → Documents → Command → Documents → Decision → Type 0
 IsDecision has_room old c new decision.Made = (has_room ≡ true) × ComesTo has_room old c (accepted new)
-IsDecision has_room old c new (decision.Refused refusal) = (new ≡ old) × (refusal ≢ StorageFault) × ComesTo has_room old c (refused refusal)
+IsDecision has_room old c new (decision.Refused refusal) =
+    (new ≡ old) × (refusal ≢ StorageFault) × ComesTo has_room old c (refused refusal)
 IsDecision has_room old c new decision.NoMemory = new ≡ old
 
 -- what a refusal comes to, where want of memory is one
@@ -36,7 +37,8 @@ pub record Makes (d : Documents) (c : Command) (x : Document) : Type 0 where
   pub left_are : left d c ≡ d
 
 -- It changes the submodel of an identifier, where one is there.
-pub record Edits (c : Command) (id : List ℕ) (causes_in : Submodel → List Cause) (changed : Submodel → Submodel) (d : Documents) : Type 0 where
+pub record Edits (c : Command) (id : List ℕ) (causes_in : Submodel → List Cause)
+    (changed : Submodel → Submodel) (d : Documents) : Type 0 where
   pub causes_are : causes d c ≡ in_submodel d id causes_in
   pub made : (new : List Document) → new ≡ changed_submodel d id changed → IsMade d c new
   pub left_are : left d c ≡ d

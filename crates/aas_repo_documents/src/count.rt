@@ -10,7 +10,8 @@ pub const ELEMENT_LIMIT: u32 = 65_536;
 /// What is left of a count behind an element and all below it, or `None` where these are more.
 #[cycle(count)]
 fn count_off(element: &Element, left: u32) -> Option<u32>
-    ensures { MatchOption result (left < length (kinds element.now)) (λ rest. rest + length (kinds element.now) ≡ left) }
+    ensures { MatchOption result (left < length (kinds element.now)) (λ rest.
+        rest + length (kinds element.now) ≡ left) }
 {
     if left == 0 {
         return None;
@@ -20,7 +21,8 @@ fn count_off(element: &Element, left: u32) -> Option<u32>
 
 #[cycle(count)]
 fn count_off_all(kids: &[Element], left: u32) -> Option<u32>
-    ensures { MatchOption result (left < length (kinds_of_all kids.now)) (λ rest. rest + length (kinds_of_all kids.now) ≡ left) }
+    ensures { MatchOption result (left < length (kinds_of_all kids.now)) (λ rest.
+        rest + length (kinds_of_all kids.now) ≡ left) }
 {
     let mut left = left;
     for kid in kids {

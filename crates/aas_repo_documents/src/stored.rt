@@ -55,9 +55,11 @@ pub trait Stored: Drop + Sized {
         ensures ok { OnOk result (S.documents store.new ≡ with_document (S.documents store.old) (document self)) }
         ensures err { OnErr result (S.documents store.new ≡ S.documents store.old) };
 
-    ghost creates: { (d : Documents) (x : Self) → Puts d (creating x) (is_there held_in (id_of (document x)) d) (document x) };
+    ghost creates: { (d : Documents) (x : Self)
+        → Puts d (creating x) (is_there held_in (id_of (document x)) d) (document x) };
 
-    ghost replaces: { (d : Documents) (x : Self) → Puts d (replacing x) (is_absent held_in (id_of (document x)) d) (document x) };
+    ghost replaces: { (d : Documents) (x : Self)
+        → Puts d (replacing x) (is_absent held_in (id_of (document x)) d) (document x) };
 }
 
 impl Stored for Shell {

@@ -1,5 +1,6 @@
 -- What the deletion of an element comes to.
-use Rattle.std.proofs.Common.{◌≡◌, ◌⊎◌, ℕ, ◌+◌, Bool, true, false, List, [], ◌∷◌, Option, Some, None, inl, inr, refl, sym, ap, ◌∙◌, subst, arith}
+use Rattle.std.proofs.Common.{◌≡◌, ◌⊎◌, ℕ, ◌+◌, Bool, true, false, List, [], ◌∷◌, Option, Some, None, inl, inr, refl}
+use Rattle.std.proofs.Common.{sym, ap, ◌∙◌, subst, arith}
 use Rattle.std.proofs.lemmas.Bool.Decides.{nat_tests}
 use Rattle.std.specs.Prelude.{◌≢◌, IsSome, MatchOption, nat_lt, take}
 use Rattle.std.specs.FinMap as map
@@ -48,10 +49,12 @@ module _ (d : Documents) (id : List ℕ) (p : Path) where
   -- ---- what a store answers
 
   pub is_found : (bytes : List ℕ) (row : RowView) → bytes ≡ encode_utf8_all id
-      → Holds d bytes (λ s. MatchOption (element_at s p.steps) ⊥ (λ e. IsRowOf e row)) → Holds d (encode_utf8_all id) (λ s. IsSome (element_at s p.steps))
+      → Holds d bytes (λ s. MatchOption (element_at s p.steps) ⊥ (λ e. IsRowOf e row))
+      → Holds d (encode_utf8_all id) (λ s. IsSome (element_at s p.steps))
   is_found bytes row same holds =
       holds_at d bytes (encode_utf8_all id) (λ s. IsSome (element_at s p.steps)) (sym same)
-      (holds_then d bytes (λ s. MatchOption (element_at s p.steps) ⊥ (λ e. IsRowOf e row)) (λ s. IsSome (element_at s p.steps)) (λ s there is. some (element_at s p.steps) is) holds)
+      (holds_then d bytes (λ s. MatchOption (element_at s p.steps) ⊥ (λ e. IsRowOf e row))
+      (λ s. IsSome (element_at s p.steps)) (λ s there is. some (element_at s p.steps) is) holds)
     where
       some : (o : Option Element) → MatchOption o ⊥ (λ e. IsRowOf e row) → IsSome o
       some None is = absurd is
@@ -63,28 +66,36 @@ module _ (d : Documents) (id : List ℕ) (p : Path) where
   submodel_lost : (bytes : List ℕ) → bytes ≡ encode_utf8_all id → map.get d.submodels bytes ≡ None
       → (room : Bool) → IsDecision room d (DeleteElement id p) d (decision_of (NotFound absent.Submodel))
   submodel_lost bytes same none room =
-      edited.is_missing d (DeleteElement id p) id causes_in changed edits room d (ap (map.get d.submodels) (sym same) ∙ none) refl
+      edited.is_missing d (DeleteElement id p) id causes_in changed edits room d
+      (ap (map.get d.submodels) (sym same) ∙ none) refl
 
-  element_lost : (bytes : List ℕ) (m : Missing) (r : Refusal) → bytes ≡ encode_utf8_all id → p.steps ≢ [] → Holds d bytes (λ s. LeadsNowhere s p.steps m)
+  element_lost : (bytes : List ℕ) (m : Missing) (r : Refusal)
+      → bytes ≡ encode_utf8_all id → p.steps ≢ [] → Holds d bytes (λ s. LeadsNowhere s p.steps m)
       → (r ≡ NoMemory) ⊎ (r ≡ NotFound (absent.Element (record { steps = take m.steps p.steps })))
       → (room : Bool) → IsDecision room d (DeleteElement id p) d (decision_of r)
   element_lost bytes m r same some nowhere made room =
-      by_submodel (map.get d.submodels (encode_utf8_all id)) refl (holds_at d bytes (encode_utf8_all id) (λ s. LeadsNowhere s p.steps m) (sym same) nowhere)
+      by_submodel (map.get d.submodels (encode_utf8_all id)) refl
+      (holds_at d bytes (encode_utf8_all id) (λ s. LeadsNowhere s p.steps m) (sym same) nowhere)
     where
-      by_submodel : (found : Option Submodel) → map.get d.submodels (encode_utf8_all id) ≡ found → MatchOption found ⊥ (λ s. LeadsNowhere s p.steps m)
+      by_submodel : (found : Option Submodel)
+          → map.get d.submodels (encode_utf8_all id) ≡ found → MatchOption found ⊥ (λ s. LeadsNowhere s p.steps m)
           → IsDecision room d (DeleteElement id p) d (decision_of r)
       by_submodel None is nowhere = absurd nowhere
       by_submodel (Some s) is nowhere =
           edited.is_refused d (DeleteElement id p) id causes_in changed edits room d s r is
           (λ other. is_missing_at s p.steps m.steps r [] (some_steps p.steps some) nowhere.0 nowhere.1 made other) refl
 
-  pub is_lost_by : (bytes : List ℕ) (l : Lack) (r : Refusal) → bytes ≡ encode_utf8_all id → p.steps ≢ [] → (l ≡ lack.NoSubmodel → map.get d.submodels bytes ≡ None)
-      → ((m : Missing) → l ≡ lack.NoElement m → Holds d bytes (λ s. LeadsNowhere s p.steps m)) → (r ≡ NoMemory) ⊎ IsRefusalOf p.steps l r
+  pub is_lost_by : (bytes : List ℕ) (l : Lack) (r : Refusal)
+      → bytes ≡ encode_utf8_all id → p.steps ≢ [] → (l ≡ lack.NoSubmodel → map.get d.submodels bytes ≡ None)
+      → ((m : Missing) → l ≡ lack.NoElement m → Holds d bytes (λ s. LeadsNowhere s p.steps m))
+      → (r ≡ NoMemory) ⊎ IsRefusalOf p.steps l r
       → (room : Bool) → IsDecision room d (DeleteElement id p) d (decision_of r)
   is_lost_by bytes l r same some none nowhere (inl is) room = no_memory r is room
   is_lost_by bytes lack.NoSubmodel r same some none nowhere (inr is) room =
-      subst (λ (r : Refusal). IsDecision room d (DeleteElement id p) d (decision_of r)) (sym is) (submodel_lost bytes same (none refl) room)
-  is_lost_by bytes (lack.NoElement m) r same some none nowhere (inr is) room = element_lost bytes m r same some (nowhere m refl) (inr is) room
+      subst (λ (r : Refusal). IsDecision room d (DeleteElement id p) d (decision_of r))
+      (sym is) (submodel_lost bytes same (none refl) room)
+  is_lost_by bytes (lack.NoElement m) r same some none nowhere (inr is) room =
+      element_lost bytes m r same some (nowhere m refl) (inr is) room
   is_lost_by bytes lack.NoMemory r same some none nowhere (inr is) room = no_memory r is room
 
   -- ---- an element that is there
@@ -92,32 +103,44 @@ module _ (d : Documents) (id : List ℕ) (p : Path) where
   fewer : (n k m : ℕ) → n + k ≡ m → nat_lt 65536 m ≡ false → nat_lt 65536 n ≡ false
   fewer n k m sum few = grind (arith, nat_tests)
 
-  is_accepted : EditsKeepValid → EditsCount → AreValid d → Holds d (encode_utf8_all id) (λ s. IsSome (element_at s p.steps))
+  is_accepted : EditsKeepValid → EditsCount → AreValid d
+      → Holds d (encode_utf8_all id) (λ s. IsSome (element_at s p.steps))
       → Holds d (encode_utf8_all id) (IsAccepted causes_in changed)
   is_accepted keep count valid there =
       holds_then d (encode_utf8_all id) (λ s. IsSome (element_at s p.steps)) (IsAccepted causes_in changed)
       (λ s is some. by_steps s is p.steps some) there
     where
-      by_found : (s : Submodel) → map.get d.submodels (encode_utf8_all id) ≡ Some s → (q : List PathStep) (found : Option Element) → element_at s q ≡ found → IsSome found
+      by_found : (s : Submodel) → map.get d.submodels (encode_utf8_all id) ≡ Some s
+          → (q : List PathStep) (found : Option Element) → element_at s q ≡ found → IsSome found
           → nat_lt 65536 (element_count (removed s q)) ≡ false
       by_found s is q None at some = absurd (cc)
-      by_found s is q (Some o) at some = fewer _ _ _ (count.removed s q o at) (valid.submodels (encode_utf8_all id) s is).few
+      by_found s is q (Some o) at some =
+          fewer _ _ _ (count.removed s q o at) (valid.submodels (encode_utf8_all id) s is).few
 
-      by_steps : (s : Submodel) → map.get d.submodels (encode_utf8_all id) ≡ Some s → (q : List PathStep) → IsSome (element_at s q)
+      by_steps : (s : Submodel)
+          → map.get d.submodels (encode_utf8_all id) ≡ Some s → (q : List PathStep) → IsSome (element_at s q)
           → IsAccepted (delete_causes q) (λ s. removed s q) s
       by_steps s is [] some = absurd (cc)
       by_steps s is (t ∷ q) some = record {
-        no_cause = ap (λ (b : Bool). first_of (unless b (NotFound (absent.Element (record { steps = take (depth_found s (t ∷ q)) (t ∷ q) }))) ∷ [])) some;
+        no_cause =
+            ap (λ (b : Bool). first_of
+            (unless b (NotFound (absent.Element (record { steps = take (depth_found s (t ∷ q)) (t ∷ q) }))) ∷ []))
+            some;
         valid = keep.removed s (t ∷ q) (valid.submodels (encode_utf8_all id) s is).valid;
         few = by_found s is (t ∷ q) (element_at s (t ∷ q)) refl some;
       }
 
-  pub no_room : EditsKeepValid → EditsCount → AreValid d → Holds d (encode_utf8_all id) (λ s. IsSome (element_at s p.steps))
+  pub no_room : EditsKeepValid → EditsCount → AreValid d
+      → Holds d (encode_utf8_all id) (λ s. IsSome (element_at s p.steps))
       → IsDecision false d (DeleteElement id p) d (decision.Refused StorageFull)
-  no_room keep count valid there = accepted.no_room d (DeleteElement id p) id causes_in changed edits (is_accepted keep count valid there)
+  no_room keep count valid there =
+      accepted.no_room d (DeleteElement id p) id causes_in changed edits (is_accepted keep count valid there)
 
-  pub deleted : (new : Documents) (bytes : List ℕ) → EditsKeepValid → EditsCount → AreValid d → Holds d (encode_utf8_all id) (λ s. IsSome (element_at s p.steps))
-      → bytes ≡ encode_utf8_all id → new ≡ with_changed d bytes changed → IsDecision true d (DeleteElement id p) new decision.Made
+  pub deleted : (new : Documents) (bytes : List ℕ)
+      → EditsKeepValid → EditsCount → AreValid d → Holds d (encode_utf8_all id) (λ s. IsSome (element_at s p.steps))
+      → bytes ≡ encode_utf8_all id → new ≡ with_changed d bytes changed
+      → IsDecision true d (DeleteElement id p) new decision.Made
   deleted new bytes keep count valid there same is =
-      accepted.made d (DeleteElement id p) id causes_in changed edits new valid (λ s. (remove_keeps_attributes s p.steps).head) (is_accepted keep count valid there)
+      accepted.made d (DeleteElement id p) id causes_in changed edits new valid
+      (λ s. (remove_keeps_attributes s p.steps).head) (is_accepted keep count valid there)
       (is ∙ ap (λ (b : List ℕ). with_changed d b changed) same)

@@ -1,5 +1,6 @@
 -- What the replacement of an element comes to, where it is accepted by its place.
-use Rattle.std.proofs.Common.{◌≡◌, ℕ, ◌+◌, ◌≤◌, Bool, true, false, List, [], ◌∷◌, ◌++◌, length, Option, Some, None, option_and_then, refl, sym, ap, ◌∙◌, subst, arith}
+use Rattle.std.proofs.Common.{◌≡◌, ℕ, ◌+◌, ◌≤◌, Bool, true, false, List, [], ◌∷◌, ◌++◌, length, Option, Some, None}
+use Rattle.std.proofs.Common.{option_and_then, refl, sym, ap, ◌∙◌, subst, arith}
 use Rattle.std.proofs.lemmas.Bool.Decides.{nat_tests}
 use Rattle.std.proofs.lemmas.List.{length_push}
 use Rattle.std.specs.Prelude.{MatchOption, nat_lt, take}
@@ -38,12 +39,15 @@ use Rattle.aas_repo_elements.specs.declared.placing.Parent.{Parent}
 -- ---- the old element
 
 -- by its row
-pub is_alike_at : (s : Submodel) (p : List PathStep) (row : RowView) (e : Element) → MatchOption (element_at s p) ⊥ (λ o. IsRowOf o row)
-    → id_short_of e ≡ (line_of row).common.id_short → semantic_id_of e ≡ (line_of row).common.semantics.semantic_id → fits_role e row.role ≡ true
+pub is_alike_at : (s : Submodel) (p : List PathStep) (row : RowView) (e : Element)
+    → MatchOption (element_at s p) ⊥ (λ o. IsRowOf o row)
+    → id_short_of e ≡ (line_of row).common.id_short
+    → semantic_id_of e ≡ (line_of row).common.semantics.semantic_id → fits_role e row.role ≡ true
     → IsAlikeAt p e row.role s
 is_alike_at s p row e at names semantics fits = alike (element_at s p) at
   where
-    alike : (found : Option Element) → MatchOption found ⊥ (λ o. IsRowOf o row) → MatchOption found ⊥ (IsAlike e row.role)
+    alike : (found : Option Element)
+        → MatchOption found ⊥ (λ o. IsRowOf o row) → MatchOption found ⊥ (IsAlike e row.role)
     alike None at = absurd at
     alike (Some o) at = record {
       names = names ∙ ap (λ (l : Line). l.common.id_short) at;
@@ -54,13 +58,15 @@ is_alike_at s p row e at names semantics fits = alike (element_at s p) at
 
 -- ---- the last step
 
-child_found : (found : Option (ℕ × Element)) (o : Element) → option_and_then (λ (c : ℕ × Element). Some c.1) found ≡ Some o → (i : ℕ) × (found ≡ Some (i, o))
+child_found : (found : Option (ℕ × Element)) (o : Element)
+    → option_and_then (λ (c : ℕ × Element). Some c.1) found ≡ Some o → (i : ℕ) × (found ≡ Some (i, o))
 child_found None o is = absurd (cc)
 child_found (Some c) o is =
     let second : c.1 ≡ o = cc in
     (c.0, ap (λ (k : Element). Some (c.0, k)) second)
 
-last_step : (s : Submodel) (q : List PathStep) (t : PathStep) (o : Element) → element_at s (q ++ t ∷ []) ≡ Some o → (i : ℕ) × (child_at s q t ≡ Some (i, o))
+last_step : (s : Submodel) (q : List PathStep) (t : PathStep) (o : Element)
+    → element_at s (q ++ t ∷ []) ≡ Some o → (i : ℕ) × (child_at s q t ≡ Some (i, o))
 unfolding element_below
 last_step s [] t o at = child_found (child_by false t s.kids) o at
 last_step s (u ∷ q) t o at = by_found (element_at s (u ∷ q)) (sym (element_among-append false u q (t ∷ []) s.kids) ∙ at)
@@ -72,19 +78,23 @@ last_step s (u ∷ q) t o at = by_found (element_at s (u ∷ q)) (sym (element_a
 
 -- ---- the replacement
 
-no_cause : (s : Submodel) (p : List PathStep) (e o : Element) → element_at s p ≡ Some o → fits_role e (role_of o) ≡ true → first_of (replace_causes p e s) ≡ None
+no_cause : (s : Submodel) (p : List PathStep) (e o : Element)
+    → element_at s p ≡ Some o → fits_role e (role_of o) ≡ true → first_of (replace_causes p e s) ≡ None
 no_cause s [] e o at fits = absurd (cc)
 no_cause s (t ∷ p) e o at fits =
-    ap (λ (c : Cause). first_of (c ∷ unless (option_map_or (λ o. fits_role e (role_of o)) (element_at s (t ∷ p)) false) NotAContainer ∷ []))
+    ap (λ (c : Cause). first_of
+    (c ∷ unless (option_map_or (λ o. fits_role e (role_of o)) (element_at s (t ∷ p)) false) NotAContainer ∷ []))
     (found_there s t p o at)
-    ∙ ap (λ (b : Bool). first_of (unless b NotAContainer ∷ [])) (ap (λ (f : Option Element). option_map_or (λ o. fits_role e (role_of o)) f false) at ∙ fits)
+    ∙ ap (λ (b : Bool). first_of (unless b NotAContainer ∷ []))
+    (ap (λ (f : Option Element). option_map_or (λ o. fits_role e (role_of o)) f false) at ∙ fits)
 
 within : (n k m gone rest : ℕ) → n + gone ≡ k + m → gone ≡ rest + 1 → k + m ≤ 65537 → nat_lt 65536 n ≡ false
 within n k m gone rest is one few = grind (arith, nat_tests)
 
 module _ (s : Submodel) (q : List PathStep) (t : PathStep) (x : Parent) (e child o : Element) (r : Role)
     (stands : ReplacedStandsAlone) (keep : EditsKeepValid) (count : EditsCount) (valid : IsValid (submodel s))
-    (whole : is_whole_element (at_level (length (q ++ t ∷ []))) e ≡ true) (few : element_count s + length (kinds e) ≤ 65537)
+    (whole : is_whole_element (at_level (length (q ++ t ∷ []))) e ≡ true)
+    (few : element_count s + length (kinds e) ≤ 65537)
     (at : element_at s (q ++ t ∷ []) ≡ Some o) (alike : IsAlike e r o) (same : child ≡ with_role e r)
     (parent : IsParent q x s) (faultless : IsFaultless x None child) where
   fits : fits_role e (role_of o) ≡ true
@@ -94,7 +104,9 @@ module _ (s : Submodel) (q : List PathStep) (t : PathStep) (x : Parent) (e child
   names = ap (λ k. name_of (own_of k)) same ∙ ap (λ (c : Common). c.id_short) (common_with_role e r) ∙ alike.names
 
   semantics : semantics_of (own_of child) ≡ semantics_of (own_of o)
-  semantics = ap (λ k. semantics_of (own_of k)) same ∙ ap (λ (c : Common). c.semantics.semantic_id) (common_with_role e r) ∙ alike.semantics
+  semantics =
+      ap (λ k. semantics_of (own_of k)) same
+      ∙ ap (λ (c : Common). c.semantics.semantic_id) (common_with_role e r) ∙ alike.semantics
 
   -- at the place i among its siblings
   stays_valid : (i : ℕ) → child_at s q t ≡ Some (i, o) → IsValid (submodel (replaced s (q ++ t ∷ []) e))
@@ -114,7 +126,8 @@ module _ (s : Submodel) (q : List PathStep) (t : PathStep) (x : Parent) (e child
 
 pub is_replaceable : (s : Submodel) (p q : List PathStep) (x : Parent) (e child : Element) (r : Role)
     → ReplacedStandsAlone → EditsKeepValid → EditsCount → IsValid (submodel s) → (t : PathStep) × (p ≡ q ++ t ∷ [])
-    → is_whole_element (at_level (length p)) e ≡ true → child ≡ with_role e r → element_count s + length (kinds e) ≤ 65537 → IsAlikeAt p e r s
+    → is_whole_element (at_level (length p)) e ≡ true → child ≡ with_role e r
+    → element_count s + length (kinds e) ≤ 65537 → IsAlikeAt p e r s
     → IsParent q x s → IsFaultless x None child → IsAccepted (replace_causes p e) (λ s. replaced s p e) s
 is_replaceable s p q x e child r stands keep count valid last whole same few alike parent faultless =
     subst (λ (p : List PathStep). IsAccepted (replace_causes p e) (λ s. replaced s p e) s) (sym last.1)
@@ -125,11 +138,13 @@ is_replaceable s p q x e child r stands keep count valid last whole same few ali
     by_element None at alike = absurd alike
     by_element (Some o) at alike =
         accepted_there s q last.0 x e child o r stands keep count valid
-        (subst (λ (p : List PathStep). is_whole_element (at_level (length p)) e ≡ true) last.1 whole) few at alike same parent faultless
+        (subst (λ (p : List PathStep). is_whole_element (at_level (length p)) e ≡ true) last.1 whole) few
+        at alike same parent faultless
 
 -- ---- what is accepted can be stored
 
-pub fits_there : (s : Submodel) (p : List PathStep) (e : Element) → first_of (replace_causes p e s) ≡ None → CanReplace s p e
+pub fits_there : (s : Submodel) (p : List PathStep) (e : Element)
+    → first_of (replace_causes p e s) ≡ None → CanReplace s p e
 fits_there s p e none = can_replace (is_lost s p) (element_at s p) none
   where
     by_fit : (b : Bool) → first_of (unless b NotAContainer ∷ []) ≡ None → b ≡ true

@@ -10,7 +10,8 @@ use Rattle.aas_store.specs.Storable.{IsStorable}
 use Rattle.aas_repo_documents.proofs.Accepted.{holds_at, holds_then}
 use Rattle.aas_repo_documents.specs.Accepted.{IsAccepted}
 
-module _ (d : Documents) (id bytes : List ℕ) (causes_in : Submodel → List Cause) (changed : Submodel → Submodel) (same : bytes ≡ encode_utf8_all id)
+module _ (d : Documents) (id bytes : List ℕ) (causes_in : Submodel → List Cause)
+    (changed : Submodel → Submodel) (same : bytes ≡ encode_utf8_all id)
     (accepted : Holds d (encode_utf8_all id) (IsAccepted causes_in changed)) where
   pub by_bytes : (P : Submodel → Type 0) → ((s : Submodel) → IsAccepted causes_in changed s → P s) → Holds d bytes P
   by_bytes P then =

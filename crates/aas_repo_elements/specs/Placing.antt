@@ -1,5 +1,7 @@
--- What is asked of a submodel before an element is inserted, or put in the place of another, at once. This profile's own rule.
-use Rattle.std.specs.Prelude.{◌≡◌, ◌≢◌, ◌⊎◌, true, false, List, [], flat_map, map, MatchOption, Option, Some, None, option_and_then, option_map}
+-- What is asked of a submodel before an element is inserted,
+-- or put in the place of another, at once. This profile's own rule.
+use Rattle.std.specs.Prelude.{◌≡◌, ◌≢◌, ◌⊎◌, true, false, List, [], flat_map, map, MatchOption, Option, Some, None}
+use Rattle.std.specs.Prelude.{option_and_then, option_map}
 use Rattle.aas_command.specs.declared.refusal.Refusal.{Refusal}
 use Rattle.aas_command.specs.declared.refusal.Refusal.TheVariants.{NoMemory, StorageFault}
 use Rattle.aas_constraint_rules.specs.Faults.{faults_at, is_template}
@@ -37,9 +39,11 @@ pub record IsParent (p : List PathStep) (x : Parent) (s : Submodel) : Type 0 whe
   pub above : IsAbove p (own_of_parent x) s
   pub template : x.in_template ≡ is_template s.kind
 
--- e and all below it have no fault below x, where lead is the first semanticId among the earlier siblings, none of which has its idShort
+-- e and all below it have no fault below x, where lead is the first semanticId
+-- among the earlier siblings, none of which has its idShort
 abbrev pub IsFaultless : Parent → Option Reference → Element → Type 0
-IsFaultless x lead e = (b : List Own) → is_repeat b (name_of (own_of e)) ≡ false → lead ≡ first_some (map semantics_of b)
+IsFaultless x lead e =
+    (b : List Own) → is_repeat b (name_of (own_of e)) ≡ false → lead ≡ first_some (map semantics_of b)
     → flat_map faults_at (sites x.in_template (own_of_parent x) b (tree_of e)) ≡ []
 
 -- ---- insertion

@@ -38,8 +38,11 @@ pub fn delete_element<S: Store>(
 /// That the path leads to an element, or why the command is refused.
 fn find<S: Store>(alloc: Global, store: &S, id: &Text, path: &Path) -> Result<(), Refusal>
     requires { path.now.steps ≢ [] }
-    ensures found { OnOk result (Holds (S.documents store.now) (encode_utf8_all id.now) (λ s. IsSome (element_at s path.now.steps))) }
-    ensures lost { IfErr result (λ refusal. (room : Bool) → IsDecision room (S.documents store.now) (DeleteElement id.now path.now) (S.documents store.now) (decision_of refusal)) }
+    ensures found { OnOk result
+        (Holds (S.documents store.now) (encode_utf8_all id.now) (λ s. IsSome (element_at s path.now.steps))) }
+    ensures lost { IfErr result (λ refusal. (room : Bool)
+        → IsDecision room (S.documents store.now) (DeleteElement id.now path.now)
+        (S.documents store.now) (decision_of refusal)) }
 {
     match store.find_row(id.as_str(), path) {
         Ok(_) => Ok(()),
@@ -50,8 +53,10 @@ fn find<S: Store>(alloc: Global, store: &S, id: &Text, path: &Path) -> Result<()
 /// Takes out an element that is there, where there is room to keep the command.
 fn take_out<S: Store>(store: &mut S, id: &Text, path: &Path, has_room: bool) -> Decision
     requires valid { AreValid (S.documents store.old) }
-    requires there { Holds (S.documents store.old) (encode_utf8_all id.now) (λ s. IsSome (element_at s path.now.steps)) }
-    ensures { IsDecision has_room (S.documents store.old) (DeleteElement id.now path.now) (S.documents store.new) result }
+    requires there { Holds (S.documents store.old) (encode_utf8_all id.now) (λ s.
+        IsSome (element_at s path.now.steps)) }
+    ensures { IsDecision has_room (S.documents store.old)
+        (DeleteElement id.now path.now) (S.documents store.new) result }
 {
     edits_keep_valid();
     edits_count();

@@ -15,7 +15,8 @@ ghost use Rattle.aas_step.specs.Causes.{first_of, insert_causes, is_named_among}
 ghost use Rattle.aas_step.specs.Valid.{AreValid};
 ghost use Rattle.aas_repo_documents.specs.Accepted.{IsAccepted};
 ghost use Rattle.aas_repo_documents.specs.Decisions.{IsDecision};
-ghost use Rattle.aas_repo_elements.specs.Placing.{IsFirst, IsLead, IsParent, own_of_parent, role_below, role_of_children};
+ghost use Rattle.aas_repo_elements.specs.Placing.{IsFirst, IsLead, IsParent, own_of_parent};
+ghost use Rattle.aas_repo_elements.specs.Placing.{role_below, role_of_children};
 
 use crate::containers::conflicts;
 use crate::editing::{Edit, make_edit};
@@ -29,7 +30,8 @@ use aas_step::{not_found, valid_submodels_are_storable};
 use aas_store::{Store, Table};
 use std::alloc::Global;
 
-/// Adds the element as the last child of what the path leads to in the submodel of an identifier, or refuses the command.
+/// Adds the element as the last child of what the path leads to
+/// in the submodel of an identifier, or refuses the command.
 pub fn insert_element<S: Store>(
     alloc: Global,
     store: &mut S,
@@ -40,7 +42,8 @@ pub fn insert_element<S: Store>(
 ) -> Decision
     requires valid { AreValid (S.documents store.old) }
     requires well_formed { IsWellFormed (InsertElement id path element) }
-    ensures { IsDecision has_room (S.documents store.old) (InsertElement id path element) (S.documents store.new) result }
+    ensures { IsDecision has_room (S.documents store.old)
+        (InsertElement id path element) (S.documents store.new) result }
 {
     let element = element.into_inner();
     make_edit(alloc, store, id, Insertion { path, element }, has_room)
@@ -97,7 +100,8 @@ impl Edit for Insertion {
     }
 }
 
-/// Whether nothing but want of room refuses the insertion below the parent to which the path leads, or why it is refused.
+/// Whether nothing but want of room refuses the insertion below
+/// the parent to which the path leads, or why it is refused.
 fn is_accepted_below<T: Table>(
     alloc: Global,
     table: &T,
@@ -109,7 +113,8 @@ fn is_accepted_below<T: Table>(
     requires whole { elements.IsWhole (at_level (length path.now.steps + 1)) element.now }
     requires parent { IsParent path.now.steps parent.now (T.kept table.now) }
     ensures accepted { IfOk result (λ is. is ≡ true →
-        IsAccepted (insert_causes path.now.steps element.now) (λ s. inserted s path.now.steps element.now) (T.kept table.now)) }
+        IsAccepted (insert_causes path.now.steps element.now)
+        (λ s. inserted s path.now.steps element.now) (T.kept table.now)) }
     ensures refused { IfErr result (IsFirst (insert_causes path.now.steps element.now (T.kept table.now))) }
 {
     match role_below(table, path, element, parent) {
@@ -163,7 +168,8 @@ fn is_named_there<T: Table>(table: &T, path: &Path, element: &Element) -> bool
     }
 }
 
-/// Whether nothing but want of room refuses the insertion in the role; false where this isn't seen from its place alone.
+/// Whether nothing but want of room refuses the insertion in the role;
+/// false where this isn't seen from its place alone.
 fn is_insertable<T: Table>(
     alloc: Global,
     table: &T,
@@ -178,7 +184,8 @@ fn is_insertable<T: Table>(
     requires parent { IsParent path.now.steps parent.now (T.kept table.now) }
     requires role { role_below (own_of_parent parent.now) element.now ≡ Some role }
     ensures { IfOk result (λ is. is ≡ true →
-        IsAccepted (insert_causes path.now.steps element.now) (λ s. inserted s path.now.steps element.now) (T.kept table.now)) }
+        IsAccepted (insert_causes path.now.steps element.now)
+        (λ s. inserted s path.now.steps element.now) (T.kept table.now)) }
 {
     inserted_elements_have_the_faults();
     edits_keep_valid();

@@ -1,5 +1,5 @@
-//! Commands that insert, replace or delete an element of a submodel, decided and done in a store: they are refused, or change
-//! the submodel.
+//! Commands that insert, replace or delete an element of a submodel, decided and done in a store: they are refused, or
+//! change the submodel.
 //!
 //! What a command comes to is said below (`aas_step`); which command is decided where, and what is kept of it, above
 //! (`aas_repo`).

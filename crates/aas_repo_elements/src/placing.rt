@@ -26,7 +26,8 @@ pub(crate) struct Parent {
 /// What the path leads to, or that it leads nowhere; the empty path leads to the submodel.
 pub(crate) fn parent_at<T: Table>(alloc: Global, table: &T, path: &Path) -> Result<Parent, Refusal>
     ensures found { IfOk result (λ parent. IsParent path.now.steps parent (T.kept table.now)) }
-    ensures lost { IfErr result (λ refusal. (more : List Cause) → IsFirst (is_lost (T.kept table.now) path.now.steps ∷ more) refusal) }
+    ensures lost { IfErr result (λ refusal.
+        (more : List Cause) → IsFirst (is_lost (T.kept table.now) path.now.steps ∷ more) refusal) }
 {
     let in_template = is_template(table.head().kind);
     if path.steps.is_empty() {
@@ -72,7 +73,8 @@ pub(crate) fn is_faultless_in_role(
     parent: &Parent,
     lead: Option<&Reference>,
 ) -> Result<bool, NoMemory>
-    ensures { IfOk result (λ is. is ≡ true → IsFaultless parent.now (option_copied lead.entry) (with_role element.now role)) }
+    ensures { IfOk result (λ is.
+        is ≡ true → IsFaultless parent.now (option_copied lead.entry) (with_role element.now role)) }
 {
     if element.role == role {
         return Ok(is_faultless(alloc, element, parent, lead)?);

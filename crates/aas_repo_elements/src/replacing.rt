@@ -1,5 +1,6 @@
 // The replacement of an element: what refuses the new one in the place of the old.
-ghost use Rattle.std.specs.Prelude.{◌≡◌, ◌≢◌, ◌↔◌, ◌++◌, [], ◌∷◌, true, length, option_map, IfErr, IfOk, IsTrue, MatchOption};
+ghost use Rattle.std.specs.Prelude.{◌≡◌, ◌≢◌, ◌↔◌, ◌++◌, [], ◌∷◌, true, length, option_map, IfErr, IfOk};
+ghost use Rattle.std.specs.Prelude.{IsTrue, MatchOption};
 ghost use Rattle.std.specs.Str.{chars};
 ghost use Rattle.aas_command.specs.Commands.{IsWellFormed};
 ghost use Rattle.aas_command.specs.declared.command.Command.TheVariants.{ReplaceElement};
@@ -45,7 +46,8 @@ pub fn replace_element<S: Store>(
 ) -> Decision
     requires valid { AreValid (S.documents store.old) }
     requires well_formed { IsWellFormed (ReplaceElement id path element) }
-    ensures { IsDecision has_room (S.documents store.old) (ReplaceElement id path element) (S.documents store.new) result }
+    ensures { IsDecision has_room (S.documents store.old)
+        (ReplaceElement id path element) (S.documents store.new) result }
 {
     let element = element.into_inner();
     make_edit(alloc, store, id, Replacement { path, element }, has_room)
@@ -98,8 +100,8 @@ impl Edit for Replacement {
     }
 }
 
-/// Whether nothing but want of room refuses the element in the place of that of the row, to which the path leads, or why it is
-/// refused. This isn't seen from its place alone where it has another idShort or semanticId.
+/// Whether nothing but want of room refuses the element in the place of that of the row, to which the path leads, or
+/// why it is refused. This isn't seen from its place alone where it has another idShort or semanticId.
 fn is_accepted_over<T: Table>(
     alloc: Global,
     table: &T,
@@ -112,7 +114,8 @@ fn is_accepted_over<T: Table>(
     requires whole { elements.IsWhole (at_level (length path.now.steps)) element.now }
     requires found { MatchOption (element_at (T.kept table.now) path.now.steps) ⊥ (λ e. IsRowOf e row) }
     ensures accepted { IfOk result (λ is. is ≡ true →
-        IsAccepted (replace_causes path.now.steps element.now) (λ s. replaced s path.now.steps element.now) (T.kept table.now)) }
+        IsAccepted (replace_causes path.now.steps element.now)
+        (λ s. replaced s path.now.steps element.now) (T.kept table.now)) }
     ensures refused { IfErr result (IsFirst (replace_causes path.now.steps element.now (T.kept table.now))) }
 {
     if !fits_role(element, row.role) {
@@ -124,8 +127,8 @@ fn is_accepted_over<T: Table>(
     Ok(is_replaceable(alloc, table, path, element, row.role)?)
 }
 
-/// Whether nothing but want of room refuses an element in the place and the role of one with its idShort and its semanticId;
-/// false where this isn't seen from its place alone.
+/// Whether nothing but want of room refuses an element in the place and the role of one with its idShort and its
+/// semanticId; false where this isn't seen from its place alone.
 fn is_replaceable<T: Table>(
     alloc: Global,
     table: &T,
@@ -138,7 +141,8 @@ fn is_replaceable<T: Table>(
     requires whole { elements.IsWhole (at_level (length path.now.steps)) element.now }
     requires alike { IsAlikeAt path.now.steps element.now role (T.kept table.now) }
     ensures { IfOk result (λ is. is ≡ true →
-        IsAccepted (replace_causes path.now.steps element.now) (λ s. replaced s path.now.steps element.now) (T.kept table.now)) }
+        IsAccepted (replace_causes path.now.steps element.now)
+        (λ s. replaced s path.now.steps element.now) (T.kept table.now)) }
 {
     replacing_elements_have_the_faults();
     edits_keep_valid();

@@ -20,8 +20,10 @@ pub type SheetStore = DocumentStore<Sheet>;
 /// When the loan ends, the documents are what they were, but for what the row left says of the element of that rank.
 /// It may say another kind.
 pub fn row_mut<'a>(store: &'a mut SheetStore, id: &str, rank: u64) -> Option<&'a mut Row>
-    ensures* writes_back { sem 𝓛 (LendsIf store_type row_type store.entry result (holding_row store.old id.now rank) store.old) }
-    ensures row { MatchOption result (HasNoRow (documents store.old).submodels id.now rank) (λ r. IsRowOf (documents store.old).submodels id.now rank r.now) }
+    ensures* writes_back { sem 𝓛
+        (LendsIf store_type row_type store.entry result (holding_row store.old id.now rank) store.old) }
+    ensures row { MatchOption result (HasNoRow (documents store.old).submodels id.now rank) (λ r.
+        IsRowOf (documents store.old).submodels id.now rank r.now) }
 {
     match store.table_mut(id) {
         Some(sheet) => sheet.row_mut(rank as usize),

@@ -12,7 +12,8 @@ put_first : {X : Type 0} (wrap : X → Document) (xs : List X) (d : Documents) (
 put_first wrap [] d more = refl
 put_first wrap (x ∷ xs) d more = put_first wrap xs (with_document d (wrap x)) more
 
-put_last : {X : Type 0} (wrap : X → Document) (xs : List X) (d : Documents) → with_documents d (each wrap xs) ≡ fold (λ d x. with_document d (wrap x)) d xs
+put_last : {X : Type 0} (wrap : X → Document) (xs : List X) (d : Documents)
+    → with_documents d (each wrap xs) ≡ fold (λ d x. with_document d (wrap x)) d xs
 put_last wrap [] d = refl
 put_last wrap (x ∷ xs) d = put_last wrap xs (with_document d (wrap x))
 

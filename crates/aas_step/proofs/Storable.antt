@@ -1,12 +1,14 @@
 -- A valid submodel with few elements is one that a store takes.
-use Rattle.std.proofs.Common.{◌≡◌, ℕ, zero, suc, ◌≤◌, Bool, true, List, [], ◌∷◌, map, length, slice_get, Option, Some, None, option_and_then, refl, subst, arith, ltb-false}
+use Rattle.std.proofs.Common.{◌≡◌, ℕ, zero, suc, ◌≤◌, Bool, true, List, [], ◌∷◌, map, length, slice_get, Option, Some}
+use Rattle.std.proofs.Common.{None, option_and_then, refl, subst, arith, ltb-false}
 use Rattle.std.specs.Prelude.{◌&&◌, nat_le}
 use Rattle.std.specs.List.{list_all}
 use Rattle.std.proofs.lemmas.Bool.{and_parts}
 use Rattle.std.proofs.lemmas.Bool.Decides.{nat_tests}
 use Rattle.aas_json_table.specs.TooDeep.{limits}
 use Rattle.aas_json_spelling.specs.Lists.{most}
-use Rattle.aas_json_mapping.specs.Whole.{element_levels, has_whole_parts, is_member, is_placed, is_whole_element, whole_head, whole_qualifier, whole_semantics}
+use Rattle.aas_json_mapping.specs.Whole.{element_levels, has_whole_parts, is_member, is_placed, is_whole_element}
+use Rattle.aas_json_mapping.specs.Whole.{whole_head, whole_qualifier, whole_semantics}
 use Rattle.aas_model.specs.declared.documents.Submodel.{Submodel}
 use Rattle.aas_model.specs.declared.element.Element.{Element, fold_out-Element, out-Element}
 use Rattle.aas_path_trees.specs.Children.{kids_of}
@@ -28,20 +30,30 @@ at_most f (y ∷ ys) (suc i) x at = let more = at_most f ys i x at in omega (ari
 levels_out : (e : Element) → element_levels e ≡ suc (most (map element_levels (kids_of e)))
 levels_out e = fold_out-Element ℕ (λ x. suc (most x.kids)) e
 
-in_child : (q : List ℕ) (ks : List Element) (i : ℕ) (e : Element) (found : Option Element) → slice_get ks i ≡ found → option_and_then (element_in q) found ≡ Some e
-    → ((k : Element) → element_in q k ≡ Some e → suc (length q) ≤ element_levels k) → suc (length q) ≤ most (map element_levels ks)
+in_child : (q : List ℕ) (ks : List Element) (i : ℕ) (e : Element) (found : Option Element)
+    → slice_get ks i ≡ found → option_and_then (element_in q) found ≡ Some e
+    → ((k : Element) → element_in q k ≡ Some e → suc (length q) ≤ element_levels k)
+    → suc (length q) ≤ most (map element_levels ks)
 in_child q ks i e None is there below = absurd (cc)
-in_child q ks i e (Some k) is there below = let low = below k there in let high = at_most element_levels ks i k is in omega (arith, low, high)
+in_child q ks i e (Some k) is there below =
+    let low = below k there in
+    let high = at_most element_levels ks i k is in
+    omega (arith, low, high)
 
 -- a place within an element is shorter than the element has levels
 within : (q : List ℕ) (o e : Element) → element_in q o ≡ Some e → suc (length q) ≤ element_levels o
 unfolding element_in
 within [] o e there = let is = levels_out o in omega (arith, is)
-within (i ∷ q) o e there = let low = in_child q (kids_of o) i e (slice_get (kids_of o) i) refl there (λ k. within q k e) in let is = levels_out o in omega (arith, low, is)
+within (i ∷ q) o e there =
+    let low = in_child q (kids_of o) i e (slice_get (kids_of o) i) refl there (λ k. within q k e) in
+    let is = levels_out o in
+    omega (arith, low, is)
 
 kids_whole : (d : Submodel) → IsValid (submodel d) → list_all (is_whole_element limits) d.kids ≡ true
 kids_whole d valid =
-    (and_parts (whole_head limits d.head && whole_semantics limits d.semantics && list_all (whole_qualifier limits) d.qualifiers) (list_all (is_whole_element limits) d.kids) valid.whole).1
+    (and_parts
+    (whole_head limits d.head && whole_semantics limits d.semantics && list_all (whole_qualifier limits) d.qualifiers)
+    (list_all (is_whole_element limits) d.kids) valid.whole).1
 
 at_limit : (n : ℕ) → nat_le n 30 ≡ true → n ≤ 30
 at_limit n e = grind (arith, nat_tests)
@@ -52,11 +64,13 @@ levels_few e whole =
     let child = (and_parts (is_member (out-Element e).role) (has_whole_parts limits e && is_placed e && few) whole).1 in
     at_limit (element_levels e) (and_parts (has_whole_parts limits e && is_placed e) few child).1
 
-place_short : (d : Submodel) (q : List ℕ) (e : Element) → IsValid (submodel d) → element_in_all q d.kids ≡ Some e → length q ≤ 30
+place_short : (d : Submodel) (q : List ℕ) (e : Element)
+    → IsValid (submodel d) → element_in_all q d.kids ≡ Some e → length q ≤ 30
 place_short d [] e valid there = omega arith
 place_short d (i ∷ q) e valid there = under (slice_get d.kids i) refl there
   where
-    under : (found : Option Element) → slice_get d.kids i ≡ found → option_and_then (element_in q) found ≡ Some e → suc (length q) ≤ 30
+    under : (found : Option Element)
+        → slice_get d.kids i ≡ found → option_and_then (element_in q) found ≡ Some e → suc (length q) ≤ 30
     under None is below = absurd (cc)
     under (Some k) is below =
         let low = within q k e below in
@@ -70,5 +84,6 @@ valid_is_storable d valid few = record {
   few = ltb-false 65536 (element_count d) few;
   shallow = λ q e there. place_short d q e valid there;
   own_names = λ i j k m n at_i at_j first second. own_names d i j k m n valid.faultless at_i at_j first second;
-  own_names_below = λ q e there i j k m n at_i at_j first second. own_names_below d q e i j k m n valid.faultless there at_i at_j first second;
+  own_names_below = λ q e there i j k m n at_i at_j first second.
+      own_names_below d q e i j k m n valid.faultless there at_i at_j first second;
 }

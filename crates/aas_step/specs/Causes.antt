@@ -1,6 +1,8 @@
--- Why a command is refused: for each command what of it isn't there or is there already, and then the faults of the documents that it makes. Causes are tried from
--- the left, and the first that applies is the refusal. This profile's own rule.
-use Rattle.std.specs.Prelude.{ℕ, nat_lt, Bool, true, false, ◌&&◌, not, is_some, List, [], ◌∷◌, ◌++◌, length, map as each, take, Option, Some, None, option_and_then, option_map, if◌then◌else◌}
+-- Why a command is refused: for each command what of it isn't there or is there already, and then the faults of the
+-- documents that it makes. Causes are tried from the left, and the first that applies is the refusal. This profile's
+-- own rule.
+use Rattle.std.specs.Prelude.{ℕ, nat_lt, Bool, true, false, ◌&&◌, not, is_some, List, [], ◌∷◌, ◌++◌, length}
+use Rattle.std.specs.Prelude.{map as each, take, Option, Some, None, option_and_then, option_map, if◌then◌else◌}
 use Rattle.std.specs.FinMap as map
 use Rattle.std.specs.List.{list_any}
 use Rattle.std.specs.Option.{option_map_or, option_or}
@@ -22,11 +24,16 @@ use Rattle.aas_reference.specs.Rules.{first, is_external}
 use Rattle.aas_reference.specs.Same.{same, same_keys}
 use Rattle.aas_command.specs.Refusals.{refusal_of_fault}
 use Rattle.aas_command.specs.declared.command.Command.{Command}
-use Rattle.aas_command.specs.declared.command.Command.TheVariants.{CreateShell, CreateSubmodel, CreateConcept, ReplaceShell, ReplaceSubmodel, ReplaceConcept, DeleteShell, DeleteSubmodel, DeleteConcept, SetAsset, AddReference, DropReference, InsertElement, ReplaceElement, DeleteElement, UpdateValue, Import}
+use Rattle.aas_command.specs.declared.command.Command.TheVariants.{CreateShell, CreateSubmodel, CreateConcept}
+use Rattle.aas_command.specs.declared.command.Command.TheVariants.{ReplaceShell, ReplaceSubmodel, ReplaceConcept}
+use Rattle.aas_command.specs.declared.command.Command.TheVariants.{DeleteShell, DeleteSubmodel, DeleteConcept, SetAsset}
+use Rattle.aas_command.specs.declared.command.Command.TheVariants.{AddReference, DropReference, InsertElement}
+use Rattle.aas_command.specs.declared.command.Command.TheVariants.{ReplaceElement, DeleteElement, UpdateValue, Import}
 use Rattle.aas_command.specs.declared.refusal.Absent.{Absent}
 use Rattle.aas_command.specs.declared.refusal.Absent.TheVariants as absent
 use Rattle.aas_command.specs.declared.refusal.Refusal.{Refusal}
-use Rattle.aas_command.specs.declared.refusal.Refusal.TheVariants.{NotFound, Conflict, NotAContainer, NoValueForm, Shape, TooMany}
+use Rattle.aas_command.specs.declared.refusal.Refusal.TheVariants.{NotFound, Conflict, NotAContainer, NoValueForm}
+use Rattle.aas_command.specs.declared.refusal.Refusal.TheVariants.{Shape, TooMany}
 use Rattle.aas_path_trees.specs.Children.{id_short_of, role_of}
 use Rattle.aas_path_trees.specs.Edits.{fits_role, role_at, role_within}
 use Rattle.aas_path_trees.specs.ElementAt.{depth_found, element_at, place_named, children_at}
@@ -105,7 +112,8 @@ is_lost s p = unless (leads s p) (NotFound (absent.Element (record { steps = tak
 -- what a path leads to takes children
 abbrev pub is_container : Submodel → List PathStep → Bool
 is_container s [] = true
-is_container s (step ∷ p) = option_map_or (λ o. is_some (role_within (out-Element o).payload)) (element_at s (step ∷ p)) false
+is_container s (step ∷ p) =
+    option_map_or (λ o. is_some (role_within (out-Element o).payload)) (element_at s (step ∷ p)) false
 
 -- one of the elements has this idShort
 abbrev pub is_named_among : Option (List ℕ) → List Element → Bool
@@ -121,14 +129,16 @@ insert_causes p e s =
 
 -- an annotation stays a data element
 abbrev pub replace_causes : List PathStep → Element → Submodel → List Cause
-replace_causes p e s = is_lost s p ∷ unless (option_map_or (λ o. fits_role e (role_of o)) (element_at s p) false) NotAContainer ∷ []
+replace_causes p e s =
+    is_lost s p ∷ unless (option_map_or (λ o. fits_role e (role_of o)) (element_at s p) false) NotAContainer ∷ []
 
 abbrev pub delete_causes : List PathStep → Submodel → List Cause
 delete_causes p s = is_lost s p ∷ []
 
 -- the first misshapen element, its path behind p
 abbrev pub is_misshapen : Submodel → List PathStep → Data → Cause
-is_misshapen s p v = option_map (λ q. Shape (record { steps = p ++ q })) (option_and_then (λ e. first_misshapen e v) (valued_at s p))
+is_misshapen s p v =
+    option_map (λ q. Shape (record { steps = p ++ q })) (option_and_then (λ e. first_misshapen e v) (valued_at s p))
 
 abbrev pub update_causes : List PathStep → Data → Submodel → List Cause
 update_causes p v s =
@@ -139,14 +149,16 @@ update_causes p v s =
 
 -- the submodel isn't there; and then the causes in it
 abbrev pub in_submodel : Documents → List ℕ → (Submodel → List Cause) → List Cause
-in_submodel d id causes_in = is_absent Submodels id d ∷ option_map_or causes_in (map.get d.submodels (encode_utf8_all id)) []
+in_submodel d id causes_in =
+    is_absent Submodels id d ∷ option_map_or causes_in (map.get d.submodels (encode_utf8_all id)) []
 
 -- ---- by the identifiers of an environment
 
 -- the place of the first one that stands before it too, where those of before stand earlier
 abbrev pub first_repeated_after : List (List ℕ) → List (List ℕ) → Option ℕ
 first_repeated_after before [] = None
-first_repeated_after before (id ∷ more) = if is_among id before then Some (length before) else first_repeated_after (before ++ id ∷ []) more
+first_repeated_after before (id ∷ more) =
+    if is_among id before then Some (length before) else first_repeated_after (before ++ id ∷ []) more
 
 abbrev pub first_repeated : List (List ℕ) → Option ℕ
 first_repeated ids = first_repeated_after [] ids

@@ -14,11 +14,13 @@ use Rattle.aas_step.specs.Valid.{AreValid}
 
 -- in valid documents a command comes to one result
 abbrev pub OneResult : Type 0
-OneResult = (room : Room) (r : Repository Documents) (c : Command) (x y : Result) → AreValid r.documents → Steps room r c x → Steps room r c y → x ≡ y
+OneResult = (room : Room) (r : Repository Documents) (c : Command) (x y : Result)
+    → AreValid r.documents → Steps room r c x → Steps room r c y → x ≡ y
 
 -- an accepted command leaves every constraint true
 abbrev pub StaysValid : Type 0
-StaysValid = (has_room : Bool) (d new : Documents) (c : Command) → IsWellFormed c → AreValid d → ComesTo has_room d c (accepted new) → AreValid new
+StaysValid = (has_room : Bool) (d new : Documents) (c : Command)
+    → IsWellFormed c → AreValid d → ComesTo has_room d c (accepted new) → AreValid new
 
 -- a store takes each valid submodel that has few elements
 abbrev pub ValidIsStorable : Type 0

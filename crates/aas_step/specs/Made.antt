@@ -13,7 +13,11 @@ use Rattle.aas_value_update.specs.Update.{IsValueUpdate}
 use Rattle.aas_path_trees.specs.Edits.{inserted, removed, replaced}
 use Rattle.aas_constraint_rules.specs.Faults.{Document, shell, submodel, concept}
 use Rattle.aas_command.specs.declared.command.Command.{Command}
-use Rattle.aas_command.specs.declared.command.Command.TheVariants.{CreateShell, CreateSubmodel, CreateConcept, ReplaceShell, ReplaceSubmodel, ReplaceConcept, DeleteShell, DeleteSubmodel, DeleteConcept, SetAsset, AddReference, DropReference, InsertElement, ReplaceElement, DeleteElement, UpdateValue, Import}
+use Rattle.aas_command.specs.declared.command.Command.TheVariants.{CreateShell, CreateSubmodel, CreateConcept}
+use Rattle.aas_command.specs.declared.command.Command.TheVariants.{ReplaceShell, ReplaceSubmodel, ReplaceConcept}
+use Rattle.aas_command.specs.declared.command.Command.TheVariants.{DeleteShell, DeleteSubmodel, DeleteConcept, SetAsset}
+use Rattle.aas_command.specs.declared.command.Command.TheVariants.{AddReference, DropReference, InsertElement}
+use Rattle.aas_command.specs.declared.command.Command.TheVariants.{ReplaceElement, DeleteElement, UpdateValue, Import}
 use Rattle.aas_model.specs.declared.reference.Reference.{Reference}
 use Rattle.aas_store.specs.Documents.{Documents, without, with_shell, with_submodel, with_concept}
 use Rattle.aas_step.specs.Causes.{refers_to}
@@ -32,10 +36,12 @@ without_references id s = record s { submodels = filter (λ r. not (refers_to id
 
 -- the submodel of an identifier, changed
 abbrev pub changed_submodel : Documents → List ℕ → (Submodel → Submodel) → List Document
-changed_submodel d id change = option_map_or (λ s. submodel (change s) ∷ []) (map.get d.submodels (encode_utf8_all id)) []
+changed_submodel d id change =
+    option_map_or (λ s. submodel (change s) ∷ []) (map.get d.submodels (encode_utf8_all id)) []
 
 -- the submodel of an identifier, after an update of its values
-pub record IsUpdatedSubmodel (d : Documents) (id : List ℕ) (p : List PathStep) (v : Data) (new : List Document) : Type 0 where
+pub record IsUpdatedSubmodel (d : Documents) (id : List ℕ) (p : List PathStep) (v : Data) (new : List Document) :
+    Type 0 where
   pub old : Submodel
   pub there : map.get d.submodels (encode_utf8_all id) ≡ Some old
   pub updated : Submodel

@@ -26,10 +26,11 @@ later_causes has_room new = flat_map document_causes new ++ unless has_room Stor
 abbrev pub ComesBy : Cause → Bool → Documents → Command → Result → Type 0
 ComesBy (Some refusal) has_room d c result = result ≡ refused refusal
 ComesBy None has_room d c result =
-    (new : List Document) × IsMade d c new × (result ≡ result_of (first_of (later_causes has_room new)) (with_documents (left d c) new))
+    (new : List Document) × IsMade d c new
+    × (result ≡ result_of (first_of (later_causes has_room new)) (with_documents (left d c) new))
 
--- In these documents, where there is room to keep the command or not. The causes are tried from the left; where none applies, the documents are as the command
--- makes them.
+-- In these documents, where there is room to keep the command or not. The causes are tried from the left; where none
+-- applies, the documents are as the command makes them.
 unfoldable pub ComesTo : Bool → Documents → Command → Result → Type 0
 ComesTo has_room d c result = ComesBy (first_of (causes d c)) has_room d c result
 

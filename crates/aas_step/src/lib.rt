@@ -1,6 +1,6 @@
-//! What a command comes to: why it is refused, or what it makes of the documents. Commands themselves and their payloads
-//! belong below, the code that takes them above. A law stands on a function that does nothing; what runs here are the words
-//! for an element that isn't there.
+//! What a command comes to: why it is refused, or what it makes of the documents. Commands themselves and their
+//! payloads belong below, the code that takes them above. A law stands on a function that does nothing; what runs here
+//! are the words for an element that isn't there.
 //!
 //! Proved: in valid documents a command comes to one result alone; one that is accepted leaves every document
 //! under its own identifier, valid and within the limit of elements; each such submodel can be stored; no

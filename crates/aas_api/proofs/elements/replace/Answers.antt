@@ -21,5 +21,6 @@ returns-in_ok-new-in-Ok c =
     inr (
       result,
       subst (λ n. ReadsBytes elements (with_levels n) result c.args.body.now) left c.in-Ok.ensures.reads,
-      c.if_same.ensures ∙ ap (λ (id : List ℕ). asks id c.in_ok-new-in-Ok.field-0) c.submodel.view_is ∙ ap (asks c.args.submodel) same,
+      c.if_same.ensures ∙ ap (λ (id : List ℕ). asks id c.in_ok-new-in-Ok.field-0) c.submodel.view_is
+          ∙ ap (asks c.args.submodel) same,
     )

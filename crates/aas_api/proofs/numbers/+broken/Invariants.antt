@@ -5,7 +5,8 @@ use Rattle.aas_api.proofs.numbers.+broken.Given as goal
 
 abbrev pub invariant-broken_number_of_items-loop-place : goal.invariant-broken_number_of_items-loop-place
 invariant-broken_number_of_items-loop-place l =
-    broken_number_of_items (items_view (drop l.place l.items.items)) l.place ≡ broken_number_of_items (items_view l.items.items) 0
+    broken_number_of_items (items_view (drop l.place l.items.items)) l.place
+    ≡ broken_number_of_items (items_view l.items.items) 0
 
 abbrev pub invariant-broken_number_of_members-loop-name : goal.invariant-broken_number_of_members-loop-name
 invariant-broken_number_of_members-loop-name l =

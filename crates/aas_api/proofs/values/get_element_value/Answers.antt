@@ -14,10 +14,12 @@ ask id path given = question.ElementValue id path (level_of given) (extent_of gi
 
 pub returns-in_err-shown : goal.returns-in_err-shown
 returns-in_err-shown c =
-    shown_at (texts_of c.args.texts) resource.ElementValue c.args.query.now ask c.in_ok-id.id c.in_ok-path.path c.in_ok-id.ensures.ok
+    shown_at (texts_of c.args.texts) resource.ElementValue c.args.query.now
+    ask c.in_ok-id.id c.in_ok-path.path c.in_ok-id.ensures.ok
     c.in_ok-path.ensures.ok c.from_residual-in_err-shown.result (search rules)
 
 pub returns : goal.returns
 returns c =
-    shown_at (texts_of c.args.texts) resource.ElementValue c.args.query.now ask c.in_ok-id.id c.in_ok-path.path c.in_ok-id.ensures.ok
+    shown_at (texts_of c.args.texts) resource.ElementValue c.args.query.now
+    ask c.in_ok-id.id c.in_ok-path.path c.in_ok-id.ensures.ok
     c.in_ok-path.ensures.ok _ (search rules)

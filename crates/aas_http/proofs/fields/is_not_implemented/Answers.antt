@@ -10,4 +10,5 @@ returns c =
     let fields = map (header_bytes c.args.bytes.now) c.args.headers.now in
     let head : c.eq-head.result ≡ bytes_eq c.args.method.now (codes "HEAD") = search rules in
     let connect : c.eq-connect.result ≡ bytes_eq c.args.method.now (codes "CONNECT") = search rules in
-    left_out c.args.method.now fields (values_named (codes "transfer-encoding") fields) c.is_coded-coded.result c.eq-head.result c.eq-connect.result refl c.is_coded-coded.ensures head connect
+    left_out c.args.method.now fields (values_named (codes "transfer-encoding") fields)
+    c.is_coded-coded.result c.eq-head.result c.eq-connect.result refl c.is_coded-coded.ensures head connect

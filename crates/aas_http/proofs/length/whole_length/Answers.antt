@@ -28,7 +28,9 @@ returns-in_err-size c =
     let within : IsRequestWithin front c.parse_request.new.headers c.in-Ok-Complete.head = search rules in
     let at = found.1 in
     let room : length c.parse_request.new.headers ≡ 64 = search rules in
-    let K = known b c.requires found.0 (drop c.in-Ok-Complete.head.len b) (admits b front kept found.0 c.in-Ok-Complete.head.len c.in-Ok-Complete.head.headers c.parse_request.new.headers at.reads at.len within.section.len_fits at.fields room) in
+    let K = known b c.requires found.0 (drop c.in-Ok-Complete.head.len b)
+    (admits b front kept found.0 c.in-Ok-Complete.head.len c.in-Ok-Complete.head.headers
+    c.parse_request.new.headers at.reads at.len within.section.len_fits at.fields room) in
     let none : c.body_length.result ≡ None = search rules in
     absurd (let no : None ≡ Some K.size = sym none ∙ c.body_length.ensures ∙ ap body_length at.fields ∙ K.said in cc)
 
@@ -40,9 +42,13 @@ overflow_add-result c =
     let within : IsRequestWithin front c.parse_request.new.headers c.in-Ok-Complete.head = search rules in
     let at = found.1 in
     let room : length c.parse_request.new.headers ≡ 64 = search rules in
-    let K = known b c.requires found.0 (drop c.in-Ok-Complete.head.len b) (admits b front kept found.0 c.in-Ok-Complete.head.len c.in-Ok-Complete.head.headers c.parse_request.new.headers at.reads at.len within.section.len_fits at.fields room) in
-    let some : Some c.in_ok-size.size ≡ Some K.size = sym c.in_ok-size.was ∙ c.body_length.ensures ∙ ap body_length at.fields ∙ K.said in
-    let whole = whole_is b c.requires found.0 (drop c.in-Ok-Complete.head.len b) K c.in-Ok-Complete.head.len c.in_ok-size.size at.len some in
+    let K = known b c.requires found.0 (drop c.in-Ok-Complete.head.len b)
+    (admits b front kept found.0 c.in-Ok-Complete.head.len c.in-Ok-Complete.head.headers
+    c.parse_request.new.headers at.reads at.len within.section.len_fits at.fields room) in
+    let some : Some c.in_ok-size.size ≡ Some K.size =
+    sym c.in_ok-size.was ∙ c.body_length.ensures ∙ ap body_length at.fields ∙ K.said in
+    let whole = whole_is b c.requires found.0
+    (drop c.in-Ok-Complete.head.len b) K c.in-Ok-Complete.head.len c.in_ok-size.size at.len some in
     omega (arith, whole.1)
 
 pub returns : goal.returns
@@ -53,6 +59,10 @@ returns c =
     let within : IsRequestWithin front c.parse_request.new.headers c.in-Ok-Complete.head = search rules in
     let at = found.1 in
     let room : length c.parse_request.new.headers ≡ 64 = search rules in
-    let K = known b c.requires found.0 (drop c.in-Ok-Complete.head.len b) (admits b front kept found.0 c.in-Ok-Complete.head.len c.in-Ok-Complete.head.headers c.parse_request.new.headers at.reads at.len within.section.len_fits at.fields room) in
-    let some : Some c.in_ok-size.size ≡ Some K.size = sym c.in_ok-size.was ∙ c.body_length.ensures ∙ ap body_length at.fields ∙ K.said in
-    whole_is b c.requires found.0 (drop c.in-Ok-Complete.head.len b) K c.in-Ok-Complete.head.len c.in_ok-size.size at.len some
+    let K = known b c.requires found.0 (drop c.in-Ok-Complete.head.len b)
+    (admits b front kept found.0 c.in-Ok-Complete.head.len c.in-Ok-Complete.head.headers
+    c.parse_request.new.headers at.reads at.len within.section.len_fits at.fields room) in
+    let some : Some c.in_ok-size.size ≡ Some K.size =
+    sym c.in_ok-size.was ∙ c.body_length.ensures ∙ ap body_length at.fields ∙ K.said in
+    whole_is b c.requires found.0
+    (drop c.in-Ok-Complete.head.len b) K c.in-Ok-Complete.head.len c.in_ok-size.size at.len some

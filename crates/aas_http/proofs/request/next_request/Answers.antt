@@ -13,8 +13,8 @@ returns-then-is_blank c =
     let blank : IsBlank c.args.bytes.now = search rules in
     inl (record { short = blank.short; none = blank_none c.args.bytes.now blank; may = inl blank })
 
-pub judged-requires : goal.judged-requires
-judged-requires c =
+pub judge-requires : goal.judge-requires
+judge-requires c =
     let b = c.args.bytes.now in let front = take c.min.result b in
     let found : IsRequestOf front c.parse_request.new.headers c.in-Ok-Complete.head = search rules in
     let within : IsRequestWithin front c.parse_request.new.headers c.in-Ok-Complete.head = search rules in
@@ -24,12 +24,17 @@ judged-requires c =
     let fits : c.in-Ok-Complete.head.len ≤ length front = within.section.len_fits in
     record {
       head = found.0;
-      admits = admits b front kept found.0 c.in-Ok-Complete.head.len c.in-Ok-Complete.head.headers c.parse_request.new.headers at.reads at.len fits at.fields room;
+      admits =
+          admits b front kept found.0 c.in-Ok-Complete.head.len c.in-Ok-Complete.head.headers
+          c.parse_request.new.headers at.reads at.len fits at.fields room;
       some = λ blank. let yes : c.is_blank.result ≡ true = c.is_blank.ensures.1 blank in cc;
       within = omega (arith, fits, ap length kept, length-take (min (length b) head_limit) b);
       method_fits = (within.method.0, omega (arith, within.method.1, within.section.len_fits));
       path_fits = (within.path.0, omega (arith, within.path.1, within.section.len_fits));
-      fields_fit = All-weaker (IsHeaderWithin c.in-Ok-Complete.head.len) (IsHeaderWithin (length front)) (λ h w. ((w.0.0, omega (arith, w.0.1, fits)), (w.1.0, omega (arith, w.1.1, fits)))) _ within.section.headers_fit;
+      fields_fit =
+          All-weaker (IsHeaderWithin c.in-Ok-Complete.head.len) (IsHeaderWithin (length front))
+          (λ h w. ((w.0.0, omega (arith, w.0.1, fits)), (w.1.0, omega (arith, w.1.1, fits))))
+          _ within.section.headers_fit;
       method = at.method;
       target = at.path;
       version = at.version;

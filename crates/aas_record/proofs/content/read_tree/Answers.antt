@@ -5,14 +5,21 @@ use Rattle.aas_record.proofs.content.read_tree.Goals as goal
 
 pub returns-else-eq : goal.returns-else-eq
 returns-else-eq g c =
-    another_tree g.T.Tree.trees _ _ _ _ _ c.read.ensures.answered c.in-Ok.is (c.as_slice.ensures.value ∙ c.in_ok-text.ensures.text)
+    another_tree g.T.Tree.trees _ _ _ _ _ c.read.ensures.answered c.in-Ok.is
+    (c.as_slice.ensures.value ∙ c.in_ok-text.ensures.text)
     (other_text _ _ (sym c.if-eq.false ∙ c.eq.ensures))
 
 pub returns-in-Err-NotJson : goal.returns-in-Err-NotJson
-returns-in-Err-NotJson g c = a_fault g.T.Tree.trees _ _ _ _ c.read.ensures.answered c.in-Err-NotJson.is (subst IsOfInput (sym c.in-Err-NotJson.field-0-is) tt)
+returns-in-Err-NotJson g c =
+    a_fault g.T.Tree.trees _ _ _ _ c.read.ensures.answered c.in-Err-NotJson.is
+    (subst IsOfInput (sym c.in-Err-NotJson.field-0-is) tt)
 
 pub returns-in-Err-NotMapping : goal.returns-in-Err-NotMapping
-returns-in-Err-NotMapping g c = a_fault g.T.Tree.trees _ _ _ _ c.read.ensures.answered c.in-Err-NotMapping.is (subst IsOfInput (sym c.in-Err-NotMapping.field-0-is) tt)
+returns-in-Err-NotMapping g c =
+    a_fault g.T.Tree.trees _ _ _ _ c.read.ensures.answered c.in-Err-NotMapping.is
+    (subst IsOfInput (sym c.in-Err-NotMapping.field-0-is) tt)
 
 pub returns-in-Err-TooDeep : goal.returns-in-Err-TooDeep
-returns-in-Err-TooDeep g c = a_fault g.T.Tree.trees _ _ _ _ c.read.ensures.answered c.in-Err-TooDeep.is (subst IsOfInput (sym c.in-Err-TooDeep.field-0-is) tt)
+returns-in-Err-TooDeep g c =
+    a_fault g.T.Tree.trees _ _ _ _ c.read.ensures.answered c.in-Err-TooDeep.is
+    (subst IsOfInput (sym c.in-Err-TooDeep.field-0-is) tt)

@@ -15,16 +15,20 @@ returns c =
     first.begins first.type second.begins (path_text_utf8 _ second.whole) last.begins last.type.0
 
 pub returns-in_err-submodel : goal.returns-in_err-submodel
-returns-in_err-submodel c = wrong_first _ _ _ 16 _ _ c.requires refl c.from_residual.ensures identifier (place ∷ value ∷ []) refl c.in_err-submodel.ensures
+returns-in_err-submodel c =
+    wrong_first _ _ _ 16 _ _ c.requires refl c.from_residual.ensures identifier
+    (place ∷ value ∷ []) refl c.in_err-submodel.ensures
 
 pub returns-in_err-place : goal.returns-in_err-place
 returns-in_err-place c =
     let first = c.in_ok-submodel.ensures in
-    wrong_middle _ _ _ 16 _ _ c.requires refl c.from_residual-in_err-place.ensures _ _ _ identifier place value refl first.begins first.type refl c.in_err-place.ensures
+    wrong_middle _ _ _ 16 _ _ c.requires refl c.from_residual-in_err-place.ensures
+    _ _ _ identifier place value refl first.begins first.type refl c.in_err-place.ensures
 
 pub returns-in_err-value : goal.returns-in_err-value
 returns-in_err-value c =
     let first = c.in_ok-submodel.ensures in
     let second = c.in_ok-place.ensures in
-    wrong_third _ _ _ 16 _ _ c.requires refl c.from_residual-in_err-value.ensures _ _ _ _ _ identifier place value refl first.begins first.type second.begins second.type refl
+    wrong_third _ _ _ 16 _ _ c.requires refl c.from_residual-in_err-value.ensures _ _ _
+    _ _ identifier place value refl first.begins first.type second.begins second.type refl
     c.in_err-value.ensures

@@ -13,7 +13,8 @@ returns c =
 
 pub returns-in_err-shell : goal.returns-in_err-shell
 returns-in_err-shell c =
-    wrong_first _ _ _ 11 _ _ c.requires refl c.from_residual.ensures identifier (reference ∷ []) refl c.in_err-shell.ensures
+    wrong_first _ _ _ 11 _ _ c.requires refl c.from_residual.ensures identifier
+    (reference ∷ []) refl c.in_err-shell.ensures
 
 pub returns-in_err-reference : goal.returns-in_err-reference
 returns-in_err-reference c =

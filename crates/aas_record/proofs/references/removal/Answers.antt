@@ -13,7 +13,8 @@ returns c =
 
 pub returns-in_err-shell : goal.returns-in_err-shell
 returns-in_err-shell c =
-    wrong_first _ _ _ 12 _ _ c.requires refl c.from_residual.ensures identifier (identifier ∷ []) refl c.in_err-shell.ensures
+    wrong_first _ _ _ 12 _ _ c.requires refl c.from_residual.ensures identifier
+    (identifier ∷ []) refl c.in_err-shell.ensures
 
 pub returns-in_err-submodel : goal.returns-in_err-submodel
 returns-in_err-submodel c =

@@ -13,5 +13,6 @@ find-requires g c = has_steps c.args.path.steps c.requires.well_formed
 pub returns : goal.returns
 returns g c =
     let d = g.S.Store.documents c.args.store.now in
-    subst (λ (o : Decision). IsDecision c.args.has_room d (DeleteElement c.args.id c.args.path) d o) (sym c.decision_of.ensures)
+    subst (λ (o : Decision). IsDecision c.args.has_room d (DeleteElement c.args.id c.args.path) d o)
+    (sym c.decision_of.ensures)
     (c.in-Err.ensures.lost c.args.has_room)

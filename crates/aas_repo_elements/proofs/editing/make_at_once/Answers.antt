@@ -18,5 +18,6 @@ returns-in-Ok g c =
     let command = g.E.Edit.command c.args.edit c.args.id.now in
     let new = g.S.Store.documents c.put.new.store in
     subst (λ (b : Bool). IsDecision b d command new decision.Made) (sym c.if-not-has_room.false)
-    (made d command c.args.id.now _ _ (g.met.E.Edit.edits c.args.edit c.args.id.now d) new c.requires.valid (g.met.E.Edit.keeps_head c.args.edit)
+    (made d command c.args.id.now _ _ (g.met.E.Edit.edits c.args.edit c.args.id.now d) new c.requires.valid
+    (g.met.E.Edit.keeps_head c.args.edit)
     c.requires.accepted c.in-Ok.ensures.ok)

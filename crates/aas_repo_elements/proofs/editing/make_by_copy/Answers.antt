@@ -10,20 +10,23 @@ use Rattle.aas_repo_documents.specs.declared.decision.Decision.{Decision}
 pub returns-in-Ok-None : goal.returns-in-Ok-None
 returns-in-Ok-None g c =
     let d = g.S.Store.documents c.args.store.now in
-    let there = sym (c.in-Ok-None.ensures ∙ ap (map.get d.submodels) c.as_str.ensures.bytes) ∙ c.in-Ok-None.field-0-is in
+    let there =
+    sym (c.in-Ok-None.ensures ∙ ap (map.get d.submodels) c.as_str.ensures.bytes) ∙ c.in-Ok-None.field-0-is in
     is_missing d _ c.args.id _ _ (g.met.E.Edit.edits c.args.edit c.args.id d) _ d there refl
 
 pub put-requires : goal.put-requires
 put-requires g c =
     let d = g.S.Store.documents c.args.store.now in
-    let there = sym (c.in-Ok-Some.ensures ∙ ap (map.get d.submodels) c.as_str.ensures.bytes) ∙ c.in-Ok-Some.field-0-is in
+    let there =
+    sym (c.in-Ok-Some.ensures ∙ ap (map.get d.submodels) c.as_str.ensures.bytes) ∙ c.in-Ok-Some.field-0-is in
     c.in-Ok.ensures.whole (c.requires.valid.submodels _ _ there).valid.whole
 
 pub returns-in-Ok : goal.returns-in-Ok
 returns-in-Ok g c =
     let d = g.S.Store.documents c.args.store.now in
     let command = g.E.Edit.command c.args.edit c.args.id in
-    let there = sym (c.in-Ok-Some.ensures ∙ ap (map.get d.submodels) c.as_str.ensures.bytes) ∙ c.in-Ok-Some.field-0-is in
+    let there =
+    sym (c.in-Ok-Some.ensures ∙ ap (map.get d.submodels) c.as_str.ensures.bytes) ∙ c.in-Ok-Some.field-0-is in
     c.put.ensures command
     (subst (λ (s : Submodel). Makes d command (submodel s)) (sym c.in-Ok.ensures.ok.1)
     (makes_one d command c.args.id _ _ (g.met.E.Edit.edits c.args.edit c.args.id d) _ there c.in-Ok.ensures.ok.0))
@@ -32,6 +35,8 @@ pub returns : goal.returns
 returns g c =
     let d = g.S.Store.documents c.args.store.now in
     let command = g.E.Edit.command c.args.edit c.args.id in
-    let there = sym (c.in-Ok-Some.ensures ∙ ap (map.get d.submodels) c.as_str.ensures.bytes) ∙ c.in-Ok-Some.field-0-is in
+    let there =
+    sym (c.in-Ok-Some.ensures ∙ ap (map.get d.submodels) c.as_str.ensures.bytes) ∙ c.in-Ok-Some.field-0-is in
     subst (λ (o : Decision). IsDecision c.args.has_room d command d o) (sym c.decision_of.ensures)
-    (is_refused d command c.args.id _ _ (g.met.E.Edit.edits c.args.edit c.args.id d) _ d _ c.in-Err-make.refusal there c.in-Err-make.ensures.err refl)
+    (is_refused d command c.args.id _ _
+    (g.met.E.Edit.edits c.args.edit c.args.id d) _ d _ c.in-Err-make.refusal there c.in-Err-make.ensures.err refl)

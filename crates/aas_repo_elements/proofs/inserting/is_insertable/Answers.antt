@@ -10,5 +10,6 @@ returns g c = λ is.
     (with_role c.args.element.now c.args.role) c.args.role (option_copied c.lead_of-lead.result)
     c.inserted_elements_have_the_faults.ensures.alone c.edits_keep_valid.ensures c.edits_count.ensures
     c.requires.valid c.requires.clear c.requires.whole c.requires.role refl c.requires.parent
-    (c.is_named_in_list.ensures c.if-is_named_in_list.false) (c.has_space.ensures c.if-not-has_space.false) c.lead_of-lead.ensures
+    (c.is_named_in_list.ensures c.if-is_named_in_list.false)
+    (c.has_space.ensures c.if-not-has_space.false) c.lead_of-lead.ensures
     (c.in_ok-is_faultless_in_role.ensures is)

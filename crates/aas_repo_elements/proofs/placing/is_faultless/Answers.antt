@@ -8,6 +8,7 @@ pub returns : goal.returns
 returns c = elim c.match-branch-2.branch [
   | in-Some w ↦ rw w.result-is (λ is. absurd (cc))
   | in-None w ↦ rw w.result-is (λ is.
-      is_faultless c.args.parent.now c.as_ref-above.result (option_copied c.args.lead) c.args.element.now c.as_ref-above.ensures.value
+      is_faultless c.args.parent.now c.as_ref-above.result
+      (option_copied c.args.lead) c.args.element.now c.as_ref-above.ensures.value
       (λ b new lead. sym w.in-None.is ∙ c.in_ok-check_child.ensures b new lead))
 ]

@@ -12,4 +12,5 @@ own_role e r is = sym (roll-out-Element e) ∙ ap (λ x. roll-Element (record (o
 
 pub returns-then-eq : goal.returns-then-eq
 returns-then-eq c = λ is.
-    subst (IsFaultless c.args.parent.now (option_copied c.args.lead)) (own_role c.args.element.now c.args.role (search rules)) (c.in_ok-is_faultless.ensures is)
+    subst (IsFaultless c.args.parent.now (option_copied c.args.lead))
+    (own_role c.args.element.now c.args.role (search rules)) (c.in_ok-is_faultless.ensures is)

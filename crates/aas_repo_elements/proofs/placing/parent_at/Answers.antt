@@ -8,14 +8,16 @@ pub returns-then-is_empty-clause-found : goal.returns-then-is_empty-clause-found
 returns-then-is_empty-clause-found g c =
     let s = g.T.Table.kept c.args.table.now in
     let p = c.args.path.now.steps in
-    is_parent s p _ c.head.result.now c.head.ensures c.is_template-in_template.ensures (submodel_above s p (c.is_empty.ensures.0 c.if-is_empty.true))
+    is_parent s p _ c.head.result.now c.head.ensures c.is_template-in_template.ensures
+    (submodel_above s p (c.is_empty.ensures.0 c.if-is_empty.true))
 
 pub returns-in_ok-element-in-Ok-clause-found : goal.returns-in_ok-element-in-Ok-clause-found
 returns-in_ok-element-in-Ok-clause-found g c =
     let s = g.T.Table.kept c.args.table.now in
     let p = c.args.path.now.steps in
     is_parent s p _ c.head.result.now c.head.ensures c.is_template-in_template.ensures
-    (above_by_row s p c.in-Ok.row c.in_ok-element-in-Ok.element (λ none. true≢false (sym (c.is_empty.ensures.1 none) ∙ c.if-is_empty.false))
+    (above_by_row s p c.in-Ok.row c.in_ok-element-in-Ok.element (λ none.
+    true≢false (sym (c.is_empty.ensures.1 none) ∙ c.if-is_empty.false))
     c.in-Ok.ensures.found c.in_ok-element-in-Ok.ensures.line)
 
 pub returns-in-Err-clause-lost : goal.returns-in-Err-clause-lost

@@ -5,5 +5,6 @@ use Rattle.aas_repo_elements.proofs.replacing.replace_element.Goals as goal
 
 pub returns : goal.returns
 returns g c =
-    subst (λ e. IsDecision c.args.has_room (g.S.Store.documents c.args.store.now) (ReplaceElement c.args.id c.args.path e)
+    subst (λ e.
+    IsDecision c.args.has_room (g.S.Store.documents c.args.store.now) (ReplaceElement c.args.id c.args.path e)
     (g.S.Store.documents c.make_edit.new.store) c.make_edit.result) c.into_inner-element.ensures c.make_edit.ensures

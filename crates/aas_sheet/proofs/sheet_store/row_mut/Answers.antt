@@ -11,8 +11,10 @@ returns-in-Some c =
     let a = c.args in
     let s = c.in-Some.sheet.now in
     let is = sym c.in-Some.ensures.value in (
-      same_read c.row_mut.result _ (holding_row a.store.now a.id.now a.rank) _ _ (left_holding a.store.now a.id.now a.rank s is) (left_same a.store.now a.id.now s is),
-      row_in c.row_mut.result (λ (r : MutBor Row). r.now) (documents a.store.now).submodels a.id.now a.rank s (there a.store.now a.id.now _ is) c.row_mut.ensures.row,
+      same_read c.row_mut.result _ (holding_row a.store.now a.id.now a.rank) _ _
+          (left_holding a.store.now a.id.now a.rank s is) (left_same a.store.now a.id.now s is),
+      row_in c.row_mut.result (λ (r : MutBor Row). r.now) (documents a.store.now).submodels a.id.now a.rank s
+          (there a.store.now a.id.now _ is) c.row_mut.ensures.row,
     )
 
 pub returns-in-None : goal.returns-in-None

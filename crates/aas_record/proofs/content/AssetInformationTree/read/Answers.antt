@@ -5,4 +5,5 @@ use Rattle.aas_record.proofs.Canonical.{answers, at_limits}
 use Rattle.aas_record.proofs.content.AssetInformationTree.read.Goals as goal
 
 pub returns-clause-answered : goal.returns-clause-answered
-returns-clause-answered c = answers asset_informations AnyShape asset_informations_laws _ at_limits _ _ c.read_asset_information.ensures.each
+returns-clause-answered c =
+    answers asset_informations AnyShape asset_informations_laws _ at_limits _ _ c.read_asset_information.ensures.each

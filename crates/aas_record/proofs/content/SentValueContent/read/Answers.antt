@@ -21,12 +21,14 @@ returns-then-eq c =
 
 pub returns-else-eq : goal.returns-else-eq
 returns-else-eq c =
-    written_otherwise _ _ c.new-value.result (c.in-Ok.ensures ∙ ap Some (sym c.new-value.ensures)) (c.as_slice.ensures.value ∙ c.in_ok-text.ensures.text)
+    written_otherwise _ _ c.new-value.result (c.in-Ok.ensures ∙ ap Some (sym c.new-value.ensures))
+    (c.as_slice.ensures.value ∙ c.in_ok-text.ensures.text)
     (other_text _ _ (sym c.if-eq.false ∙ c.eq.ensures))
 
 pub returns-then-not-has_whole_numbers : goal.returns-then-not-has_whole_numbers
 returns-then-not-has_whole_numbers c =
-    not_whole _ c.new-value.result (c.in-Ok.ensures ∙ ap Some (sym c.new-value.ensures)) c.if-not-has_whole_numbers.ensures
+    not_whole _ c.new-value.result
+    (c.in-Ok.ensures ∙ ap Some (sym c.new-value.ensures)) c.if-not-has_whole_numbers.ensures
 
 pub returns-in-Err-NotJson : goal.returns-in-Err-NotJson
 returns-in-Err-NotJson c = unread _ (search rules)

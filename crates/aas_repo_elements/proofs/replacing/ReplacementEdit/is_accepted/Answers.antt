@@ -10,5 +10,6 @@ pub returns-in-Err-clause-refused : goal.returns-in-Err-clause-refused
 unfolding IsWellFormed
 returns-in-Err-clause-refused g c = λ other.
     let p = c.args.self.now.path.steps in
-    is_missing_at (g.T.Table.kept c.args.table.now) p c.in-Err.missing.steps _ _ (some_steps p c.requires.well_formed.1.0) c.in-Err.ensures.found.0
+    is_missing_at (g.T.Table.kept c.args.table.now) p c.in-Err.missing.steps _ _
+    (some_steps p c.requires.well_formed.1.0) c.in-Err.ensures.found.0
     c.in-Err.ensures.found.1 c.not_found.ensures other

@@ -13,7 +13,8 @@ replace-requires c = some_steps c.args.self.path.steps c.requires.1.0
 pub returns-in-Ok-clause-ok : goal.returns-in-Ok-clause-ok
 unfolding IsWellFormed
 returns-in-Ok-clause-ok c = (
-  replaces c.args.submodel.now c.args.self.path.steps c.args.self.element (some_steps c.args.self.path.steps c.requires.1.0)
+  replaces c.args.submodel.now c.args.self.path.steps c.args.self.element
+      (some_steps c.args.self.path.steps c.requires.1.0)
       (λ m is. let never = (c.in-Ok.ensures.missing m).1 is in absurd (cc))
       (λ is. let never = c.in-Ok.ensures.not_a_container.1 is in absurd (cc)),
   c.in-Ok.ensures.done,
@@ -22,11 +23,14 @@ returns-in-Ok-clause-ok c = (
 pub returns-in-Ok-clause-whole : goal.returns-in-Ok-clause-whole
 unfolding IsWellFormed
 returns-in-Ok-clause-whole c = λ whole.
-    let none = replaces c.args.submodel.now c.args.self.path.steps c.args.self.element (some_steps c.args.self.path.steps c.requires.1.0)
+    let none =
+    replaces c.args.submodel.now c.args.self.path.steps c.args.self.element
+    (some_steps c.args.self.path.steps c.requires.1.0)
     (λ m is. let never = (c.in-Ok.ensures.missing m).1 is in absurd (cc))
     (λ is. let never = c.in-Ok.ensures.not_a_container.1 is in absurd (cc)) in
     subst (λ s. is_whole_submodel limits s ≡ true) (sym c.in-Ok.ensures.done)
-    (replacement_keeps_whole c.requires.0 c.args.self.path c.args.self.element c.args.submodel.now c.requires.1 none whole)
+    (replacement_keeps_whole c.requires.0 c.args.self.path
+    c.args.self.element c.args.submodel.now c.requires.1 none whole)
 
 pub returns-in-Err-Missing-clause-err : goal.returns-in-Err-Missing-clause-err
 returns-in-Err-Missing-clause-err c = λ other.
