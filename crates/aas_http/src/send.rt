@@ -4,8 +4,7 @@ ghost use Rattle.std.specs.Io.KnownBytes.{append_known};
 ghost use Rattle.aas_http.specs.ReplyText.{phrase, status_line, content_fields, allow_field, connection_field};
 ghost use Rattle.aas_http.specs.ReplyText.{body_bytes, reply_text};
 ghost use Rattle.aas_out.specs.Adds.{Adds};
-ghost use Rattle.aas_outside.specs.Faults.{HasCause};
-ghost use Rattle.aas_outside.specs.Link.{GivesFront};
+ghost use Rattle.aas_outside.specs.Link.{GivesFront, OnlyGives};
 
 use crate::Reply;
 use aas_out::{Out, PieceBuffer, Pour, Pouring, add, give_poured};
@@ -15,11 +14,10 @@ use itoa::Buffer;
 /// Gives the text of a reply, up to 8,192 bytes of it at once. Where the link fails a front of the
 /// text was given. It takes no memory.
 pub fn reply<L: Link>(reply: &Reply, link: &mut L) -> Result<(), Failed>
-    ensures given { OnOk result (L.sent link.new ≡ append_known (L.sent link.old) (reply_text reply.now)) }
-    ensures front { OnErr result (GivesFront (L.sent link.old) (L.sent link.new) (reply_text reply.now)) }
-    ensures surroundings { L.surroundings link.new ≡ L.surroundings link.old }
-    ensures left { L.left link.new ≡ L.left link.old }
-    ensures cause { HasCause (L.faults link.old) (L.faults link.new) result }
+    ensures given { OnOk result ((L.state link.new).sent ≡
+        append_known (L.state link.old).sent (reply_text reply.now)) }
+    ensures front { OnErr result (GivesFront (L.state link.old).sent (L.state link.new).sent (reply_text reply.now)) }
+    ensures call { OnlyGives (L.state link.old) (L.state link.new) result }
 {
     give_poured(reply, link, &mut PieceBuffer::new())
 }

@@ -9,6 +9,7 @@ use Rattle.std.specs.declared.result.Result.{Result}
 use Rattle.std.specs.Prelude.{Ok, Err, OnOk, OnErr, IsErr}
 use Rattle.aas_outside.specs.Faults.{HasCause, Rose}
 use Rattle.aas_outside.specs.Link.{GivesFront}
+use Rattle.aas_outside.specs.Link.{LinkState}
 use Rattle.aas_outside.specs.Surroundings.{Surroundings}
 use Rattle.aas_outside.proofs.KnownBytes.{append_known-more}
 use Rattle.aas_out.specs.Held.{held_by, HoldsNothing}
@@ -126,9 +127,8 @@ pub on_err : {T E P : Type 0} (result : Result T E) → P → OnErr result P
 on_err (Ok v) p = tt
 on_err (Err e) p = p
 
-module _ {X : Type 0} (sent : X → Option (List ℕ)) (faults : X → ℕ)
-    (left : X → Option (List ℕ)) (around : X → Surroundings) where
-  -- what is told of a link and of what is held for it
-  abbrev pub told_of : MutBor X → List ℕ → Told LinkKept
-  told_of link held =
-      holding_told (sent link.now) held (faults link.now) (link_kept link.ghost_name (left link.now) (around link.now))
+-- what is told of a link and of what is held for it
+abbrev pub told_of : {X : Type 0} → (X → LinkState) → MutBor X → List ℕ → Told LinkKept
+told_of state link held =
+    let it = state link.now in
+    holding_told it.sent held it.faults (link_kept link.ghost_name it.left it.surroundings)

@@ -1,6 +1,7 @@
 -- What an end over a link tells. This profile's own rule.
 use Rattle.std.specs.Prelude.{ℕ, List, Option, None}
 use Rattle.std.specs.Io.KnownBytes.{append_known}
+use Rattle.aas_outside.specs.Link.{LinkState}
 use Rattle.aas_outside.specs.Surroundings.{Surroundings}
 use Rattle.aas_out.specs.declared.buffered.BufferOut.{BufferOut}
 use Rattle.aas_out.specs.Held.{held_by}
@@ -27,8 +28,7 @@ holding_told sent held faults kept =
     record { sent = append_known sent held; gone = sent; count = None; faults = faults; kept = kept }
 
 -- What an end tells that gathers what is put for a link, by what the link tells.
-abbrev pub told_by : {L : Type 0}
-    → (L → Option (List ℕ)) → (L → ℕ) → (L → Option (List ℕ)) → (L → Surroundings) → BufferOut L → Told LinkKept
-told_by sent faults left around out =
-    holding_told (sent out.link.now) (held_by out) (faults out.link.now)
-    (link_kept out.link.ghost_name (left out.link.now) (around out.link.now))
+abbrev pub told_by : {L : Type 0} → (L → LinkState) → BufferOut L → Told LinkKept
+told_by state out =
+    let link = state out.link.now in
+    holding_told link.sent (held_by out) link.faults (link_kept out.link.ghost_name link.left link.surroundings)

@@ -1,7 +1,7 @@
 // The end over a link that gathers what is put.
 ghost use Rattle.std.specs.Prelude.{◌≡◌, ◌≤◌, ◌+◌, [], ◌++◌, length, true, OnOk, if◌then◌else◌};
 ghost use Rattle.std.specs.Io.KnownBytes.{append_known};
-ghost use Rattle.aas_outside.specs.Faults.{HasCause};
+ghost use Rattle.aas_outside.specs.Link.{OnlyGives};
 ghost use Rattle.aas_out.specs.Told.{Grows, Puts};
 
 use crate::Out;
@@ -63,12 +63,10 @@ impl<'a, L: Link> BufferOut<'a, L> {
     pub fn flush(&mut self) -> Result<(), Failed>
         ensures same_reference { self.new.link.ghost_name ≡ self.old.link.ghost_name }
         ensures empty { OnOk result (HoldsNothing self.new) }
-        ensures sent { append_known (L.sent self.new.link.now) (held_by self.new)
-            ≡ append_known (L.sent self.old.link.now) (held_by self.old) }
-        ensures more { Grows (L.sent self.old.link.now) (L.sent self.new.link.now) }
-        ensures surroundings { L.surroundings self.new.link.now ≡ L.surroundings self.old.link.now }
-        ensures left { L.left self.new.link.now ≡ L.left self.old.link.now }
-        ensures cause { HasCause (L.faults self.old.link.now) (L.faults self.new.link.now) result }
+        ensures sent { append_known (L.state self.new.link.now).sent (held_by self.new)
+            ≡ append_known (L.state self.old.link.now).sent (held_by self.old) }
+        ensures more { Grows (L.state self.old.link.now).sent (L.state self.new.link.now).sent }
+        ensures call { OnlyGives (L.state self.old.link.now) (L.state self.new.link.now) result }
     {
         while self.given < self.held.len() {
             self.given += self.link.give(&self.held.as_slice()[self.given..])?;
@@ -96,8 +94,8 @@ impl<'a, L: Link> BufferOut<'a, L> {
     #[cold]
     #[inline(never)]
     fn put_past(&mut self, bytes: &[u8]) -> Result<(), Failed>
-        ensures { Puts (told_by L.sent L.faults L.left L.surroundings self.old)
-            (told_by L.sent L.faults L.left L.surroundings self.new) result bytes.now }
+        ensures { Puts (told_by L.state self.old)
+            (told_by L.state self.new) result bytes.now }
     {
         self.flush()?;
         if self.hold(bytes) {
@@ -112,7 +110,7 @@ impl<'a, L: Link> Out for BufferOut<'a, L> {
 
     ghost Kept = { LinkKept };
 
-    ghost told = { told_by L.sent L.faults L.left L.surroundings };
+    ghost told = { told_by L.state };
 
     #[inline(always)]
     fn put(&mut self, bytes: &[u8]) -> Result<(), Failed> {

@@ -14,8 +14,8 @@ impl<'a, L: Link> Out for LinkOut<'a, L> {
 
     ghost Kept = { LinkKept };
 
-    ghost told = { λ out. link_told (L.sent out.link.now) (L.faults out.link.now)
-        (link_kept out.link.ghost_name (L.left out.link.now) (L.surroundings out.link.now)) };
+    ghost told = { λ out. let link = L.state out.link.now in
+        link_told link.sent link.faults (link_kept out.link.ghost_name link.left link.surroundings) };
 
     fn put(&mut self, bytes: &[u8]) -> Result<(), Failed> {
         give_all(self.link, bytes)

@@ -1,8 +1,7 @@
 // Texts that are put into an end.
 ghost use Rattle.std.specs.Prelude.{◌≡◌, ◌^◌, ℕ, List, length, nat_lt, Some, None, if◌then◌else◌, OnOk, OnErr};
 ghost use Rattle.std.specs.Io.KnownBytes.{append_known};
-ghost use Rattle.aas_outside.specs.Faults.{HasCause};
-ghost use Rattle.aas_outside.specs.Link.{GivesFront};
+ghost use Rattle.aas_outside.specs.Link.{GivesFront, OnlyGives};
 ghost use Rattle.aas_out.specs.Told.{Puts};
 
 use crate::{BufferOut, CountOut, Out, PieceBuffer};
@@ -33,11 +32,9 @@ pub fn give_poured<P: Pour, L: Link>(
     link: &mut L,
     buffer: &mut PieceBuffer,
 ) -> Result<(), Failed>
-    ensures given { OnOk result (L.sent link.new ≡ append_known (L.sent link.old) (P.text text.now)) }
-    ensures front { OnErr result (GivesFront (L.sent link.old) (L.sent link.new) (P.text text.now)) }
-    ensures surroundings { L.surroundings link.new ≡ L.surroundings link.old }
-    ensures left { L.left link.new ≡ L.left link.old }
-    ensures cause { HasCause (L.faults link.old) (L.faults link.new) result }
+    ensures given { OnOk result ((L.state link.new).sent ≡ append_known (L.state link.old).sent (P.text text.now)) }
+    ensures front { OnErr result (GivesFront (L.state link.old).sent (L.state link.new).sent (P.text text.now)) }
+    ensures call { OnlyGives (L.state link.old) (L.state link.new) result }
 {
     let mut out = BufferOut::new(link, buffer);
     text.pour(&mut out)?;

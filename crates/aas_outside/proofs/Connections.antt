@@ -13,8 +13,9 @@ use Rattle.aas_outside.specs.declared.memory_visit.MemVisit.{MemVisit}
 use Rattle.aas_outside.specs.declared.visit.NextVisit.{NextVisit}
 use Rattle.aas_outside.specs.declared.visit.NextVisit.TheVariants.{New, Again, NoneLeft}
 use Rattle.aas_outside.specs.MemVisit.{is_below, number, visits_from, AreReady, BecamePresent, BeginsFirst}
-use Rattle.aas_outside.specs.MemWire.{MemWireState, clients_behind, left_on, sent_on, connections_of}
-use Rattle.aas_outside.specs.Surroundings.{Visit, Begins, BeginsVisit, to_first, open_visits, sent_on_all}
+use Rattle.aas_outside.specs.MemWire.{MemWireState, clients_behind, left_on, link_state, sent_on, connections_of}
+use Rattle.aas_outside.specs.Surroundings.{Visit, to_first, open_visits, sent_on_all}
+use Rattle.aas_outside.specs.Wire.{Begins, BeginsVisit}
 
 -- ---- a visit more
 
@@ -221,7 +222,7 @@ is_open may_begin now calls before ended dropped b e d = record {
 begins_visit : (may_begin : Bool) (old dropped new : MemWireState) (v : Visit) (rest : List Visit) (clients now : ℕ)
     → IsOpen may_begin old dropped → clients ≡ now → BecamePresent dropped new v rest clients
     → BeginsVisit (connections_of old) (sent_on old.present) v rest now
-    (Some (connections_of new)) (Some (left_on new.present)) (Some (sent_on new.present))
+    (link_state new)
 begins_visit may_begin old dropped new v rest clients now is same B = record {
   connections =
       ap (λ (w : MemWireState). Some (connections_of w)) B.new_is
@@ -252,8 +253,7 @@ new_where_asked false old dropped new NoneLeft is B closed new_is = let e : ⊥ 
 
 pub begins : (may_begin : Bool) (old dropped new : MemWireState) (next : NextVisit)
     → IsOpen may_begin old dropped → BeginsFirst dropped new next
-    → Begins (connections_of old) (sent_on old.present) may_begin (Some (connections_of new))
-    (Some (left_on new.present)) (Some (sent_on new.present)) next
+    → Begins (connections_of old) (sent_on old.present) may_begin (link_state new) next
 begins true old dropped new New is (v, rest, number_is, B) = (
   v,
   rest,

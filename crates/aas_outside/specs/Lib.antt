@@ -1,5 +1,6 @@
 pub mod Faults
 pub mod Frame
+pub mod Keeper
 pub mod Link
 pub mod MemCalls
 pub mod MemConnection
@@ -10,3 +11,4 @@ pub mod MemVisit
 pub mod MemWire
 pub mod Moments
 pub mod Surroundings
+pub mod Wire

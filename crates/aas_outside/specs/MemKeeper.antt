@@ -2,6 +2,7 @@
 use Rattle.std.specs.Prelude.{◌≡◌, ℕ, ◌+◌, ◌^◌, Bool, ◌&&◌, nat_lt, nat_le, List, length, take, drop, [], ◌∷◌, sum_by}
 use Rattle.std.specs.Prelude.{Result, MatchResult}
 use Rattle.aas_outside.specs.Faults.{one_more}
+use Rattle.aas_outside.specs.Keeper.{KeeperState}
 use Rattle.aas_outside.specs.MemCalls.{MemCallsState, called}
 
 pub record MemKeeperState : Type 0 where
@@ -33,6 +34,17 @@ is_all keeper payloads = payloads ≡ keeper.payloads
 
 abbrev pub clock : MemKeeperState → ℕ
 clock keeper = length keeper.payloads
+
+-- what it tells
+abbrev pub keeper_state : MemKeeperState → KeeperState (List (List ℕ))
+keeper_state keeper = record {
+  kept = is_all keeper;
+  room_behind = has_room_behind keeper.capacity;
+  has_room = has_room_behind keeper.capacity keeper.payloads;
+  moment = clock keeper;
+  left_at = kept_at keeper;
+  faults = keeper.faults;
+}
 
 -- bytes cut into pieces of these lengths, one after another
 abbrev pub pieces : List ℕ → List ℕ → List (List ℕ)

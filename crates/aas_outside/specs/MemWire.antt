@@ -1,6 +1,7 @@
 -- A wire in memory, as its callers see it. This profile's own rule.
 use Rattle.std.specs.Prelude.{◌≡◌, ◌+◌, ℕ, max, List, [], ◌∷◌, ◌++◌, Option, Some, None, is_some, Result, MatchResult}
 use Rattle.aas_outside.specs.Faults.{one_more}
+use Rattle.aas_outside.specs.Link.{LinkState}
 use Rattle.aas_outside.specs.MemCalls.{MemCallsState, called}
 use Rattle.aas_outside.specs.MemConnection.{MemConnectionState}
 use Rattle.aas_outside.specs.Surroundings.{Visit, Connections, Surroundings}
@@ -41,6 +42,15 @@ connections_of wire =
 abbrev pub surroundings_of : MemWireState → Surroundings
 surroundings_of wire =
     record { connections = Some (connections_of wire); clients = wire.clients; faults = wire.wire_faults }
+
+-- what it tells
+abbrev pub link_state : MemWireState → LinkState
+link_state wire = record {
+  left = Some (left_on wire.present);
+  sent = Some (sent_on wire.present);
+  faults = wire.faults;
+  surroundings = surroundings_of wire;
+}
 
 -- where so many clients were begun, how many are when these visits are made too
 abbrev pub clients_behind : ℕ → List Visit → ℕ

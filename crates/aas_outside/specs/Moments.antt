@@ -1,5 +1,5 @@
 -- What a stop may leave of a keeper, moment by moment. An image is what it leaves. This profile's own rule.
-use Rattle.std.specs.Prelude.{◌⊎◌, ◌↔◌, ◌≤◌, ℕ, List, [], ◌∷◌, ◌++◌, Result, MatchResult}
+use Rattle.std.specs.Prelude.{◌⊎◌, ◌↔◌, ◌≤◌, ℕ, List, [], ◌∷◌, ◌++◌}
 
 -- At each moment from one to another a stop leaves an image of these payloads, or of these and more.
 abbrev pub During : {I : Type 0}
@@ -28,13 +28,3 @@ pub record IsSettled {I : Type 0} (stands_for : I → List (List ℕ) → Type 0
     (moment : ℕ) (left_at : ℕ → I → Type 0) (payloads : List (List ℕ)) : Type 0 where
   pub told : kept payloads
   pub alone : (image : I) → left_at moment image → stands_for image payloads
-
--- A call on a settled keeper adds the payload in turn. Where it fails a stop may leave it or not.
-abbrev pub KeepsInTurn : {K I T E : Type 0}
-    → (I → List (List ℕ) → Type 0) → (K → List (List ℕ) → Type 0) → (K → ℕ) → (K → ℕ → I → Type 0)
-    → (old new : K) → List ℕ → Result T E → Type 0
-KeepsInTurn stands_for kept moment left_at old new payload result =
-    (payloads : List (List ℕ))
-    → IsSettled stands_for (kept old) (moment old) (left_at old) payloads → MatchResult result
-    (λ _. InTurn stands_for (left_at new) (moment old) (moment new) payloads (payload ∷ []) [])
-    (λ _. InTurn stands_for (left_at new) (moment old) (moment new) payloads [] (payload ∷ []))

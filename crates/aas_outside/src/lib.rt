@@ -2,8 +2,8 @@
 //! clients that are visited one after another, keepers of payloads, and an end of each sort in memory.
 //!
 //! An end that fails says so by [`Failed`] and by its count of faults; a keeper that keeps a payload
-//! leaves its count as it was. What an end tells of its bytes, and that count, are ghost members of its
-//! trait: contracts of the layers above speak of them, and of no file, console or socket.
+//! leaves its count as it was. What an end tells is one record, a ghost member of its
+//! trait: contracts of the layers above speak of it, and of no file, console or socket.
 //!
 //! What is said over these ends stands in the crates above, and the real ones in the program.
 //!

@@ -1,10 +1,8 @@
 // A keeper in memory, for tests: its payloads, and the calls that fail.
-ghost use Rattle.std.specs.Prelude.{◌≡◌, ◌≤◌, ◌+◌, ◌↔◌, ◌++◌, [], ◌∷◌, List, ℕ, IfOk, OnOk, IsErr, IsTrue};
-ghost use Rattle.std.specs.Prelude.{MatchResult, length};
-ghost use Rattle.aas_outside.specs.Faults.{HasCause};
+ghost use Rattle.std.specs.Prelude.{◌≡◌, ◌≤◌, ◌+◌, ◌↔◌, ◌++◌, [], ◌∷◌, IfOk, IsErr, IsTrue, MatchResult, length};
+ghost use Rattle.aas_outside.specs.Keeper.{IsKeeperCall, KeepsBehind, KeepsInTurn};
 ghost use Rattle.aas_outside.specs.MemCalls.{IsNextFailing};
-ghost use Rattle.aas_outside.specs.MemKeeper.{has_room_behind, is_all, clock, kept_at, IsKeepCall};
-ghost use Rattle.aas_outside.specs.Moments.{Passes, KeepsInTurn};
+ghost use Rattle.aas_outside.specs.MemKeeper.{has_room_behind, keeper_state, IsKeepCall};
 
 use crate::memory_calls::MemCalls;
 use crate::reserved::append_reserved;
@@ -81,24 +79,14 @@ impl MemKeeper {
 
 impl Keeper for MemKeeper {
     ghost use Rattle.std.specs.Prelude.{◌≡◌, List, ℕ};
-    ghost use Rattle.aas_outside.specs.MemKeeper.{has_room_behind, is_all, clock, kept_at};
+    ghost use Rattle.aas_outside.specs.MemKeeper.{keeper_state};
     ghost use Rattle.aas_outside.specs.MemKeeperLaw.{limit_law, room_law};
 
     ghost Image = { List (List ℕ) };
 
     ghost stands_for = { λ image payloads. image ≡ payloads };
 
-    ghost kept = { is_all };
-
-    ghost room_behind = { λ keeper. has_room_behind keeper.capacity };
-
-    ghost has_room = { λ keeper. has_room_behind keeper.capacity keeper.payloads };
-
-    ghost moment = { clock };
-
-    ghost left_at = { kept_at };
-
-    ghost faults = { λ keeper. keeper.faults };
+    ghost state = { keeper_state };
 
     ghost room_by_payloads = { room_law };
 
@@ -111,14 +99,10 @@ impl Keeper for MemKeeper {
 
     fn keep(&mut self, frame: &Frame) -> Result<(), Failed>
         requires { IsTrue (has_room_behind self.old.capacity self.old.payloads (length frame.now)) }
-        ensures kept { (payloads : List (List ℕ)) → is_all self.old payloads →
-            OnOk result (is_all self.new (payloads ++ frame.now ∷ [])) }
-        ensures in_turn { KeepsInTurn
-            (λ image payloads. image ≡ payloads) is_all clock kept_at self.old self.new frame.now result }
-        ensures past { Passes (clock self.old) (kept_at self.old) (clock self.new) (kept_at self.new) }
-        ensures room { has_room_behind self.new.capacity ≡ has_room_behind self.old.capacity }
-        ensures cause { HasCause self.old.faults self.new.faults result }
-        ensures calm { OnOk result (self.new.faults ≡ self.old.faults) }
+        ensures kept { KeepsBehind (keeper_state self.old) (keeper_state self.new) frame.now result }
+        ensures in_turn { KeepsInTurn (λ image payloads. image ≡ payloads)
+            (keeper_state self.old) (keeper_state self.new) frame.now result }
+        ensures call { IsKeeperCall (keeper_state self.old) (keeper_state self.new) result }
         ensures called { IsKeepCall self.old self.new result }
         ensures fails { IsErr result ↔ IsNextFailing self.old.calls }
         ensures payloads { MatchResult result (λ _. self.new.payloads ≡ self.old.payloads ++ frame.now ∷ [])

@@ -1,10 +1,9 @@
 // A link in memory, for tests: its input, what was given to it, and the calls that fail.
-ghost use Rattle.std.specs.Prelude.{◌≡◌, ◌<◌, ◌≤◌, ◌-◌, ◌⊎◌, ◌↔◌, [], Some, length, min, IfOk, IsErr, MatchResult};
-ghost use Rattle.aas_outside.specs.Faults.{HasCause};
-ghost use Rattle.aas_outside.specs.Link.{Takes, Gives};
+ghost use Rattle.std.specs.Prelude.{◌≡◌, ◌<◌, ◌≤◌, ◌-◌, ◌⊎◌, ◌↔◌, [], length, min, IfOk, IsErr, MatchResult};
+ghost use Rattle.aas_outside.specs.Link.{Takes, Gives, OnlyTakes, OnlyGives};
 ghost use Rattle.aas_outside.specs.MemCalls.{IsNextFailing};
 ghost use Rattle.aas_outside.specs.MemConnection.{taken_count};
-ghost use Rattle.aas_outside.specs.MemLink.{IsCalled};
+ghost use Rattle.aas_outside.specs.MemLink.{IsCalled, link_state};
 
 use crate::memory_calls::MemCalls;
 use crate::memory_connection::MemConnection;
@@ -76,16 +75,13 @@ impl MemLink {
 }
 
 impl Link for MemLink {
-    ghost left = { λ link. Some link.connection.left };
+    ghost use Rattle.aas_outside.specs.MemLink.{link_state};
 
-    ghost sent = { λ link. Some link.connection.sent };
-
-    ghost faults = { λ link. link.faults };
+    ghost state = { link_state };
 
     fn take(&mut self, buf: &mut [u8]) -> Result<usize, Failed>
-        ensures taken { Takes (Some self.old.connection.left) (Some self.new.connection.left) result buf.new }
-        ensures sent { self.new.connection.sent ≡ self.old.connection.sent }
-        ensures cause { HasCause self.old.faults self.new.faults result }
+        ensures taken { Takes (link_state self.old).left (link_state self.new).left result buf.new }
+        ensures call { OnlyTakes (link_state self.old) (link_state self.new) result }
         ensures called { IsCalled self.old self.new result }
         ensures fails { IsErr result ↔ IsNextFailing self.old.calls }
         ensures count { IfOk result (λ n. n ≡ taken_count self.old.connection self.old.piece (length buf.old)) }
@@ -99,9 +95,8 @@ impl Link for MemLink {
     }
 
     fn give(&mut self, bytes: &[u8]) -> Result<usize, Failed>
-        ensures given { Gives (Some self.old.connection.sent) (Some self.new.connection.sent) result bytes.now }
-        ensures left { self.new.connection.left ≡ self.old.connection.left }
-        ensures cause { HasCause self.old.faults self.new.faults result }
+        ensures given { Gives (link_state self.old).sent (link_state self.new).sent result bytes.now }
+        ensures call { OnlyGives (link_state self.old) (link_state self.new) result }
         ensures called { IsCalled self.old self.new result }
         ensures fails { IsErr result ↔ (IsNextFailing self.old.calls
             ⊎ (self.old.connection.room < min self.old.piece (length bytes.now))) }

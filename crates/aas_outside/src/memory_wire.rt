@@ -1,16 +1,15 @@
 // A wire in memory, for tests: its visits, what was sent on each of them, and the calls that fail.
-ghost use Rattle.std.specs.Prelude.{◌≡◌, ◌<◌, ◌≤◌, ◌-◌, ◌⊎◌, ◌↔◌, ◌≢◌, [], false, None, Some, Ok, length, min, IfOk};
+ghost use Rattle.std.specs.Prelude.{◌≡◌, ◌<◌, ◌≤◌, ◌-◌, ◌⊎◌, ◌↔◌, [], None, length, min, IfOk};
 ghost use Rattle.std.specs.Prelude.{OnOk, OnErr, IsErr, MatchResult, slice_get};
 ghost use Rattle.std.specs.List.{filter};
 ghost use Rattle.std.specs.Option.{option_map};
-ghost use Rattle.aas_outside.specs.Faults.{HasCause};
-ghost use Rattle.aas_outside.specs.Link.{Takes, Gives};
+ghost use Rattle.aas_outside.specs.Link.{Takes, Gives, OnlyTakes, OnlyGives};
 ghost use Rattle.aas_outside.specs.MemCalls.{IsNextFailing};
 ghost use Rattle.aas_outside.specs.MemVisit.{BeginsFirst, is_below, number};
-ghost use Rattle.aas_outside.specs.MemWire.{left_on, sent_on, connections_of, surroundings_of, clients_in_all};
+ghost use Rattle.aas_outside.specs.MemWire.{left_on, sent_on, connections_of, link_state, clients_in_all};
 ghost use Rattle.aas_outside.specs.MemWire.{with_visit, IsLinkCall, IsWireCall};
-ghost use Rattle.aas_outside.specs.Surroundings.{BeginsNext, CountsClients, CountsNext, open_visits};
-ghost use Rattle.aas_outside.specs.Surroundings.{sent_on_all, to_first};
+ghost use Rattle.aas_outside.specs.Surroundings.{open_visits, sent_on_all, to_first};
+ghost use Rattle.aas_outside.specs.Wire.{BeginsNext, CountsNext, IsNextCall, Listens};
 
 use crate::memory_calls::MemCalls;
 use crate::memory_connection::MemConnection;
@@ -208,22 +207,13 @@ fn keep_begun(coming: &mut VecDeque<MemVisit>, clients: usize)
 }
 
 impl Link for MemWire {
-    ghost use Rattle.std.specs.Prelude.{Some};
-    ghost use Rattle.aas_outside.specs.MemWire.{left_on, sent_on, surroundings_of};
+    ghost use Rattle.aas_outside.specs.MemWire.{link_state};
 
-    ghost left = { λ wire. Some (left_on wire.present) };
-
-    ghost sent = { λ wire. Some (sent_on wire.present) };
-
-    ghost faults = { λ wire. wire.faults };
-
-    ghost surroundings = { surroundings_of };
+    ghost state = { link_state };
 
     fn take(&mut self, buf: &mut [u8]) -> Result<usize, Failed>
-        ensures taken { Takes (Some (left_on self.old.present)) (Some (left_on self.new.present)) result buf.new }
-        ensures sent { sent_on self.new.present ≡ sent_on self.old.present }
-        ensures surroundings { surroundings_of self.new ≡ surroundings_of self.old }
-        ensures cause { HasCause self.old.faults self.new.faults result }
+        ensures taken { Takes (link_state self.old).left (link_state self.new).left result buf.new }
+        ensures call { OnlyTakes (link_state self.old) (link_state self.new) result }
         ensures called { IsLinkCall self.old self.new result }
         ensures fails { IsErr result ↔ IsNextFailing self.old.calls }
         ensures count { IfOk result (λ n.
@@ -241,10 +231,8 @@ impl Link for MemWire {
     }
 
     fn give(&mut self, bytes: &[u8]) -> Result<usize, Failed>
-        ensures given { Gives (Some (sent_on self.old.present)) (Some (sent_on self.new.present)) result bytes.now }
-        ensures left { left_on self.new.present ≡ left_on self.old.present }
-        ensures surroundings { surroundings_of self.new ≡ surroundings_of self.old }
-        ensures cause { HasCause self.old.faults self.new.faults result }
+        ensures given { Gives (link_state self.old).sent (link_state self.new).sent result bytes.now }
+        ensures call { OnlyGives (link_state self.old) (link_state self.new) result }
         ensures called { IsLinkCall self.old self.new result }
         ensures fails { IsErr result ↔ (IsNextFailing self.old.calls ⊎ ((self.old.present ≡ None)
             ⊎ (self.old.room < min self.old.piece (length bytes.now)))) }
@@ -267,11 +255,7 @@ impl Link for MemWire {
 
 impl Wire for MemWire {
     fn listen(&mut self, _address: &str) -> Result<(), Failed>
-        ensures connections { connections_of self.new ≡ connections_of self.old }
-        ensures clients { self.new.clients ≡ self.old.clients }
-        ensures present { self.new.present ≡ self.old.present }
-        ensures faults { self.new.faults ≡ self.old.faults }
-        ensures cause { HasCause self.old.wire_faults self.new.wire_faults result }
+        ensures listens { Listens (link_state self.old) (link_state self.new) result }
         ensures called { IsWireCall self.old self.new result }
         ensures fails { IsErr result ↔ IsNextFailing self.old.calls }
     {
@@ -283,13 +267,8 @@ impl Wire for MemWire {
     }
 
     fn next(&mut self, may_begin: bool) -> Result<NextVisit, Failed>
-        ensures begins { BeginsNext (Some (connections_of self.old)) may_begin (Some (connections_of self.new))
-            (Some (left_on self.old.present)) (Some (left_on self.new.present))
-            (Some (sent_on self.old.present)) (Some (sent_on self.new.present)) result }
-        ensures asked { may_begin ≡ false → result ≢ Ok NextVisit.New }
-        ensures counted { CountsClients self.old.clients self.new.clients result }
-        ensures faults { self.new.faults ≡ self.old.faults }
-        ensures cause { HasCause self.old.wire_faults self.new.wire_faults result }
+        ensures begins { BeginsNext may_begin (link_state self.old) (link_state self.new) result }
+        ensures call { IsNextCall may_begin (link_state self.old) (link_state self.new) result }
         ensures called { IsWireCall self.old self.new result }
         ensures fails { IsErr result ↔ IsNextFailing self.old.calls }
     {

@@ -2,6 +2,7 @@ mod Crashes
 mod DiskCalls
 mod Follows
 mod Images
+pub mod Later
 mod Ones
 mod Pieces
 mod Records

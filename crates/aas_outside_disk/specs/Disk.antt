@@ -1,8 +1,46 @@
--- What the calls of a disk do to what reads give and to what a stop may leave. This profile's own rule.
+-- What a disk tells, and what its calls do to what reads give and to what a stop may leave. This profile's own rule.
 use Rattle.std.specs.Prelude.{◌≡◌, ℕ, ◌+◌, ◌≤◌, min, max, List, ◌++◌, length, take, drop, Option, Some, None, Result}
 use Rattle.std.specs.Prelude.{OnOk, IfSome}
+use Rattle.aas_outside.specs.Faults.{HasCause, Rose}
+use Rattle.aas_outside.specs.Moments.{Passes}
 use Rattle.aas_outside_disk.specs.declared.part.Part.{Part}
 use Rattle.aas_outside_disk.specs.Files.{Files, file, SameOthers}
+
+pub record DiskState : Type 1 where
+  -- what reads give of each file, where the disk tells it
+  pub seen : Option Files
+  -- its clock
+  pub moment : ℕ
+  -- what a stop at a moment up to now may have left
+  pub left_at : ℕ → Files → Type 0
+  -- how many calls have failed; it stands still at 2^64 - 1
+  pub faults : ℕ
+
+-- a stop now may leave this
+abbrev pub MayLeave : DiskState → Files → Type 0
+MayLeave disk image = disk.left_at disk.moment image
+
+-- time goes on, and what a stop may have left stays
+abbrev pub PassesOn : DiskState → DiskState → Type 0
+PassesOn old new = Passes old.moment old.left_at new.moment new.left_at
+
+-- Time goes on, what a stop may have left stays, and the count of faults never falls.
+pub record IsLater (old new : DiskState) : Type 0 where
+  pub past : PassesOn old new
+  pub faults : old.faults ≤ new.faults
+
+-- Time goes on, and what a stop may have left stays. The count of faults rises where the call fails, and else is as it
+-- was.
+pub record IsDiskCall {T E : Type 0} (old new : DiskState) (result : Result T E) : Type 0 where
+  pub past : PassesOn old new
+  pub cause : HasCause old.faults new.faults result
+  pub calm : OnOk result (new.faults ≡ old.faults)
+
+-- The same of several calls, where this says whether one failed.
+pub record AreDiskCalls (failed : Type 0) (old new : DiskState) : Type 0 where
+  pub past : PassesOn old new
+  pub later : old.faults ≤ new.faults
+  pub rose : failed → Rose old.faults new.faults
 
 -- the bytes stand at this place, and all else is as it was
 abbrev pub written : ℕ → List ℕ → List ℕ → List ℕ
@@ -53,3 +91,19 @@ HoldsWhatIsRead part seen images = IfSome seen (λ files. (c : Files) → images
 abbrev pub Meanwhile : (before now : ℕ)
     → (ℕ → Files → Type 0) → (ℕ → Files → Type 0) → ((Files → Type 0) → (Files → Type 0) → Type 0) → Type 0
 Meanwhile before now old new Change = (t : ℕ) → before ≤ t → t ≤ now → Change (old before) (new t)
+
+-- the same from one state of a disk to another
+abbrev pub Changes : (old new : DiskState) → ((Files → Type 0) → (Files → Type 0) → Type 0) → Type 0
+Changes old new Change = Meanwhile old.moment new.moment old.left_at new.left_at Change
+
+-- What reads give is as before, and no image is added to those that a stop may leave.
+pub record OnlyReads (old new : DiskState) : Type 0 where
+  pub seen : new.seen ≡ old.seen
+  pub images : Changes old new AddsNone
+  pub past : PassesOn old new
+
+-- Several reads, where this says whether one failed: then the count of faults has risen.
+pub record AreReads (failed : Type 0) (old new : DiskState) : Type 0 where
+  pub only : OnlyReads old new
+  pub later : old.faults ≤ new.faults
+  pub rose : failed → Rose old.faults new.faults

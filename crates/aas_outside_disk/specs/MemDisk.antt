@@ -1,10 +1,11 @@
 -- A disk in memory, as its callers see it. This profile's own rule.
 use Rattle.std.specs.Prelude.{◌≡◌, ◌⊎◌, ℕ, ◌+◌, ◌*◌, ◌<◌, ◌≤◌, Bool, not, ◌&&◌, nat_le, nat_lt, List, [], ◌++◌, length}
-use Rattle.std.specs.Prelude.{take, Result, MatchResult}
+use Rattle.std.specs.Prelude.{take, Result, MatchResult, Some}
 use Rattle.aas_outside.specs.Faults.{one_more}
 use Rattle.aas_outside.specs.MemCalls.{MemCallsState, called, IsNextFailing}
 use Rattle.aas_outside_disk.specs.declared.crash.Crash.{Crash}
 use Rattle.aas_outside_disk.specs.declared.part.Part.{Part}
+use Rattle.aas_outside_disk.specs.Disk.{DiskState}
 use Rattle.aas_outside_disk.specs.Files.{Files, file, files_of}
 use Rattle.aas_outside_disk.specs.FileState.{Step, FileState, file_after, IsLeft, crash_of}
 use Rattle.aas_outside_disk.specs.MemRecord.{MemRecordState, has_room_for_bytes, has_room_for_step}
@@ -58,6 +59,11 @@ disk_left_at disk time files = (time ≤ clock disk) × AreLeft (after_steps dis
 abbrev pub crash_files : Crash → MemDiskState → Files
 crash_files choice disk = files_of (λ part. crash_of choice (now disk part))
 
+-- what it tells
+abbrev pub disk_state : MemDiskState → DiskState
+disk_state disk =
+    record { seen = Some (seen_files disk); moment = clock disk; left_at = disk_left_at disk; faults = disk.faults }
+
 -- the number of the next call, the first being 1
 abbrev pub next_call : MemDiskState → ℕ
 next_call disk = one_more disk.calls.made
@@ -85,7 +91,7 @@ abbrev pub is_made : MemDiskState → ℕ → ℕ → Bool
 is_made disk at count = not (is_past_stop disk) && has_room disk at count
 
 -- A call made these steps and was counted, as a fault where it failed. All else stays.
-pub record IsDiskCall {T E : Type 0} (old new : MemDiskState) (made : List Step) (result : Result T E) : Type 0 where
+pub record IsCalled {T E : Type 0} (old new : MemDiskState) (made : List Step) (result : Result T E) : Type 0 where
   pub steps : new.steps ≡ old.steps ++ made
   pub calls : new.calls ≡ called old.calls
   pub faults : MatchResult result (λ _. new.faults ≡ old.faults) (λ _. new.faults ≡ one_more old.faults)

@@ -1,14 +1,13 @@
 // A disk in memory, for tests: its files, the record of what was made of them, and the calls that fail.
-ghost use Rattle.std.specs.Prelude.{◌≡◌, ◌≤◌, ◌+◌, ◌⊎◌, ◌↔◌, ◌++◌, [], ◌∷◌, if◌then◌else◌, Some, IfOk, OnOk, IsErr};
+ghost use Rattle.std.specs.Prelude.{◌≡◌, ◌≤◌, ◌+◌, ◌⊎◌, ◌↔◌, ◌++◌, [], ◌∷◌, if◌then◌else◌, IfOk, OnOk, IsErr};
 ghost use Rattle.std.specs.Prelude.{IsTrue, IsFalse, MatchResult, is_ok, length, take, drop};
-ghost use Rattle.aas_outside.specs.Faults.{HasCause, one_more};
+ghost use Rattle.aas_outside.specs.Faults.{one_more};
 ghost use Rattle.aas_outside.specs.MemCalls.{called};
-ghost use Rattle.aas_outside.specs.Moments.{Passes};
-ghost use Rattle.aas_outside_disk.specs.Disk.{AddsNone, HoldsWhatIsRead, Meanwhile, Tears, Writes};
+ghost use Rattle.aas_outside_disk.specs.Disk.{Changes, HoldsWhatIsRead, IsDiskCall, MayLeave, OnlyReads, Tears, Writes};
 ghost use Rattle.aas_outside_disk.specs.Files.{file};
 ghost use Rattle.aas_outside_disk.specs.FileState.{wrote, synced};
-ghost use Rattle.aas_outside_disk.specs.MemDisk.{new_disk, seen_files, crash_files, clock, disk_left_at, is_past_stop};
-ghost use Rattle.aas_outside_disk.specs.MemDisk.{IsFailing, record_of, has_room, is_made, IsDiskCall};
+ghost use Rattle.aas_outside_disk.specs.MemDisk.{new_disk, seen_files, crash_files, disk_state, is_past_stop};
+ghost use Rattle.aas_outside_disk.specs.MemDisk.{IsFailing, record_of, has_room, is_made, IsCalled};
 ghost use Rattle.aas_outside_disk.specs.MemRecord.{has_room_for_step};
 
 use crate::memory_file::MemFile;
@@ -85,7 +84,7 @@ impl MemDisk {
     /// sync of its file the old bytes, the new ones, or 1 in each place.
     pub fn crash(&self, alloc: Global, choice: Crash) -> Result<MemDisk, NoMemory>
         ensures begins { IfOk result (λ disk. disk ≡ new_disk (crash_files choice self.now) self.now.capacity [] 0) }
-        ensures image { disk_left_at self.now (clock self.now) (crash_files choice self.now) }
+        ensures image { MayLeave (disk_state self.now) (crash_files choice self.now) }
     {
         MemDisk::new(
             alloc,
@@ -177,7 +176,7 @@ impl MemDisk {
 
     // Counts a call that makes nothing.
     fn count_call(&mut self) -> Result<(), Failed>
-        ensures called { IsDiskCall self.old self.new [] result }
+        ensures called { IsCalled self.old self.new [] result }
         ensures fails { IsErr result ↔ IsFailing self.old }
         ensures later { self.old.faults ≤ self.new.faults }
     {
@@ -189,7 +188,7 @@ impl MemDisk {
 
     fn try_write(&mut self, part: Part, at: u64, bytes: &[u8]) -> Result<(), Failed>
         requires { at ≤ length (file part (seen_files self.old)) }
-        ensures called { IsDiskCall self.old self.new
+        ensures called { IsCalled self.old self.new
             (if is_made self.old at (length bytes.now) then wrote part at bytes.now ∷ [] else []) result }
         ensures fails { IsErr result ↔ (IsFailing self.old ⊎ IsFalse (has_room self.old at (length bytes.now))) }
         ensures made { OnOk result (IsTrue (is_made self.old at (length bytes.now))) }
@@ -204,7 +203,7 @@ impl MemDisk {
     }
 
     fn try_sync(&mut self, part: Part) -> Result<(), Failed>
-        ensures called { IsDiskCall self.old self.new (if is_ok result then synced part ∷ [] else []) result }
+        ensures called { IsCalled self.old self.new (if is_ok result then synced part ∷ [] else []) result }
         ensures fails { IsErr result ↔ (IsFailing self.old ⊎ IsFalse (has_room_for_step (record_of self.old))) }
         ensures later { self.old.faults ≤ self.new.faults }
     {
@@ -216,29 +215,18 @@ impl MemDisk {
 }
 
 impl Disk for MemDisk {
-    ghost use Rattle.std.specs.Prelude.{Some};
-    ghost use Rattle.aas_outside_disk.specs.MemDisk.{clock, disk_left_at, seen_files};
+    ghost use Rattle.aas_outside_disk.specs.MemDisk.{disk_state};
     ghost use Rattle.aas_outside_disk.specs.MemDiskLaw.{seen_law};
 
-    ghost seen = { λ disk. Some (seen_files disk) };
-
-    ghost moment = { clock };
-
-    ghost left_at = { disk_left_at };
-
-    ghost faults = { λ disk. disk.faults };
+    ghost state = { disk_state };
 
     ghost seen_is_left = { seen_law };
 
     fn length(&mut self, part: Part) -> Result<u64, Failed>
         ensures value { IfOk result (λ count. count ≡ length (file part (seen_files self.old))) }
-        ensures seen { Some (seen_files self.new) ≡ Some (seen_files self.old) }
-        ensures images { Meanwhile (clock self.old) (clock self.new)
-            (disk_left_at self.old) (disk_left_at self.new) AddsNone }
-        ensures past { Passes (clock self.old) (disk_left_at self.old) (clock self.new) (disk_left_at self.new) }
-        ensures cause { HasCause self.old.faults self.new.faults result }
-        ensures calm { OnOk result (self.new.faults ≡ self.old.faults) }
-        ensures called { IsDiskCall self.old self.new [] result }
+        ensures reads { OnlyReads (disk_state self.old) (disk_state self.new) }
+        ensures call { IsDiskCall (disk_state self.old) (disk_state self.new) result }
+        ensures called { IsCalled self.old self.new [] result }
         ensures fails { IsErr result ↔ IsFailing self.old }
     {
         self.count_call()?;
@@ -250,13 +238,9 @@ impl Disk for MemDisk {
         ensures value { MatchResult result
             (λ _. buf.new ≡ take (length buf.old) (drop at (file part (seen_files self.old))))
             (λ _. buf.new ≡ buf.old) }
-        ensures seen { Some (seen_files self.new) ≡ Some (seen_files self.old) }
-        ensures images { Meanwhile (clock self.old) (clock self.new)
-            (disk_left_at self.old) (disk_left_at self.new) AddsNone }
-        ensures past { Passes (clock self.old) (disk_left_at self.old) (clock self.new) (disk_left_at self.new) }
-        ensures cause { HasCause self.old.faults self.new.faults result }
-        ensures calm { OnOk result (self.new.faults ≡ self.old.faults) }
-        ensures called { IsDiskCall self.old self.new [] result }
+        ensures reads { OnlyReads (disk_state self.old) (disk_state self.new) }
+        ensures call { IsDiskCall (disk_state self.old) (disk_state self.new) result }
+        ensures called { IsCalled self.old self.new [] result }
         ensures fails { IsErr result ↔ IsFailing self.old }
     {
         self.count_call()?;
@@ -267,13 +251,10 @@ impl Disk for MemDisk {
 
     fn write_at(&mut self, part: Part, at: u64, bytes: &[u8]) -> Result<(), Failed>
         requires { at ≤ length (file part (seen_files self.old)) }
-        ensures written { Writes part at bytes.now (Some (seen_files self.old)) (Some (seen_files self.new)) result }
-        ensures images { Meanwhile (clock self.old) (clock self.new) (disk_left_at self.old) (disk_left_at self.new)
-            (Tears part at (length bytes.now)) }
-        ensures past { Passes (clock self.old) (disk_left_at self.old) (clock self.new) (disk_left_at self.new) }
-        ensures cause { HasCause self.old.faults self.new.faults result }
-        ensures calm { OnOk result (self.new.faults ≡ self.old.faults) }
-        ensures called { IsDiskCall self.old self.new
+        ensures written { Writes part at bytes.now (disk_state self.old).seen (disk_state self.new).seen result }
+        ensures images { Changes (disk_state self.old) (disk_state self.new) (Tears part at (length bytes.now)) }
+        ensures call { IsDiskCall (disk_state self.old) (disk_state self.new) result }
+        ensures called { IsCalled self.old self.new
             (if is_made self.old at (length bytes.now) then wrote part at bytes.now ∷ [] else []) result }
         ensures fails { IsErr result ↔ (IsFailing self.old ⊎ IsFalse (has_room self.old at (length bytes.now))) }
     {
@@ -282,14 +263,10 @@ impl Disk for MemDisk {
 
     fn sync(&mut self, part: Part) -> Result<(), Failed>
         ensures durable { OnOk result
-            (HoldsWhatIsRead part (Some (seen_files self.old)) (disk_left_at self.new (clock self.new))) }
-        ensures seen { Some (seen_files self.new) ≡ Some (seen_files self.old) }
-        ensures images { Meanwhile (clock self.old) (clock self.new)
-            (disk_left_at self.old) (disk_left_at self.new) AddsNone }
-        ensures past { Passes (clock self.old) (disk_left_at self.old) (clock self.new) (disk_left_at self.new) }
-        ensures cause { HasCause self.old.faults self.new.faults result }
-        ensures calm { OnOk result (self.new.faults ≡ self.old.faults) }
-        ensures called { IsDiskCall self.old self.new (if is_ok result then synced part ∷ [] else []) result }
+            (HoldsWhatIsRead part (disk_state self.old).seen (MayLeave (disk_state self.new))) }
+        ensures reads { OnlyReads (disk_state self.old) (disk_state self.new) }
+        ensures call { IsDiskCall (disk_state self.old) (disk_state self.new) result }
+        ensures called { IsCalled self.old self.new (if is_ok result then synced part ∷ [] else []) result }
         ensures fails { IsErr result ↔ (IsFailing self.old ⊎ IsFalse (has_room_for_step (record_of self.old))) }
     {
         self.try_sync(part)

@@ -1,8 +1,6 @@
 // A piece of a file that was read.
 ghost use Rattle.std.specs.Prelude.{◌≡◌, ◌+◌, ◌≤◌, [], length, take, drop, is_some, IfOk, IfSome, OnErr, OnOk};
-ghost use Rattle.aas_outside.specs.Faults.{HasCause};
-ghost use Rattle.aas_outside.specs.Moments.{Passes};
-ghost use Rattle.aas_outside_disk.specs.Disk.{AddsNone, Meanwhile};
+ghost use Rattle.aas_outside_disk.specs.Disk.{IsDiskCall, OnlyReads};
 ghost use Rattle.aas_outside_disk.specs.Files.{file};
 ghost use Rattle.aas_outside_disk.specs.Piece.{bytes_at, lies_in, piece_bytes};
 
@@ -80,17 +78,13 @@ impl Piece {
         count: usize,
     ) -> Result<(), Failed>
         requires room { count ≤ piece_bytes }
-        requires within { IfSome (D.seen disk.old) (λ files. at + count ≤ length (file part files)) }
+        requires within { IfSome (D.state disk.old).seen (λ files. at + count ≤ length (file part files)) }
         ensures place { OnOk result ((self.new.part ≡ part) × (self.new.at ≡ at) × (length self.new.bytes ≡ count)) }
-        ensures value { OnOk result (IfSome (D.seen disk.old) (λ files.
+        ensures value { OnOk result (IfSome (D.state disk.old).seen (λ files.
             self.new ≡ record { part = part; at = at; bytes = take count (drop at (file part files)) })) }
         ensures none { OnErr result (self.new.bytes ≡ []) }
-        ensures seen { D.seen disk.new ≡ D.seen disk.old }
-        ensures images { Meanwhile (D.moment disk.old) (D.moment disk.new)
-            (D.left_at disk.old) (D.left_at disk.new) AddsNone }
-        ensures past { Passes (D.moment disk.old) (D.left_at disk.old) (D.moment disk.new) (D.left_at disk.new) }
-        ensures cause { HasCause (D.faults disk.old) (D.faults disk.new) result }
-        ensures calm { OnOk result (D.faults disk.new ≡ D.faults disk.old) }
+        ensures reads { OnlyReads (D.state disk.old) (D.state disk.new) }
+        ensures call { IsDiskCall (D.state disk.old) (D.state disk.new) result }
     {
         self.len = 0;
         disk.read_at(part, at, &mut self.storage[0..count])?;

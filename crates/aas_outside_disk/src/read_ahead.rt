@@ -18,14 +18,12 @@ use std::alloc::Global;
 pub struct ReadAhead<D: Disk> {
     disk: D,
     piece: Piece,
-    ghost read: { ForSome (D.seen disk) (λ files. IsRead files piece) },
+    ghost read: { ForSome (D.state disk).seen (λ files. IsRead files piece) },
 }
 
 impl<D: Disk> ReadAhead<D> {
     ghost use Rattle.std.specs.Prelude.{◌⊎◌, ◌+◌, ◌≤◌, [], length, IsOk, IsTrue, IfOk, IfSome, OnOk, OnErr};
-    ghost use Rattle.aas_outside.specs.Faults.{HasCause};
-    ghost use Rattle.aas_outside.specs.Moments.{Passes};
-    ghost use Rattle.aas_outside_disk.specs.Disk.{AddsNone, Meanwhile};
+    ghost use Rattle.aas_outside_disk.specs.Disk.{IsDiskCall, OnlyReads};
     ghost use Rattle.aas_outside_disk.specs.Files.{file};
     ghost use Rattle.aas_outside_disk.specs.Piece.{lies_in, piece_after};
     ghost use Rattle.aas_outside_disk.specs.ReadAhead.{disk_below, piece_of};
@@ -44,21 +42,16 @@ impl<D: Disk> ReadAhead<D> {
     /// Reads the piece that begins with the range, where the range doesn't lie in the present one. Where none is to be
     /// read, or that fails, there is none.
     fn fetch(&mut self, part: Part, at: u64, count: usize) -> Result<(), Failed>
-        requires { IfSome (D.seen (disk_below self.old)) (λ files. at + count ≤ length (file part files)) }
-        ensures after { OnOk result (IfSome (D.seen (disk_below self.old)) (λ files.
+        requires { IfSome (D.state (disk_below self.old)).seen (λ files. at + count ≤ length (file part files)) }
+        ensures after { OnOk result (IfSome (D.state (disk_below self.old)).seen (λ files.
             piece_of self.new ≡ piece_after files (piece_of self.old) part at count)) }
         ensures either { OnOk result
             (IsTrue (lies_in (piece_of self.new) part at count) ⊎ ((piece_of self.new).bytes ≡ [])) }
         ensures none { OnErr result ((piece_of self.new).bytes ≡ []) }
         ensures held { IsTrue (lies_in (piece_of self.old) part at count) →
             IsOk result × (disk_below self.new ≡ disk_below self.old) × (piece_of self.new ≡ piece_of self.old) }
-        ensures seen { D.seen (disk_below self.new) ≡ D.seen (disk_below self.old) }
-        ensures images { Meanwhile (D.moment (disk_below self.old)) (D.moment (disk_below self.new))
-            (D.left_at (disk_below self.old)) (D.left_at (disk_below self.new)) AddsNone }
-        ensures past { Passes (D.moment (disk_below self.old)) (D.left_at (disk_below self.old))
-            (D.moment (disk_below self.new)) (D.left_at (disk_below self.new)) }
-        ensures cause { HasCause (D.faults (disk_below self.old)) (D.faults (disk_below self.new)) result }
-        ensures calm { OnOk result (D.faults (disk_below self.new) ≡ D.faults (disk_below self.old)) }
+        ensures reads { OnlyReads (D.state (disk_below self.old)) (D.state (disk_below self.new)) }
+        ensures call { IsDiskCall (D.state (disk_below self.old)) (D.state (disk_below self.new)) result }
     {
         let ReadAhead { disk, piece } = self;
         if piece.get(part, at, count).is_some() {
@@ -79,42 +72,29 @@ impl<D: Disk> ReadAhead<D> {
 
 impl<D: Disk> Disk for ReadAhead<D> {
     ghost use Rattle.std.specs.Prelude.{◌+◌, ◌≤◌, [], length, take, drop, IsOk, IsTrue, IfSome, OnOk, OnErr};
-    ghost use Rattle.aas_outside.specs.Faults.{HasCause};
-    ghost use Rattle.aas_outside.specs.Moments.{Passes};
-    ghost use Rattle.aas_outside_disk.specs.Disk.{AddsNone, Meanwhile, Tears, Writes};
+    ghost use Rattle.aas_outside_disk.specs.Disk.{Changes, IsDiskCall, OnlyReads, Tears, Writes};
     ghost use Rattle.aas_outside_disk.specs.Files.{file};
     ghost use Rattle.aas_outside_disk.specs.Piece.{bytes_at, lies_in, piece_after};
     ghost use Rattle.aas_outside_disk.specs.ReadAhead.{disk_below, piece_of};
 
-    ghost seen = { λ ahead. D.seen ahead.disk };
-
-    ghost moment = { λ ahead. D.moment ahead.disk };
-
-    ghost left_at = { λ ahead. D.left_at ahead.disk };
-
-    ghost faults = { λ ahead. D.faults ahead.disk };
+    ghost state = { λ ahead. D.state ahead.disk };
 
     fn length(&mut self, part: Part) -> Result<u64, Failed> {
         self.disk.length(part)
     }
 
     fn read_at(&mut self, part: Part, at: u64, buf: &mut [u8]) -> Result<(), Failed>
-        requires { IfSome (D.seen (disk_below self.old)) (λ files. at + length buf.old ≤ length (file part files)) }
-        ensures value { OnOk result (IfSome (D.seen (disk_below self.old)) (λ files.
+        requires { IfSome (D.state (disk_below self.old)).seen (λ files. at + length buf.old ≤ length (file part files)) }
+        ensures value { OnOk result (IfSome (D.state (disk_below self.old)).seen (λ files.
             buf.new ≡ take (length buf.old) (drop at (file part files)))) }
-        ensures seen { D.seen (disk_below self.new) ≡ D.seen (disk_below self.old) }
-        ensures images { Meanwhile (D.moment (disk_below self.old)) (D.moment (disk_below self.new))
-            (D.left_at (disk_below self.old)) (D.left_at (disk_below self.new)) AddsNone }
-        ensures past { Passes (D.moment (disk_below self.old)) (D.left_at (disk_below self.old))
-            (D.moment (disk_below self.new)) (D.left_at (disk_below self.new)) }
-        ensures cause { HasCause (D.faults (disk_below self.old)) (D.faults (disk_below self.new)) result }
-        ensures calm { OnOk result (D.faults (disk_below self.new) ≡ D.faults (disk_below self.old)) }
+        ensures reads { OnlyReads (D.state (disk_below self.old)) (D.state (disk_below self.new)) }
+        ensures call { IsDiskCall (D.state (disk_below self.old)) (D.state (disk_below self.new)) result }
 
         // A range that lies in the piece is answered from it, and the disk below isn't called.
         ensures held { IsTrue (lies_in (piece_of self.old) part at (length buf.old)) → IsOk result
             × (buf.new ≡ bytes_at (piece_of self.old) at (length buf.old))
             × (disk_below self.new ≡ disk_below self.old) × (piece_of self.new ≡ piece_of self.old) }
-        ensures after { OnOk result (IfSome (D.seen (disk_below self.old)) (λ files.
+        ensures after { OnOk result (IfSome (D.state (disk_below self.old)).seen (λ files.
             piece_of self.new ≡ piece_after files (piece_of self.old) part at (length buf.old))) }
         ensures none { OnErr result ((piece_of self.new).bytes ≡ []) }
     {
@@ -129,15 +109,12 @@ impl<D: Disk> Disk for ReadAhead<D> {
     }
 
     fn write_at(&mut self, part: Part, at: u64, bytes: &[u8]) -> Result<(), Failed>
-        requires { IfSome (D.seen (disk_below self.old)) (λ files. at ≤ length (file part files)) }
+        requires { IfSome (D.state (disk_below self.old)).seen (λ files. at ≤ length (file part files)) }
         ensures written { Writes part at bytes.now
-            (D.seen (disk_below self.old)) (D.seen (disk_below self.new)) result }
-        ensures images { Meanwhile (D.moment (disk_below self.old)) (D.moment (disk_below self.new))
-            (D.left_at (disk_below self.old)) (D.left_at (disk_below self.new)) (Tears part at (length bytes.now)) }
-        ensures past { Passes (D.moment (disk_below self.old)) (D.left_at (disk_below self.old))
-            (D.moment (disk_below self.new)) (D.left_at (disk_below self.new)) }
-        ensures cause { HasCause (D.faults (disk_below self.old)) (D.faults (disk_below self.new)) result }
-        ensures calm { OnOk result (D.faults (disk_below self.new) ≡ D.faults (disk_below self.old)) }
+            (D.state (disk_below self.old)).seen (D.state (disk_below self.new)).seen result }
+        ensures images { Changes (D.state (disk_below self.old)) (D.state (disk_below self.new))
+            (Tears part at (length bytes.now)) }
+        ensures call { IsDiskCall (D.state (disk_below self.old)) (D.state (disk_below self.new)) result }
         ensures none { (piece_of self.new).bytes ≡ [] }
     {
         self.piece.clear();

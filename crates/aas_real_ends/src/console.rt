@@ -33,11 +33,10 @@ impl<R: Read, W: Write> ConsoleLink<R, W> {
 }
 
 impl<R: Read, W: Write> Link for ConsoleLink<R, W> {
-    ghost left = { λ _. None };
+    ghost use Rattle.aas_outside.specs.Surroundings.{no_surroundings};
 
-    ghost sent = { λ _. None };
-
-    ghost faults = { λ console. console.faults.count };
+    ghost state = { λ console.
+        record { left = None; sent = None; faults = console.faults.count; surroundings = no_surroundings } };
 
     fn take(&mut self, buf: &mut [u8]) -> Result<usize, Failed>
         ensures taken { Takes None None result buf.new }

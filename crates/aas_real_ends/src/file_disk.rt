@@ -45,13 +45,8 @@ impl<O: FileOpener> FileDisk<O> {
 }
 
 impl<O: FileOpener> Disk for FileDisk<O> {
-    ghost seen = { λ _. None };
-
-    ghost moment = { λ _. 0 };
-
-    ghost left_at = { AnyImage };
-
-    ghost faults = { λ disk. disk.faults.count };
+    ghost state = { λ disk.
+        record { seen = None; moment = 0; left_at = AnyImage disk; faults = disk.faults.count } };
 
     fn length(&mut self, part: Part) -> Result<u64, Failed>
         ensures cause { HasCause self.old.faults.count self.new.faults.count result }

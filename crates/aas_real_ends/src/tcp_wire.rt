@@ -3,7 +3,7 @@ ghost use Rattle.std.specs.Prelude.{◌≡◌, ◌≢◌, ◌++◌, [], false, N
 ghost use Rattle.std.specs.Prelude.{OnOk, OnErr};
 ghost use Rattle.aas_outside.specs.Faults.{HasCause};
 ghost use Rattle.aas_outside.specs.Link.{Takes, Gives};
-ghost use Rattle.aas_outside.specs.Surroundings.{CountsClients};
+ghost use Rattle.aas_outside.specs.Wire.{CountsClients};
 ghost use Rattle.aas_real_ends.specs.TcpWire.{left_on, open_on};
 
 use crate::clients::Clients;
@@ -61,14 +61,12 @@ impl<N: Net + Clock> TcpWire<N> {
 }
 
 impl<N: Net + Clock> Link for TcpWire<N> {
-    ghost left = { λ _. None };
-
-    ghost sent = { λ _. None };
-
-    ghost faults = { λ wire. wire.faults.count };
-
-    ghost surroundings = { λ wire.
-        record { connections = None; clients = wire.begun; faults = wire.wire_faults.count } };
+    ghost state = { λ wire. record {
+      left = None;
+      sent = None;
+      faults = wire.faults.count;
+      surroundings = record { connections = None; clients = wire.begun; faults = wire.wire_faults.count };
+    } };
 
     fn take(&mut self, buf: &mut [u8]) -> Result<usize, Failed>
         ensures taken { Takes None None result buf.new }

@@ -15,12 +15,12 @@ returns-in_err-pour-clause-front g c =
     let began : held_by c.new-out.result ≡ [] = nothing_held c.new-out.result c.new-out.ensures.empty in
     on_err c.from_residual.result
     (subst (λ (l : g.row.L.Denot).
-    GivesFront (g.L.Link.sent c.args.link.now) (g.L.Link.sent l) (g.P.Pour.text c.args.text.now))
+    GivesFront (g.L.Link.state c.args.link.now).sent (g.L.Link.state l).sent (g.P.Pour.text c.args.text.now))
     (sym same)
-    (front_by_put (g.L.Link.sent c.args.link.now) (g.L.Link.sent c.new-out.result.link.now)
-    (g.L.Link.sent c.pour.new.out.link.now) (held_by c.new-out.result)
+    (front_by_put (g.L.Link.state c.args.link.now).sent (g.L.Link.state c.new-out.result.link.now).sent
+    (g.L.Link.state c.pour.new.out.link.now).sent (held_by c.new-out.result)
     (held_by c.pour.new.out) (g.P.Pour.text c.args.text.now)
-    (ap g.L.Link.sent c.new-out.ensures.link) began front.front
+    (ap (λ (l : g.row.L.Denot). (g.L.Link.state l).sent) c.new-out.ensures.link) began front.front
     front.rest front.parts front.wrote.sent front.wrote.gone))
 
 pub returns-clause-given : goal.returns-clause-given
@@ -28,12 +28,12 @@ returns-clause-given g c =
     let same : c.link-2-1.given.0 ≡ c.flush.new.self.link.now = grind (arith, common_steps) in
     let began : held_by c.new-out.result ≡ [] = nothing_held c.new-out.result c.new-out.ensures.empty in
     subst (λ (l : g.row.L.Denot). OnOk c.flush.result
-    (g.L.Link.sent l ≡ append_known (g.L.Link.sent c.args.link.now) (g.P.Pour.text c.args.text.now)))
+    ((g.L.Link.state l).sent ≡ append_known (g.L.Link.state c.args.link.now).sent (g.P.Pour.text c.args.text.now)))
     (sym same)
-    (given_by_flush c.flush.result (g.L.Link.sent c.args.link.now) (g.L.Link.sent c.new-out.result.link.now)
-    (g.L.Link.sent c.pour.new.out.link.now) (g.L.Link.sent c.flush.new.self.link.now)
+    (given_by_flush c.flush.result (g.L.Link.state c.args.link.now).sent (g.L.Link.state c.new-out.result.link.now).sent
+    (g.L.Link.state c.pour.new.out.link.now).sent (g.L.Link.state c.flush.new.self.link.now).sent
     (held_by c.new-out.result) (held_by c.pour.new.out) c.flush.new.self (g.P.Pour.text c.args.text.now)
-    (ap g.L.Link.sent c.new-out.ensures.link) began
+    (ap (λ (l : g.row.L.Denot). (g.L.Link.state l).sent) c.new-out.ensures.link) began
     c.in_ok-pour.ensures.sent c.flush.ensures.sent c.flush.ensures.empty)
 
 pub returns-clause-front : goal.returns-clause-front
@@ -42,10 +42,10 @@ returns-clause-front g c =
     let began : held_by c.new-out.result ≡ [] = nothing_held c.new-out.result c.new-out.ensures.empty in
     on_err c.flush.result
     (subst (λ (l : g.row.L.Denot).
-    GivesFront (g.L.Link.sent c.args.link.now) (g.L.Link.sent l) (g.P.Pour.text c.args.text.now))
+    GivesFront (g.L.Link.state c.args.link.now).sent (g.L.Link.state l).sent (g.P.Pour.text c.args.text.now))
     (sym same)
-    (front_by_flush (g.L.Link.sent c.args.link.now) (g.L.Link.sent c.new-out.result.link.now)
-    (g.L.Link.sent c.pour.new.out.link.now) (g.L.Link.sent c.flush.new.self.link.now)
+    (front_by_flush (g.L.Link.state c.args.link.now).sent (g.L.Link.state c.new-out.result.link.now).sent
+    (g.L.Link.state c.pour.new.out.link.now).sent (g.L.Link.state c.flush.new.self.link.now).sent
     (held_by c.new-out.result) (held_by c.pour.new.out) (held_by c.flush.new.self) (g.P.Pour.text c.args.text.now)
-    (ap g.L.Link.sent c.new-out.ensures.link) began c.in_ok-pour.ensures.sent
+    (ap (λ (l : g.row.L.Denot). (g.L.Link.state l).sent) c.new-out.ensures.link) began c.in_ok-pour.ensures.sent
     c.in_ok-pour.ensures.gone c.flush.ensures.sent c.flush.ensures.more))

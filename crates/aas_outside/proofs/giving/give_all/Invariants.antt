@@ -5,10 +5,10 @@ use Rattle.aas_outside.proofs.giving.give_all.Given as goal
 abbrev pub invariant-loop-given : goal.invariant-loop-given
 invariant-loop-given g l = record {
   within : l.given ≤ length l.bytes;
-  sent : g.L.Link.sent l.link ≡ append_known (g.L.Link.sent l.fn.link) (take l.given l.bytes);
-  surroundings : g.L.Link.surroundings l.link ≡ g.L.Link.surroundings l.fn.link;
-  left : g.L.Link.left l.link ≡ g.L.Link.left l.fn.link;
-  later : g.L.Link.faults l.fn.link ≤ g.L.Link.faults l.link;
+  sent : (g.L.Link.state l.link).sent ≡ append_known (g.L.Link.state l.fn.link).sent (take l.given l.bytes);
+  surroundings : (g.L.Link.state l.link).surroundings ≡ (g.L.Link.state l.fn.link).surroundings;
+  left : (g.L.Link.state l.link).left ≡ (g.L.Link.state l.fn.link).left;
+  later : (g.L.Link.state l.fn.link).faults ≤ (g.L.Link.state l.link).faults;
 }
 
 abbrev pub decreases-loop-given : goal.decreases-loop-given

@@ -1,4 +1,4 @@
-use Rattle.std.proofs.Common.{◌<◌, Bool, false, length, ap, subst, ◌∙◌, arith}
+use Rattle.std.proofs.Common.{◌<◌, Bool, length, ap, subst, ◌∙◌, arith}
 use Rattle.aas_clients.specs.Places.{AreInTime}
 use Rattle.aas_clients.proofs.Places.{keeps_both}
 use Rattle.aas_clients.proofs.Tables.{in_time_step, only_from_step, quiet_step}

@@ -6,8 +6,8 @@ use Rattle.aas_out.proofs.buffered.BufferOut.flush.Goals as goal
 
 pub loop-self-preserved : goal.loop-self-preserved
 loop-self-preserved g c =
-    let old : Option (List ℕ) = g.L.Link.sent c.loop-self.self.link.now in
-    let new : Option (List ℕ) = g.L.Link.sent c.give.new.self in
+    let old : Option (List ℕ) = (g.L.Link.state c.loop-self.self.link.now).sent in
+    let new : Option (List ℕ) = (g.L.Link.state c.give.new.self).sent in
     let at : ℕ = c.loop-self.self.given in
     let n : ℕ = c.in_ok-self.field-0 in
     let bytes : List ℕ = c.as_slice.result.now in record {
@@ -20,7 +20,7 @@ loop-self-preserved g c =
         take n (take (length bytes - at) (drop at bytes)),
         c.in_ok-self.ensures.given.appended,
       );
-      surroundings = c.in_ok-self.ensures.surroundings ∙ c.loop-self.invariant.surroundings;
-      left = c.in_ok-self.ensures.left ∙ c.loop-self.invariant.left;
-      later = omega (arith, c.in_ok-self.ensures.cause.later, c.loop-self.invariant.later);
+      surroundings = c.in_ok-self.ensures.call.surroundings ∙ c.loop-self.invariant.surroundings;
+      left = c.in_ok-self.ensures.call.left ∙ c.loop-self.invariant.left;
+      later = omega (arith, c.in_ok-self.ensures.call.cause.later, c.loop-self.invariant.later);
     }

@@ -7,29 +7,29 @@ use Rattle.aas_out.proofs.buffered.BufferOut.put_past.Goals as goal
 
 pub returns-in_err-flush : goal.returns-in_err-flush
 returns-in_err-flush g c =
-    let sent = g.L.Link.sent in
-    let faults = g.L.Link.faults in
-    let left = g.L.Link.left in
-    let around = g.L.Link.surroundings in
+    let sent = λ (l : g.row.L.Denot). (g.L.Link.state l).sent in
+    let faults = λ (l : g.row.L.Denot). (g.L.Link.state l).faults in
+    let left = λ (l : g.row.L.Denot). (g.L.Link.state l).left in
+    let around = λ (l : g.row.L.Denot). (g.L.Link.state l).surroundings in
     let old : MutBor g.row.L.Denot = c.args.self.now.link in
     let new : MutBor g.row.L.Denot = c.flush.new.self.link in
-    put_failed c.from_residual.result (told_of sent faults left around old (held_by c.args.self.now))
-    (told_of sent faults left around new (held_by c.flush.new.self)) c.args.bytes.now (search rules)
+    put_failed c.from_residual.result (told_of g.L.Link.state old (held_by c.args.self.now))
+    (told_of g.L.Link.state new (held_by c.flush.new.self)) c.args.bytes.now (search rules)
     (flush_failed (sent old.now) (sent new.now) (held_by c.args.self.now)
     (held_by c.flush.new.self) c.args.bytes.now (faults old.now) (faults new.now)
     (link_kept old.ghost_name (left old.now) (around old.now))
     (link_kept new.ghost_name (left new.now) (around new.now)) c.in_err-flush.ensures.more.0
     c.in_err-flush.ensures.sent c.in_err-flush.ensures.more.1
-    c.in_err-flush.ensures.cause.later c.in_err-flush.ensures.cause.failed
+    c.in_err-flush.ensures.call.cause.later c.in_err-flush.ensures.call.cause.failed
     (kept_by old.ghost_name new.ghost_name (left old.now) (left new.now) (around old.now) (around new.now)
-    c.in_err-flush.ensures.same_reference c.in_err-flush.ensures.left c.in_err-flush.ensures.surroundings))
+    c.in_err-flush.ensures.same_reference c.in_err-flush.ensures.call.left c.in_err-flush.ensures.call.surroundings))
 
 pub returns : goal.returns
 returns g c =
-    let sent = g.L.Link.sent in
-    let faults = g.L.Link.faults in
-    let left = g.L.Link.left in
-    let around = g.L.Link.surroundings in
+    let sent = λ (l : g.row.L.Denot). (g.L.Link.state l).sent in
+    let faults = λ (l : g.row.L.Denot). (g.L.Link.state l).faults in
+    let left = λ (l : g.row.L.Denot). (g.L.Link.state l).left in
+    let around = λ (l : g.row.L.Denot). (g.L.Link.state l).surroundings in
     let old : MutBor g.row.L.Denot = c.args.self.now.link in
     let mid : MutBor g.row.L.Denot = c.flush.new.self.link in
     let last : MutBor g.row.L.Denot = c.hold.new.self.link in
@@ -37,17 +37,17 @@ returns g c =
     let none : held_by c.flush.new.self ≡ [] = nothing_held c.flush.new.self c.in_ok-flush.ensures.empty in
     let kept_now : LinkKept = link_kept last.ghost_name (left c.give_all.new.link) (around c.give_all.new.link) in
     let later : faults old.now ≤ faults last.now =
-    subst (λ (l : MutBor g.row.L.Denot). faults old.now ≤ faults l.now) (sym here) c.in_ok-flush.ensures.cause.later in
+    subst (λ (l : MutBor g.row.L.Denot). faults old.now ≤ faults l.now) (sym here) c.in_ok-flush.ensures.call.cause.later in
     give_is_put c.give_all.result c.args.bytes.now (held_by c.args.self.now) (held_by c.hold.new.self) (sent old.now)
     (sent last.now) (sent c.give_all.new.link) (faults old.now) (faults last.now) (faults c.give_all.new.link)
     (link_kept old.ghost_name (left old.now) (around old.now)) kept_now
     (ap (λ (l : MutBor g.row.L.Denot). sent l.now) here
     ∙ emptied (sent old.now) (sent mid.now) (held_by c.args.self.now)
     (held_by c.flush.new.self) c.in_ok-flush.ensures.sent none)
-    (c.if-hold.ensures.held ∙ none) later c.give_all.ensures.given c.give_all.ensures.front c.give_all.ensures.cause
+    (c.if-hold.ensures.held ∙ none) later c.give_all.ensures.given c.give_all.ensures.front c.give_all.ensures.call.cause
     (kept_by old.ghost_name last.ghost_name (left old.now)
     (left c.give_all.new.link) (around old.now) (around c.give_all.new.link)
     (ap (λ (l : MutBor g.row.L.Denot). l.ghost_name) here ∙ c.in_ok-flush.ensures.same_reference)
-    (c.give_all.ensures.left ∙ ap (λ (l : MutBor g.row.L.Denot). left l.now) here ∙ c.in_ok-flush.ensures.left)
-    (c.give_all.ensures.surroundings ∙ ap (λ (l : MutBor g.row.L.Denot). around l.now) here
-    ∙ c.in_ok-flush.ensures.surroundings))
+    (c.give_all.ensures.call.left ∙ ap (λ (l : MutBor g.row.L.Denot). left l.now) here ∙ c.in_ok-flush.ensures.call.left)
+    (c.give_all.ensures.call.surroundings ∙ ap (λ (l : MutBor g.row.L.Denot). around l.now) here
+    ∙ c.in_ok-flush.ensures.call.surroundings))

@@ -19,7 +19,7 @@ returns-clause-value g c =
       length-take (count - 0) c.deref_mut.result.now,
     ) in
     let whole : length c.read_at.new.buf ≡ length (take (count - 0) c.deref_mut.result.now) = search rules in
-    IfSome_then (g.D.Disk.seen c.args.disk.now) c.in_ok-read_at.ensures.value (λ files told.
+    IfSome_then (g.D.Disk.state c.args.disk.now).seen c.in_ok-read_at.ensures.value (λ files told.
     let bytes = file c.args.part files in
     front_read c.args.part c.args.at count storage.len c.read_at.new.buf _ _ bytes (whole ∙ size) within
     (told ∙ ap (λ (n : ℕ). take n (drop c.args.at bytes)) size))

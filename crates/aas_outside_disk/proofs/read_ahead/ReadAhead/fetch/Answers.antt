@@ -11,7 +11,7 @@ returns-clause-after g c =
     let out : lies_in self.piece c.args.part c.args.at c.args.count ≡ false =
     cc (c.get.ensures.found, c.is_some.ensures, c.if-is_some.false) in
     on_ok_weaker c.read.result
-    (fetched (D.seen self.disk) (D.seen c.length.new.self) self.piece c.read.new.self c.args.part c.args.at c.args.count
+    (fetched (D.state self.disk).seen (D.state c.length.new.self).seen self.piece c.read.new.self c.args.part c.args.at c.args.count
     c.in_ok-length.field-0 c.min-most.result out (omega arith) (omega arith)
-    (omega arith) c.in_ok-length.ensures.value c.length.ensures.seen)
+    (omega arith) c.in_ok-length.ensures.value c.length.ensures.reads.seen)
     c.read.ensures.value

@@ -6,8 +6,8 @@ use Rattle.aas_outside_disk.proofs.read_ahead.ReadAheadDisk.read_at.Goals as goa
 pub returns-in-Some-clause-value : goal.returns-in-Some-clause-value
 returns-in-Some-clause-value g c =
     let ahead = c.fetch.new.self in
-    let seen = g.D.Disk.seen c.args.self.now.disk in
+    let seen = (g.D.Disk.state c.args.self.now.disk).seen in
     IfSome_then seen
     (given ahead.piece c.args.part c.args.at (length c.args.buf.now) c.in-Some.ensures.found seen
-    (λ files told. ahead.read files (c.fetch.ensures.seen ∙ told)))
+    (λ files told. ahead.read files (c.fetch.ensures.reads.seen ∙ told)))
     (λ files same. c.copy_from_slice.ensures.after ∙ c.in-Some.ensures.bytes ∙ same)
