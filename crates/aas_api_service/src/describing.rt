@@ -17,7 +17,7 @@ use aas_store::Store;
 use std::alloc::Global;
 
 /// The command by which metadata is put in the place of what a store has, or why there is none.
-pub(crate) fn described<S: Store>(
+pub(crate) fn metadata_command<S: Store>(
     alloc: Global,
     store: &S,
     metadata: Metadata,

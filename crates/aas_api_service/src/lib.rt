@@ -29,5 +29,5 @@ pub use laws::{
     asks_are_well_formed, metadata_is_put_by_well_formed_commands, own_replies_are_of_refusals,
     requests_come_to_one_outcome, sessions_stay_valid, updates_put_metadata,
 };
-pub use refusals::refused;
+pub use refusals::refusal_reply;
 pub use service::{Service, answer};

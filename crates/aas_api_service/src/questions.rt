@@ -12,7 +12,7 @@ ghost use Rattle.aas_api_service.specs.Replies.{reply_too_long};
 ghost use Rattle.aas_api_service.specs.Turns.{answer_reply, counted_reply, reply_with};
 
 use crate::refusals::too_long;
-use crate::replies::{open_reply, refuse, told};
+use crate::replies::{answer_reply, open_reply, refuse};
 use aas_answer::{Plan, measure_plan};
 use aas_discovery::Lookup;
 use aas_http::Reply;
@@ -37,7 +37,7 @@ pub(crate) fn tell<S: Lookup>(
 {
     match aas_answer::plan(alloc, store, question) {
         Ok(Some(plan)) => tell_planned(alloc, store, plan),
-        Ok(None) => whole(told(alloc, aas_answer::tell(alloc, store, question))),
+        Ok(None) => whole(answer_reply(alloc, aas_answer::tell(alloc, store, question))),
         Err(refusal) => whole(refuse(alloc, refusal)),
     }
 }
@@ -52,7 +52,7 @@ fn tell_planned<S: Store>(alloc: Global, store: &S, plan: Plan) -> Result<Answer
     ensures phrase { IfOk result (λ answer. IsSome (phrase answer.reply.status)) }
 {
     match measure_plan(store, &plan) {
-        Some(later) => match poured(alloc, plan, later) {
+        Some(later) => match plan_answer(alloc, plan, later) {
             Ok(answer) => Ok(answer),
             Err(NoMemory) => Err(Stop::NoMemory),
         },
@@ -61,7 +61,7 @@ fn tell_planned<S: Store>(alloc: Global, store: &S, plan: Plan) -> Result<Answer
 }
 
 /// A reply without a body, behind which so many bytes are poured by a plan.
-fn poured(alloc: Global, plan: Plan, later: u64) -> Result<Answer<Plan>, NoMemory>
+fn plan_answer(alloc: Global, plan: Plan, later: u64) -> Result<Answer<Plan>, NoMemory>
     ensures later { IfOk result (λ answer. answer.reply.later ≡ later) }
     ensures whole { (d : Documents) → later ≡ length (plan_text d plan) → IfOk result (λ answer.
         (whole_reply (plan_text d) answer ≡ reply_with 200 (plan_text d plan)) × IsMeasured (plan_text d) answer) }

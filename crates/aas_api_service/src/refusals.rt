@@ -20,7 +20,7 @@ const TOO_LONG: u8 = 25;
 ///
 /// IDTA-01002-3-0, class Result.
 #[tactic(auto, unfolding(crate::specs::Replies::refusal_reply))]
-pub fn refused(alloc: Global, refusal: &Refusal) -> Result<Reply, NoMemory>
+pub fn refusal_reply(alloc: Global, refusal: &Refusal) -> Result<Reply, NoMemory>
     ensures reply { IfOk result (λ reply. reply ≡ refusal_reply refusal.now) }
     ensures no_success { IfOk result (λ reply. reply.status ≢ 200) }
     ensures phrase { IfOk result (λ reply. IsSome (phrase reply.status)) }

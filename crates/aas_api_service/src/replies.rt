@@ -7,7 +7,7 @@ ghost use Rattle.aas_question.specs.declared.question.Question.{Question};
 ghost use Rattle.aas_api_service.specs.Finished.{Finishes, IsRefused, IsReply};
 ghost use Rattle.aas_api_service.specs.Turns.{answer_reply, reply_with, success_reply};
 
-use crate::refusals::refused;
+use crate::refusals::refusal_reply;
 use aas_command::{Command, Refusal};
 use aas_http::Reply;
 use aas_json_write::{concept_text, element_text, reference_text, shell_text, submodel_text};
@@ -17,7 +17,7 @@ use aas_session::Stop;
 use std::alloc::Global;
 
 /// The reply to what a question is answered that isn't planned.
-pub(crate) fn told(alloc: Global, answer: Result<Many<u8>, Refusal>) -> Result<Reply, Stop>
+pub(crate) fn answer_reply(alloc: Global, answer: Result<Many<u8>, Refusal>) -> Result<Reply, Stop>
     ensures told { answer ≡ Err Refusal.NoMemory → result ≡ Err Stop.NoMemory }
     ensures reply { (q : Question) → is_planned q ≡ false → IsReply (answer_reply q answer) result }
     ensures phrase { IfOk result (λ reply. IsSome (phrase reply.status)) }
@@ -41,24 +41,30 @@ pub(crate) fn success(alloc: Global, command: &Command) -> Result<Reply, NoMemor
     ensures later { IfOk result (λ reply. reply.later ≡ 0) }
 {
     match command {
-        Command::CreateShell { document } => created(alloc, shell_text(alloc, document.get())?),
-        Command::CreateSubmodel { document } => created(
+        Command::CreateShell { document } => created_reply(
+            alloc,
+            shell_text(alloc, document.get())?,
+        ),
+        Command::CreateSubmodel { document } => created_reply(
             alloc,
             submodel_text(alloc, document.get())?,
         ),
-        Command::CreateConcept { document } => created(alloc, concept_text(alloc, document.get())?),
+        Command::CreateConcept { document } => created_reply(
+            alloc,
+            concept_text(alloc, document.get())?,
+        ),
         Command::AddReference { reference, .. } => {
-            created(alloc, reference_text(alloc, reference)?)
+            created_reply(alloc, reference_text(alloc, reference)?)
         }
         Command::InsertElement { element, .. } => {
-            created(alloc, element_text(alloc, element.get())?)
+            created_reply(alloc, element_text(alloc, element.get())?)
         }
         _ => open_reply(alloc, 204, Many::new(alloc)),
     }
 }
 
 /// The reply that has the text of what was created.
-fn created(alloc: Global, text: Vec<u8>) -> Result<Reply, NoMemory>
+fn created_reply(alloc: Global, text: Vec<u8>) -> Result<Reply, NoMemory>
     ensures reply { IfOk result (λ reply. reply ≡ reply_with 201 text.items) }
     ensures status { IfOk result (λ reply. reply.status ≡ 201) }
     ensures later { IfOk result (λ reply. reply.later ≡ 0) }
@@ -104,7 +110,7 @@ fn refuse_by(alloc: Global, refusal: &Refusal) -> Result<Reply, Stop>
 {
     match refusal {
         Refusal::NoMemory => Err(Stop::NoMemory),
-        refusal => match refused(alloc, refusal) {
+        refusal => match refusal_reply(alloc, refusal) {
             Ok(reply) => Ok(reply),
             Err(NoMemory) => Err(Stop::NoMemory),
         },

@@ -1,13 +1,12 @@
 // The repository behind its interface.
-ghost use Rattle.std.specs.Prelude.{◌≡◌, ◌≢◌, ◌≤◌, ℕ, List, false, None, Some, Err, IfOk, IsSome, MatchResult};
+ghost use Rattle.std.specs.Prelude.{◌≡◌, ◌≢◌, false, None, Some, Err, IfOk, IsSome, MatchResult};
 ghost use Rattle.aas_api.specs.declared.ask.Ask.TheVariants.{Act, Describe};
 ghost use Rattle.aas_command.specs.Commands.{IsWellFormed};
 ghost use Rattle.aas_http.specs.ReplyText.{phrase};
-ghost use Rattle.aas_outside.specs.Faults.{Rose};
-ghost use Rattle.aas_rule.specs.State.{IsSettledState, PassesTo, repository_of};
+ghost use Rattle.aas_rule.specs.State.{GoesOn, WhereSettled};
 ghost use Rattle.aas_answer.specs.Plans.{plan_text};
 ghost use Rattle.aas_question.specs.declared.question.Question.{Question};
-ghost use Rattle.aas_repo.specs.Held.{state_of};
+ghost use Rattle.aas_repo.specs.Held.{machine_state};
 ghost use Rattle.aas_session.specs.Answers.{Answers};
 ghost use Rattle.aas_session.specs.WholeReply.{IsMeasured};
 ghost use Rattle.aas_session.specs.declared.machine.Stop.TheVariants.{StorageFault};
@@ -17,7 +16,7 @@ ghost use Rattle.aas_api_service.specs.Finished.{whole_of};
 ghost use Rattle.aas_api_service.specs.Planned.{HasPlan, is_planned_ask};
 ghost use Rattle.aas_api_service.specs.WellFormed.{IsWellFormedAsk, IsWellFormedMetadata};
 
-use crate::describing::described;
+use crate::describing::metadata_command;
 use crate::questions::{tell, whole};
 use crate::replies::{finish, refuse, success};
 use aas_answer::{Plan, pour_plan};
@@ -51,7 +50,7 @@ impl<S: Store, K: Keeper> Service<S, K> {
 }
 
 impl<S: Lookup, K: Keeper> Machine for Service<S, K> {
-    ghost use Rattle.aas_repo.specs.Held.{state_of};
+    ghost use Rattle.aas_repo.specs.Held.{machine_state};
     ghost use Rattle.aas_store.specs.Documents.{Documents};
     ghost use Rattle.aas_api_service.specs.Turns.{Turns};
 
@@ -63,13 +62,7 @@ impl<S: Lookup, K: Keeper> Machine for Service<S, K> {
 
     ghost rule = { Turns };
 
-    ghost room = { λ service. K.room_behind service.repo.keeper };
-
-    ghost state = { λ service. state_of K.kept K.moment K.left_at service.repo };
-
-    ghost faults = { λ service. K.faults service.repo.keeper };
-
-    ghost stopped = { λ service. service.repo.stopped };
+    ghost state = { λ service. machine_state K.state service.repo };
 
     type Plan = Plan;
 
@@ -101,21 +94,14 @@ pub fn answer<S: Lookup, K: Keeper>(
 ) -> Result<Answer<Plan>, Stop>
     requires open { repo.old.stopped ≡ false }
     requires well_formed { IsWellFormedAsk call.ask }
-    ensures answered { (records : List (List ℕ)) →
-        IsSettledState K.stands_for (state_of K.kept K.moment K.left_at repo.old) records →
-        Answers (CallComesTo (K.room_behind repo.old.keeper)) K.stands_for
-        (repository_of (state_of K.kept K.moment K.left_at repo.old) records) call
-        (K.moment repo.old.keeper) (state_of K.kept K.moment K.left_at repo.new) (whole_of repo.new.documents result) }
+    ensures answered { WhereSettled K.stands_for (machine_state K.state repo.old).held (λ r.
+        Answers (CallComesTo (K.state repo.old.keeper).room_behind) K.stands_for r call
+        (K.state repo.old.keeper).moment (machine_state K.state repo.new).held (whole_of repo.new.documents result)) }
     ensures measured { IfOk result (IsMeasured (plan_text repo.new.documents)) }
     ensures planned { IfOk result (HasPlan (is_planned_ask call.ask)) }
     ensures reply { IfOk result (λ answer. IsSome (phrase answer.reply.status)) }
-    ensures room { K.room_behind repo.new.keeper ≡ K.room_behind repo.old.keeper }
-    ensures past { PassesTo (state_of K.kept K.moment K.left_at repo.old)
-        (state_of K.kept K.moment K.left_at repo.new) }
-    ensures stopped { result ≢ Err StorageFault → repo.new.stopped ≡ false }
-    ensures later { K.faults repo.old.keeper ≤ K.faults repo.new.keeper }
-    ensures calm { result ≢ Err StorageFault → K.faults repo.new.keeper ≡ K.faults repo.old.keeper }
-    ensures fault { result ≡ Err StorageFault → Rose (K.faults repo.old.keeper) (K.faults repo.new.keeper) }
+    ensures goes_on { GoesOn (result ≡ Err StorageFault)
+        (machine_state K.state repo.old) (machine_state K.state repo.new) }
     ensures unchanged { (q : Question) → call.ask ≡ Ask.Answer q → (repo.new ≡ repo.old) × (result ≢ Err StorageFault) }
 {
     match reach(repo, &call) {
@@ -145,21 +131,14 @@ fn answer_ask<S: Lookup, K: Keeper>(
 ) -> Result<Answer<Plan>, Stop>
     requires open { repo.old.stopped ≡ false }
     requires well_formed { IsWellFormedAsk ask }
-    ensures answered { (records : List (List ℕ)) →
-        IsSettledState K.stands_for (state_of K.kept K.moment K.left_at repo.old) records →
-        Answers (AskComesTo (K.room_behind repo.old.keeper)) K.stands_for
-        (repository_of (state_of K.kept K.moment K.left_at repo.old) records) ask
-        (K.moment repo.old.keeper) (state_of K.kept K.moment K.left_at repo.new) (whole_of repo.new.documents result) }
+    ensures answered { WhereSettled K.stands_for (machine_state K.state repo.old).held (λ r.
+        Answers (AskComesTo (K.state repo.old.keeper).room_behind) K.stands_for r ask
+        (K.state repo.old.keeper).moment (machine_state K.state repo.new).held (whole_of repo.new.documents result)) }
     ensures measured { IfOk result (IsMeasured (plan_text repo.new.documents)) }
     ensures planned { IfOk result (HasPlan (is_planned_ask ask)) }
     ensures reply { IfOk result (λ answer. IsSome (phrase answer.reply.status)) }
-    ensures room { K.room_behind repo.new.keeper ≡ K.room_behind repo.old.keeper }
-    ensures past { PassesTo (state_of K.kept K.moment K.left_at repo.old)
-        (state_of K.kept K.moment K.left_at repo.new) }
-    ensures stopped { result ≢ Err StorageFault → repo.new.stopped ≡ false }
-    ensures later { K.faults repo.old.keeper ≤ K.faults repo.new.keeper }
-    ensures calm { result ≢ Err StorageFault → K.faults repo.new.keeper ≡ K.faults repo.old.keeper }
-    ensures fault { result ≡ Err StorageFault → Rose (K.faults repo.old.keeper) (K.faults repo.new.keeper) }
+    ensures goes_on { GoesOn (result ≡ Err StorageFault)
+        (machine_state K.state repo.old) (machine_state K.state repo.new) }
     ensures unchanged { (q : Question) → ask ≡ Ask.Answer q → (repo.new ≡ repo.old) × (result ≢ Err StorageFault) }
 {
     match ask {
@@ -177,22 +156,15 @@ fn describe<S: Store, K: Keeper>(
 ) -> Result<Reply, Stop>
     requires open { repo.old.stopped ≡ false }
     requires well_formed { IsWellFormedMetadata metadata }
-    ensures answered { (records : List (List ℕ)) →
-        IsSettledState K.stands_for (state_of K.kept K.moment K.left_at repo.old) records →
-        Answers (AskComesTo (K.room_behind repo.old.keeper)) K.stands_for
-        (repository_of (state_of K.kept K.moment K.left_at repo.old) records) (Describe metadata)
-        (K.moment repo.old.keeper) (state_of K.kept K.moment K.left_at repo.new) result }
+    ensures answered { WhereSettled K.stands_for (machine_state K.state repo.old).held (λ r.
+        Answers (AskComesTo (K.state repo.old.keeper).room_behind) K.stands_for r (Describe metadata)
+        (K.state repo.old.keeper).moment (machine_state K.state repo.new).held result) }
     ensures reply { IfOk result (λ reply. IsSome (phrase reply.status)) }
     ensures no_more { IfOk result (λ reply. reply.later ≡ 0) }
-    ensures room { K.room_behind repo.new.keeper ≡ K.room_behind repo.old.keeper }
-    ensures past { PassesTo (state_of K.kept K.moment K.left_at repo.old)
-        (state_of K.kept K.moment K.left_at repo.new) }
-    ensures stopped { result ≢ Err StorageFault → repo.new.stopped ≡ false }
-    ensures later { K.faults repo.old.keeper ≤ K.faults repo.new.keeper }
-    ensures calm { result ≢ Err StorageFault → K.faults repo.new.keeper ≡ K.faults repo.old.keeper }
-    ensures fault { result ≡ Err StorageFault → Rose (K.faults repo.old.keeper) (K.faults repo.new.keeper) }
+    ensures goes_on { GoesOn (result ≡ Err StorageFault)
+        (machine_state K.state repo.old) (machine_state K.state repo.new) }
 {
-    match described(alloc, repo.store(), metadata) {
+    match metadata_command(alloc, repo.store(), metadata) {
         Ok(command) => act(alloc, repo, command),
         Err(refusal) => refuse(alloc, refusal),
     }
@@ -206,20 +178,13 @@ fn act<S: Store, K: Keeper>(
 ) -> Result<Reply, Stop>
     requires open { repo.old.stopped ≡ false }
     requires well_formed { IsWellFormed command }
-    ensures answered { (records : List (List ℕ)) →
-        IsSettledState K.stands_for (state_of K.kept K.moment K.left_at repo.old) records →
-        Answers (AskComesTo (K.room_behind repo.old.keeper)) K.stands_for
-        (repository_of (state_of K.kept K.moment K.left_at repo.old) records) (Act command)
-        (K.moment repo.old.keeper) (state_of K.kept K.moment K.left_at repo.new) result }
+    ensures answered { WhereSettled K.stands_for (machine_state K.state repo.old).held (λ r.
+        Answers (AskComesTo (K.state repo.old.keeper).room_behind) K.stands_for r (Act command)
+        (K.state repo.old.keeper).moment (machine_state K.state repo.new).held result) }
     ensures reply { IfOk result (λ reply. IsSome (phrase reply.status)) }
     ensures no_more { IfOk result (λ reply. reply.later ≡ 0) }
-    ensures room { K.room_behind repo.new.keeper ≡ K.room_behind repo.old.keeper }
-    ensures past { PassesTo (state_of K.kept K.moment K.left_at repo.old)
-        (state_of K.kept K.moment K.left_at repo.new) }
-    ensures stopped { result ≢ Err StorageFault → repo.new.stopped ≡ false }
-    ensures later { K.faults repo.old.keeper ≤ K.faults repo.new.keeper }
-    ensures calm { result ≢ Err StorageFault → K.faults repo.new.keeper ≡ K.faults repo.old.keeper }
-    ensures fault { result ≡ Err StorageFault → Rose (K.faults repo.old.keeper) (K.faults repo.new.keeper) }
+    ensures goes_on { GoesOn (result ≡ Err StorageFault)
+        (machine_state K.state repo.old) (machine_state K.state repo.new) }
 {
     match success(alloc, &command) {
         Ok(reply) => finish(alloc, repo.act(command), reply),

@@ -1,8 +1,7 @@
 // Exports.
 ghost use Rattle.std.specs.Prelude.{◌≡◌, ◌^◌, ◌↔◌, ◌≤◌, length, nat_lt, Some, None, Err, IfOk, if◌then◌else◌};
 ghost use Rattle.std.specs.Io.KnownBytes.{append_known};
-ghost use Rattle.aas_outside.specs.Faults.{Rose};
-ghost use Rattle.aas_outside.specs.Link.{GivesFront};
+ghost use Rattle.aas_outside.specs.Link.{AreGives, GivesFront};
 ghost use Rattle.aas_environment.specs.Environments.{export_text};
 
 use crate::exported::Export;
@@ -43,15 +42,12 @@ pub fn export<S: Store, K: Keeper, L: Link>(
     link: &mut L,
 ) -> Result<u64, ExportFault>
     ensures given { IfOk result (λ count. (count ≡ length (export_text repo.now.documents))
-        × (L.sent link.new ≡ append_known (L.sent link.old) (export_text repo.now.documents))) }
+        × ((L.state link.new).sent ≡ append_known (L.state link.old).sent (export_text repo.now.documents))) }
     ensures too_long { (result ≡ Err ExportFault.TooLong) ↔ (2 ^ 64 ≤ length (export_text repo.now.documents)) }
     ensures untouched { result ≡ Err ExportFault.TooLong → link.new ≡ link.old }
     ensures front { result ≡ Err ExportFault.Failed
-        → GivesFront (L.sent link.old) (L.sent link.new) (export_text repo.now.documents) }
-    ensures fault { result ≡ Err ExportFault.Failed → Rose (L.faults link.old) (L.faults link.new) }
-    ensures later { L.faults link.old ≤ L.faults link.new }
-    ensures surroundings { L.surroundings link.new ≡ L.surroundings link.old }
-    ensures left { L.left link.new ≡ L.left link.old }
+        → GivesFront (L.state link.old).sent (L.state link.new).sent (export_text repo.now.documents) }
+    ensures gives { AreGives (result ≡ Err ExportFault.Failed) (L.state link.old) (L.state link.new) }
 {
     let Some(count) = measure_export(repo) else {
         return Err(ExportFault::TooLong);

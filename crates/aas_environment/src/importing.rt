@@ -1,7 +1,6 @@
-ghost use Rattle.std.specs.Prelude.{◌≡◌, ◌≢◌, ◌≤◌, ℕ, List, Err, IfErr, false, true};
-ghost use Rattle.aas_outside.specs.Faults.{Rose};
-ghost use Rattle.aas_repo.specs.Held.{state_of};
-ghost use Rattle.aas_rule.specs.State.{IsSettledState, PassesTo, repository_of};
+ghost use Rattle.std.specs.Prelude.{◌≡◌, ◌≢◌, Err, IfErr, false, true};
+ghost use Rattle.aas_repo.specs.Held.{machine_state};
+ghost use Rattle.aas_rule.specs.State.{GoesOn, WhereSettled};
 ghost use Rattle.aas_environment.specs.Imports.{ComesOut, Imports, IsFileFault, counts_of};
 ghost use Rattle.aas_environment.specs.declared.import_fault.ImportFault.TheVariants.{Storage};
 
@@ -32,21 +31,15 @@ pub fn import<S: Store, K: Keeper>(
     bytes: &[u8],
 ) -> Result<Counts, ImportFault>
     requires { repo.old.stopped ≡ false }
-    ensures imports { (records : List (List ℕ)) →
-        IsSettledState K.stands_for (state_of K.kept K.moment K.left_at repo.old) records →
-        Imports (K.room_behind repo.old.keeper) K.stands_for
-        (repository_of (state_of K.kept K.moment K.left_at repo.old) records) bytes.now
-        (K.moment repo.old.keeper) (state_of K.kept K.moment K.left_at repo.new) result }
+    ensures imports { WhereSettled K.stands_for (machine_state K.state repo.old).held (λ r.
+        Imports (K.state repo.old.keeper).room_behind K.stands_for r bytes.now
+        (K.state repo.old.keeper).moment (machine_state K.state repo.new).held result) }
     ensures file { IfErr result (IsFileFault bytes.now) }
-    ensures room { K.room_behind repo.new.keeper ≡ K.room_behind repo.old.keeper }
-    ensures past { PassesTo (state_of K.kept K.moment K.left_at repo.old)
-        (state_of K.kept K.moment K.left_at repo.new) }
-    ensures stopped { result ≢ Err Storage → repo.new.stopped ≡ false }
+    ensures goes_on { GoesOn (result ≡ Err Storage) (machine_state K.state repo.old) (machine_state K.state repo.new) }
     ensures stops { result ≡ Err Storage → repo.new.stopped ≡ true }
-    ensures outcome { ComesOut (K.has_room repo.old.keeper) repo.old.documents bytes.now repo.new.documents result }
+    ensures outcome { ComesOut (K.state repo.old.keeper).has_room repo.old.documents bytes.now repo.new.documents
+        result }
     ensures unchanged { IfErr result (λ fault. fault ≢ Storage → repo.new ≡ repo.old) }
-    ensures later { K.faults repo.old.keeper ≤ K.faults repo.new.keeper }
-    ensures fault { result ≡ Err Storage → Rose (K.faults repo.old.keeper) (K.faults repo.new.keeper) }
 {
     let environment = match read_environment(alloc, bytes) {
         Ok(environment) => environment,

@@ -116,30 +116,30 @@ one_image payload file small =
 
 module _ {D : Type 0} (ghosts : Ghosts D) where
   abbrev Goes : D → D → Type 0
-  Goes d e = Passes (ghosts.moment d) (ghosts.left_at d) (ghosts.moment e) (ghosts.left_at e)
+  Goes d e = Passes (ghosts.state d).moment (ghosts.state d).left_at (ghosts.state e).moment (ghosts.state e).left_at
 
   abbrev Changes : Part → D → D → Type 0
   Changes part d e =
-      Meanwhile (ghosts.moment d) (ghosts.moment e) (ghosts.left_at d) (ghosts.left_at e) (ChangesOnly part)
+      Meanwhile (ghosts.state d).moment (ghosts.state e).moment (ghosts.state d).left_at (ghosts.state e).left_at (ChangesOnly part)
 
   abbrev During : D → D → List (List ℕ) → List (List ℕ) → Type 0
-  During d e a b = EitherDuring IsBankImage (ghosts.left_at e) (ghosts.moment d) (ghosts.moment e) a b
+  During d e a b = EitherDuring IsBankImage (ghosts.state e).left_at (ghosts.state d).moment (ghosts.state e).moment a b
 
   -- The journal keeps these payloads, and then the other file alone is written.
   module _ (journal : Journal D ghosts) (payloads : List (List ℕ)) (kept : kept_by journal payloads)
       (spare : Part) (apart : spare ≡ other journal.part) (mid : D) (goes1 : Goes journal.disk mid)
       (changes1 : Changes spare journal.disk mid) where
     abbrev Alone : Type 0
-    Alone = (c : Files) → ghosts.left_at journal.disk (ghosts.moment journal.disk) c → IsBankImage c payloads
+    Alone = (c : Files) → (ghosts.state journal.disk).left_at (ghosts.state journal.disk).moment c → IsBankImage c payloads
 
     stays1 : (d c : Files)
         → SameOthers spare d c → (c.selector ≡ d.selector) × (file journal.part c ≡ file journal.part d)
     stays1 d c same = others_stay journal.part d c (subst (λ (q : Part). SameOthers q d c) apart same)
 
     -- each image chooses the journal's file, as one from before has it
-    chooses : (t : ℕ) → ghosts.moment journal.disk ≤ t → t ≤ ghosts.moment mid → (c : Files) → ghosts.left_at mid t c
+    chooses : (t : ℕ) → (ghosts.state journal.disk).moment ≤ t → t ≤ (ghosts.state mid).moment → (c : Files) → (ghosts.state mid).left_at t c
         → (journal.part ≡ chosen c.selector) × (d : Files)
-        × ghosts.left_at journal.disk (ghosts.moment journal.disk) d × (chosen_file c ≡ chosen_file d)
+        × (ghosts.state journal.disk).left_at (ghosts.state journal.disk).moment d × (chosen_file c ≡ chosen_file d)
     chooses t since until c left =
         let from = changes1 t since until c left in
         let d = from.0 in
@@ -148,8 +148,8 @@ module _ {D : Type 0} (ghosts : Ghosts D) where
         let now : journal.part ≡ chosen c.selector = old ∙ ap chosen (sym stay.0) in
         (now, d, from.1, ap (λ (q : Part). file q c) (sym now) ∙ stay.1 ∙ ap (λ (q : Part). file q d) old)
 
-    in_first : Alone → (t : ℕ) → ghosts.moment journal.disk ≤ t → t ≤ ghosts.moment mid → (c : Files)
-        → ghosts.left_at mid t c → IsBankImage c payloads
+    in_first : Alone → (t : ℕ) → (ghosts.state journal.disk).moment ≤ t → t ≤ (ghosts.state mid).moment → (c : Files)
+        → (ghosts.state mid).left_at t c → IsBankImage c payloads
     in_first alone t since until c left =
         let it = chooses t since until c left in
         subst (λ (l : List ℕ). IsImage l payloads) (sym it.3) (alone it.1 it.2)
@@ -160,13 +160,13 @@ module _ {D : Type 0} (ghosts : Ghosts D) where
     -- The other file holds the one record, and then the selector alone is written.
     module _ (payload : List ℕ) (small : length payload < 2 ^ 32)
         (record1 : Rewrites {E = Failed} spare (written 0 (one_record payload))
-        (ghosts.seen journal.disk) (ghosts.seen mid) (Ok tt))
-        (durable1 : HoldsWhatIsRead spare (ghosts.seen mid) (ghosts.left_at mid (ghosts.moment mid))) (new : D)
+        (ghosts.state journal.disk).seen (ghosts.state mid).seen (Ok tt))
+        (durable1 : HoldsWhatIsRead spare (ghosts.state mid).seen ((ghosts.state mid).left_at (ghosts.state mid).moment)) (new : D)
         (goes2 : Goes mid new) (changes2 : Changes Selector mid new) where
-      between : (b : Files) × (ghosts.seen mid ≡ Some b)
+      between : (b : Files) × ((ghosts.state mid).seen ≡ Some b)
           × (SameOthers spare kept.files b × (length (file spare kept.files) ≤ length (file spare b))
           × (file spare b ≡ written 0 (one_record payload) (file spare kept.files)))
-      between = told kept.files (ghosts.seen journal.disk) (ghosts.seen mid) _ kept.told record1
+      between = told kept.files (ghosts.state journal.disk).seen (ghosts.state mid).seen _ kept.told record1
 
       abbrev staged : List ℕ
       staged = file spare between.0
@@ -174,11 +174,11 @@ module _ {D : Type 0} (ghosts : Ghosts D) where
       stays2 : (d c : Files) → SameOthers Selector d c → file spare c ≡ file spare d
       stays2 d c same = subst (λ (q : Part). file q c ≡ file q d) (sym apart) (other_stays journal.part d c same)
 
-      holds2 : (t : ℕ) → ghosts.moment mid ≤ t → t ≤ ghosts.moment new → (c : Files)
-          → ghosts.left_at new t c → file spare c ≡ staged
+      holds2 : (t : ℕ) → (ghosts.state mid).moment ≤ t → t ≤ (ghosts.state new).moment → (c : Files)
+          → (ghosts.state new).left_at t c → file spare c ≡ staged
       holds2 t since until c left =
           let from = changes2 t since until c left in
-          stays2 from.0 c from.2 ∙ known between.0 (ghosts.seen mid) _ between.1 durable1 from.0 from.1
+          stays2 from.0 c from.2 ∙ known between.0 (ghosts.state mid).seen _ between.1 durable1 from.0 from.1
 
       one_alone : (c : Files) → spare ≡ chosen c.selector → file spare c ≡ staged → IsBankImage c (payload ∷ [])
       one_alone c is holds =
@@ -186,8 +186,8 @@ module _ {D : Type 0} (ghosts : Ghosts D) where
           (sym (ap (λ (q : Part). file q c) (sym is) ∙ holds ∙ between.2.2))
           (one_image payload (file spare kept.files) small)
 
-      in_second : Alone → (t : ℕ) → ghosts.moment mid ≤ t → t ≤ ghosts.moment new → (c : Files)
-          → ghosts.left_at new t c → IsBankImage c payloads ⊎ IsBankImage c (payload ∷ [])
+      in_second : Alone → (t : ℕ) → (ghosts.state mid).moment ≤ t → t ≤ (ghosts.state new).moment → (c : Files)
+          → (ghosts.state new).left_at t c → IsBankImage c payloads ⊎ IsBankImage c (payload ∷ [])
       in_second alone t since until c left =
           let from = changes2 t since until c left in
           let d = from.0 in
@@ -195,9 +195,9 @@ module _ {D : Type 0} (ghosts : Ghosts D) where
           (λ same. inl
           (subst (λ (l : List ℕ). IsImage l payloads)
           (sym (ap (λ (q : Part). file q c) same ∙ chosen_stays d.selector d c from.2))
-          (in_first alone (ghosts.moment mid) goes1.later (omega arith) d from.1)))
+          (in_first alone (ghosts.state mid).moment goes1.later (omega arith) d from.1)))
           (λ turned_one. inr (one_alone c
-          (apart ∙ ap other (chooses (ghosts.moment mid) goes1.later (omega arith) d from.1).0 ∙ sym turned_one)
+          (apart ∙ ap other (chooses (ghosts.state mid).moment goes1.later (omega arith) d from.1).0 ∙ sym turned_one)
           (holds2 t since until c left)))
           (one_of_two c.selector d.selector)
 
@@ -205,21 +205,21 @@ module _ {D : Type 0} (ghosts : Ghosts D) where
       during_second alone t since until c left = ⊎_elim
           (λ low. inl (in_first alone t since (omega (arith, low)) c ((goes2.past t (omega (arith, low)) c).0 left)))
           (λ high. in_second alone t high until c left)
-          (cases_lt t (ghosts.moment mid))
+          (cases_lt t (ghosts.state mid).moment)
 
       -- the selector is turned
       pub settled_on_one : (closed : ℕ) → closed ≡ gate_of (payload ∷ []) 1
-          → Rewrites {E = Failed} Selector turned (ghosts.seen mid) (ghosts.seen new) (Ok tt)
-          → HoldsWhatIsRead Selector (ghosts.seen new) (ghosts.left_at new (ghosts.moment new))
-          → IsSettled IsBankImage (Keeps (ghosts.seen new) (ghosts.left_at new (ghosts.moment new)) spare closed)
-          (ghosts.moment new) (ghosts.left_at new) (payload ∷ [])
+          → Rewrites {E = Failed} Selector turned (ghosts.state mid).seen (ghosts.state new).seen (Ok tt)
+          → HoldsWhatIsRead Selector (ghosts.state new).seen ((ghosts.state new).left_at (ghosts.state new).moment)
+          → IsSettled IsBankImage (Keeps (ghosts.state new).seen ((ghosts.state new).left_at (ghosts.state new).moment) spare closed)
+          (ghosts.state new).moment (ghosts.state new).left_at (payload ∷ [])
       settled_on_one closed closed_is record2 durable2 =
-          let last = told between.0 (ghosts.seen mid) (ghosts.seen new) _ between.1 record2 in
+          let last = told between.0 (ghosts.state mid).seen (ghosts.state new).seen _ between.1 record2 in
           let files = last.0 in
           let same = (stays1 kept.files between.0 between.2.0).0 in
           let is : spare ≡ chosen files.selector = apart ∙ ap other (kept.part_is ∙ ap chosen (sym same))
           ∙ sym (chooses_other between.0.selector) ∙ ap chosen (sym last.2.2) in
-          let selectors = known files (ghosts.seen new) _ last.1 durable2 in
+          let selectors = known files (ghosts.state new).seen _ last.1 durable2 in
           record {
             told = record {
               files = files;
@@ -231,5 +231,5 @@ module _ {D : Type 0} (ghosts : Ghosts D) where
             };
             alone = λ c left.
                 one_alone c (is ∙ ap chosen (sym (selectors c left)))
-                (holds2 (ghosts.moment new) goes2.later (omega arith) c left);
+                (holds2 (ghosts.state new).moment goes2.later (omega arith) c left);
           }

@@ -4,8 +4,7 @@ use Rattle.std.proofs.lemmas.Bool.{cases_lt}
 use Rattle.std.specs.Prelude.{IfSome}
 use Rattle.aas_outside.specs.Moments.{Passes}
 use Rattle.aas_outside.proofs.Turns.{passes_on}
-use Rattle.aas_journal.specs.Reads.{OnlyReads}
-use Rattle.aas_outside_disk.specs.Disk.{AddsNone, Becomes, Meanwhile, Tears}
+use Rattle.aas_outside_disk.specs.Disk.{AddsNone, Becomes, DiskState, Meanwhile, OnlyReads, Tears}
 use Rattle.aas_outside_disk.specs.Files.{Files}
 use Rattle.aas_outside_disk.specs.declared.part.Part.{Part}
 
@@ -32,23 +31,20 @@ none_then a b c old mid new first before passes none t since until f left =
     let u = earlier a b c t mid new passes none first.later since until f left in
     before u.0 u.1 u.2 f u.3
 
-module _ {D : Type 0} (seen : D → Option Files) (moment : D → ℕ) (left_at : D → ℕ → Files → Type 0) where
-  pub reads_none : (d : D) → OnlyReads seen moment left_at d d
-  reads_none d = record {
-    same = refl;
-    images = λ t since until f left. subst (λ (u : ℕ). left_at d u f) (omega (arith, since, until)) left;
-    past = record { later = omega arith; past = λ t le f. (λ h. h, λ h. h) };
-  }
+pub reads_none : (disk : DiskState) → OnlyReads disk disk
+reads_none disk = record {
+  seen = refl;
+  images = λ t since until f left. subst (λ (u : ℕ). disk.left_at u f) (omega (arith, since, until)) left;
+  past = record { later = omega arith; past = λ t le f. (λ h. h, λ h. h) };
+}
 
-  pub reads_then : (d e f : D)
-      → OnlyReads seen moment left_at d e → OnlyReads seen moment left_at e f → OnlyReads seen moment left_at d f
-  reads_then d e f first second = record {
-    same = second.same ∙ first.same;
-    images =
-        none_then (moment d) (moment e) (moment f) (left_at d) (left_at e)
-        (left_at f) first.past first.images second.past second.images;
-    past = passes_on (moment d) (moment e) (moment f) (left_at d) (left_at e) (left_at f) first.past second.past;
-  }
+pub reads_then : (a b c : DiskState) → OnlyReads a b → OnlyReads b c → OnlyReads a c
+reads_then a b c first second = record {
+  seen = second.seen ∙ first.seen;
+  images =
+      none_then a.moment b.moment c.moment a.left_at b.left_at c.left_at first.past first.images second.past second.images;
+  past = passes_on a.moment b.moment c.moment a.left_at b.left_at c.left_at first.past second.past;
+}
 
 -- What is told stays told.
 becomes : (a : Files) (new : Option Files) (P : Files → Files → Type 0)

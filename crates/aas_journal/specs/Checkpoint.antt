@@ -1,12 +1,13 @@
 -- What a checkpoint does to three files, and what a stop leaves of it. This profile's own rule.
-use Rattle.std.specs.Prelude.{◌≡◌, ◌⊎◌, ℕ, ◌+◌, ◌≤◌, ◌%◌, List, ◌∷◌, ◌++◌, Option, Result, OnOk}
+use Rattle.std.specs.Prelude.{◌≡◌, ◌⊎◌, ℕ, ◌+◌, ◌≤◌, ◌%◌, List, ◌∷◌, ◌++◌, [], Option, Some, Result, OnOk, IfSome}
 use Rattle.std.specs.Prelude.{codes, drop, length, slice_index}
 use Rattle.aas_outside.specs.Frame.{frame_bytes}
-use Rattle.aas_outside_disk.specs.Disk.{Becomes, written}
+use Rattle.aas_outside.specs.Keeper.{IsSettledKeeper, KeeperState}
+use Rattle.aas_outside_disk.specs.Disk.{Becomes, DiskState, written}
 use Rattle.aas_outside_disk.specs.Files.{Files, SameOthers, file}
 use Rattle.aas_outside_disk.specs.declared.part.Part.{Part}
 use Rattle.aas_outside_disk.specs.declared.part.Part.TheVariants.{Main, Spare, Selector}
-use Rattle.aas_journal.specs.Bank.{chosen}
+use Rattle.aas_journal.specs.Bank.{IsBankImage, chosen, chosen_file}
 
 -- the file of records that isn't this one
 abbrev pub other : Part → Part
@@ -42,6 +43,19 @@ abbrev pub EitherDuring : {I : Type 0}
     → (I → List (List ℕ) → Type 0) → (ℕ → I → Type 0) → ℕ → ℕ → (a b : List (List ℕ)) → Type 0
 EitherDuring {I} stands_for left_at from to a b =
     (t : ℕ) → from ≤ t → t ≤ to → (image : I) → left_at t image → stands_for image a ⊎ stands_for image b
+
+-- the same from one state of a keeper to another
+abbrev pub EitherMeanwhile : {I : Type 0}
+    → (I → List (List ℕ) → Type 0) → (old new : KeeperState I) → (a b : List (List ℕ)) → Type 0
+EitherMeanwhile stands_for old new a b = EitherDuring stands_for new.left_at old.moment new.moment a b
+
+-- What a checkpoint by this payload does. At Ok it alone is kept, and whatever a stop leaves from then on is its image.
+-- The file that was chosen before stays, whatever is answered.
+pub record PutsInPlace {E : Type 0} (payload : List ℕ) (new : KeeperState Files) (disk_old disk_new : DiskState)
+    (result : Result (Unit {0}) E) : Type 0 where
+  pub settled : OnOk result (IsSettledKeeper IsBankImage new (payload ∷ []))
+  pub bytes : OnOk result (IfSome disk_old.seen (λ files. disk_new.seen ≡ Some (checkpointed payload files)))
+  pub stays : Becomes disk_old.seen disk_new.seen (λ old new. file (chosen old.selector) new ≡ chosen_file old)
 
 -- What reads give of this file is changed so at Ok, and no shorter than before at Err. The other two stay.
 abbrev pub Rewrites : {E : Type 0}

@@ -1,15 +1,14 @@
 // How one payload is put in the place of all.
-ghost use Rattle.std.specs.Prelude.{◌≡◌, ◌<◌, ◌≤◌, ◌+◌, ◌↔◌, [], ◌∷◌, List, ℕ, Err, Some, IfSome, OnOk, length};
-ghost use Rattle.aas_journal.specs.Bank.{IsBankImage, chosen, chosen_file};
-ghost use Rattle.aas_journal.specs.Checkpoint.{ChangesOnly, EitherDuring, Rewrites, checkpointed, one_record};
+ghost use Rattle.std.specs.Prelude.{◌≡◌, ◌<◌, ◌+◌, ◌↔◌, [], ◌∷◌, List, ℕ, Err, OnOk, length};
+ghost use Rattle.aas_outside.specs.Keeper.{IsSettledKeeper};
+ghost use Rattle.aas_journal.specs.Bank.{IsBankImage};
+ghost use Rattle.aas_journal.specs.Checkpoint.{ChangesOnly};
+ghost use Rattle.aas_journal.specs.Checkpoint.{EitherMeanwhile, one_record, PutsInPlace, Rewrites};
 ghost use Rattle.aas_journal.specs.Checkpoint.{other, turned};
 ghost use Rattle.aas_journal.specs.Kept.{most_bytes};
-ghost use Rattle.aas_journal.specs.Shown.{disk_of};
+ghost use Rattle.aas_journal.specs.Shown.{disk_of, journal_state};
 ghost use Rattle.aas_journal.specs.declared.fault.CheckpointFault.TheVariants.{Failed as DiskFailed, Full};
-ghost use Rattle.aas_outside.specs.Faults.{HasCause, Rose};
-ghost use Rattle.aas_outside.specs.Moments.{IsSettled, Passes};
-ghost use Rattle.aas_outside_disk.specs.Disk.{Becomes, HoldsWhatIsRead, Meanwhile, written};
-ghost use Rattle.aas_outside_disk.specs.Files.{file};
+ghost use Rattle.aas_outside_disk.specs.Disk.{AreDiskCalls, Changes, HoldsWhatIsRead, IsDiskCall, MayLeave, written};
 ghost use Rattle.aas_outside_disk.specs.declared.part.Part.TheVariants.{Selector};
 
 use crate::durable::write_durably;
@@ -36,32 +35,19 @@ impl<D: Disk> Journal<D> {
     /// where the disk's count of faults rises too; then a stop may leave the payloads from before or the one, and the
     /// journal is used no more.
     pub fn checkpoint(&mut self, frame: &Frame) -> Result<(), CheckpointFault>
-        // The one payload is kept, and whatever a stop leaves from now on is its image.
-        ensures settled { (payloads : List (List ℕ)) → ⟦<Journal<D> as Keeper>⟧.kept self.old payloads →
-            OnOk result (IsSettled IsBankImage (⟦<Journal<D> as Keeper>⟧.kept self.new)
-            (⟦<Journal<D> as Keeper>⟧.moment self.new) (⟦<Journal<D> as Keeper>⟧.left_at self.new) (frame.now ∷ [])) }
+        // At `Ok` the one payload is kept in the place of those from before. Their file stays, whatever is answered.
+        ensures puts { (payloads : List (List ℕ)) → (journal_state self.old).kept payloads →
+            PutsInPlace frame.now (journal_state self.new)
+            (D.state (disk_of self.old)) (D.state (disk_of self.new)) result }
 
         // At each moment since the start a stop leaves the image of the payloads from before, or of the one.
-        ensures meanwhile { (payloads : List (List ℕ)) → IsSettled IsBankImage (⟦<Journal<D> as Keeper>⟧.kept self.old)
-            (⟦<Journal<D> as Keeper>⟧.moment self.old) (⟦<Journal<D> as Keeper>⟧.left_at self.old) payloads →
-            EitherDuring IsBankImage (⟦<Journal<D> as Keeper>⟧.left_at self.new)
-            (⟦<Journal<D> as Keeper>⟧.moment self.old) (⟦<Journal<D> as Keeper>⟧.moment self.new) payloads (frame.now ∷ []) }
-
-        ensures bytes { (payloads : List (List ℕ)) → ⟦<Journal<D> as Keeper>⟧.kept self.old payloads →
-            OnOk result (IfSome (D.seen (disk_of self.old)) (λ files.
-            D.seen (disk_of self.new) ≡ Some (checkpointed frame.now files))) }
-
-        // The file that had the payloads stays, whatever is answered.
-        ensures stays { (payloads : List (List ℕ)) → ⟦<Journal<D> as Keeper>⟧.kept self.old payloads →
-            Becomes (D.seen (disk_of self.old)) (D.seen (disk_of self.new)) (λ old new.
-            file (chosen old.selector) new ≡ chosen_file old) }
+        ensures meanwhile { (payloads : List (List ℕ)) → IsSettledKeeper IsBankImage (journal_state self.old) payloads →
+            EitherMeanwhile IsBankImage (journal_state self.old) (journal_state self.new) payloads (frame.now ∷ []) }
 
         ensures full { result ≡ Err Full ↔ most_bytes < length frame.now + 14 }
         ensures unchanged { result ≡ Err Full → self.new ≡ self.old }
-        ensures failed { result ≡ Err DiskFailed → Rose (D.faults (disk_of self.old)) (D.faults (disk_of self.new)) }
-        ensures later { D.faults (disk_of self.old) ≤ D.faults (disk_of self.new) }
-        ensures past { Passes (D.moment (disk_of self.old)) (D.left_at (disk_of self.old))
-            (D.moment (disk_of self.new)) (D.left_at (disk_of self.new)) }
+        ensures calls { AreDiskCalls (result ≡ Err DiskFailed) (D.state (disk_of self.old))
+            (D.state (disk_of self.new)) }
     {
         if frame.len() + BYTES_BESIDES > MOST_BYTES {
             return Err(CheckpointFault::Full);
@@ -87,14 +73,12 @@ fn other(part: Part) -> Part
 
 /// Writes the payload as the one record of a file, and syncs the file.
 fn write_alone<D: Disk>(disk: &mut D, part: Part, frame: &Frame) -> Result<(), Failed>
-    ensures rewritten { Rewrites part (written 0 (one_record frame.now)) (D.seen disk.old) (D.seen disk.new) result }
+    ensures rewritten { Rewrites part (written 0 (one_record frame.now)) (D.state disk.old).seen
+        (D.state disk.new).seen result }
     ensures durable { OnOk result
-        (HoldsWhatIsRead part (D.seen disk.new) (D.left_at disk.new (D.moment disk.new))) }
-    ensures images { Meanwhile (D.moment disk.old) (D.moment disk.new)
-        (D.left_at disk.old) (D.left_at disk.new) (ChangesOnly part) }
-    ensures past { Passes (D.moment disk.old) (D.left_at disk.old)
-        (D.moment disk.new) (D.left_at disk.new) }
-    ensures cause { HasCause (D.faults disk.old) (D.faults disk.new) result }
+        (HoldsWhatIsRead part (D.state disk.new).seen (MayLeave (D.state disk.new))) }
+    ensures images { Changes (D.state disk.old) (D.state disk.new) (ChangesOnly part) }
+    ensures call { IsDiskCall (D.state disk.old) (D.state disk.new) result }
 {
     disk.write_at(part, 0, BEGINNING)?;
     write_durably(disk, part, FIRST_GATE + 1, frame.bytes())
@@ -102,14 +86,11 @@ fn write_alone<D: Disk>(disk: &mut D, part: Part, frame: &Frame) -> Result<(), F
 
 /// Makes the other file of records the chosen one, and syncs the selector.
 fn turn_selector<D: Disk>(disk: &mut D) -> Result<(), Failed>
-    ensures rewritten { Rewrites Selector turned (D.seen disk.old) (D.seen disk.new) result }
+    ensures rewritten { Rewrites Selector turned (D.state disk.old).seen (D.state disk.new).seen result }
     ensures durable { OnOk result
-        (HoldsWhatIsRead Selector (D.seen disk.new) (D.left_at disk.new (D.moment disk.new))) }
-    ensures images { Meanwhile (D.moment disk.old) (D.moment disk.new)
-        (D.left_at disk.old) (D.left_at disk.new) (ChangesOnly Selector) }
-    ensures past { Passes (D.moment disk.old) (D.left_at disk.old)
-        (D.moment disk.new) (D.left_at disk.new) }
-    ensures cause { HasCause (D.faults disk.old) (D.faults disk.new) result }
+        (HoldsWhatIsRead Selector (D.state disk.new).seen (MayLeave (D.state disk.new))) }
+    ensures images { Changes (D.state disk.old) (D.state disk.new) (ChangesOnly Selector) }
+    ensures call { IsDiskCall (D.state disk.old) (D.state disk.new) result }
 {
     let first = first_of_selector(disk)?;
     write_durably(disk, Part::Selector, 0, &[first.wrapping_add(1)])

@@ -1,13 +1,12 @@
 // How a journal is made.
-ghost use Rattle.std.specs.Prelude.{◌≡◌, ◌≤◌, ◌↔◌, [], Err, IfOk, IfSome, IsTrue, OnOk, Some};
+ghost use Rattle.std.specs.Prelude.{◌≡◌, ◌↔◌, [], Err, IfOk, IfSome, IsTrue, OnOk, Some};
 ghost use Rattle.aas_journal.specs.Bank.{IsBankImage};
 ghost use Rattle.aas_journal.specs.Causes.{AreEmpty};
 ghost use Rattle.aas_journal.specs.Checkpoint.{ChangesOnly};
-ghost use Rattle.aas_journal.specs.Reads.{OnlyReads, initial_files};
+ghost use Rattle.aas_journal.specs.Reads.{initial_files};
 ghost use Rattle.aas_journal.specs.declared.fault.InitFault.TheVariants.{AlreadyThere, Failed as DiskFailed};
-ghost use Rattle.aas_outside.specs.Faults.{HasCause, Rose};
-ghost use Rattle.aas_outside.specs.Moments.{Passes};
-ghost use Rattle.aas_outside_disk.specs.Disk.{Meanwhile, Writes};
+ghost use Rattle.aas_outside.specs.Faults.{HasCause};
+ghost use Rattle.aas_outside_disk.specs.Disk.{AreDiskCalls, Changes, MayLeave, OnlyReads, Writes};
 ghost use Rattle.aas_outside_disk.specs.Files.{Files};
 ghost use Rattle.aas_outside_disk.specs.declared.part.Part.TheVariants.{Main};
 
@@ -22,28 +21,20 @@ const INITIAL: &[u8; 9] = b"AASJ0002\0";
 /// Makes a journal without payloads in three files that are empty, and where one of them isn't only reads. A stop in
 /// the call may leave anything of the main one.
 pub fn init_journal<D: Disk>(disk: &mut D) -> Result<(), InitFault>
-    ensures made { OnOk result (IfSome (D.seen disk.old) (λ files.
-        AreEmpty files × (D.seen disk.new ≡ Some initial_files))) }
-
+    ensures made { OnOk result (IfSome (D.state disk.old).seen (λ files.
+        AreEmpty files × ((D.state disk.new).seen ≡ Some initial_files))) }
     // Where a stop at the start left empty files, one at the end leaves the image of no payloads.
-    ensures images { OnOk result (IfSome (D.seen disk.old) (λ _.
-        ((image : Files) → D.left_at disk.old (D.moment disk.old) image → AreEmpty image) →
-        (image : Files) → D.left_at disk.new (D.moment disk.new) image → IsBankImage image [])) }
-
-    ensures already { result ≡ Err AlreadyThere → IfSome (D.seen disk.old) (λ files. ¬ (AreEmpty files)) }
-    ensures unchanged { result ≡ Err AlreadyThere → OnlyReads D.seen D.moment D.left_at disk.old disk.new }
-    ensures reads { IfSome (D.seen disk.old) (λ files. ¬ (AreEmpty files) →
-        OnlyReads D.seen D.moment D.left_at disk.old disk.new) }
-
+    ensures images { OnOk result (IfSome (D.state disk.old).seen (λ _.
+        ((image : Files) → MayLeave (D.state disk.old) image → AreEmpty image) →
+        (image : Files) → MayLeave (D.state disk.new) image → IsBankImage image [])) }
+    ensures already { result ≡ Err AlreadyThere → OnlyReads (D.state disk.old) (D.state disk.new)
+        × IfSome (D.state disk.old).seen (λ files. ¬ (AreEmpty files)) }
+    ensures reads { IfSome (D.state disk.old).seen (λ files. ¬ (AreEmpty files) →
+        OnlyReads (D.state disk.old) (D.state disk.new)) }
     // At most the first bytes of the main file differ in what reads give, and at most that file in what a stop leaves.
-    ensures bytes { Writes Main 0 initial_files.main (D.seen disk.old) (D.seen disk.new) result }
-    ensures main_alone { Meanwhile (D.moment disk.old) (D.moment disk.new)
-        (D.left_at disk.old) (D.left_at disk.new) (ChangesOnly Main) }
-
-    ensures failed { result ≡ Err DiskFailed → Rose (D.faults disk.old) (D.faults disk.new) }
-    ensures later { D.faults disk.old ≤ D.faults disk.new }
-    ensures past { Passes (D.moment disk.old) (D.left_at disk.old)
-        (D.moment disk.new) (D.left_at disk.new) }
+    ensures bytes { Writes Main 0 initial_files.main (D.state disk.old).seen (D.state disk.new).seen result }
+    ensures main_alone { Changes (D.state disk.old) (D.state disk.new) (ChangesOnly Main) }
+    ensures calls { AreDiskCalls (result ≡ Err DiskFailed) (D.state disk.old) (D.state disk.new) }
 {
     if !are_empty(disk)? {
         return Err(InitFault::AlreadyThere);
@@ -54,9 +45,9 @@ pub fn init_journal<D: Disk>(disk: &mut D) -> Result<(), InitFault>
 
 /// Whether the three files are empty.
 fn are_empty<D: Disk>(disk: &mut D) -> Result<bool, Failed>
-    ensures value { IfOk result (λ empty. IfSome (D.seen disk.old) (λ files. IsTrue empty ↔ AreEmpty files)) }
-    ensures reads { OnlyReads D.seen D.moment D.left_at disk.old disk.new }
-    ensures cause { HasCause (D.faults disk.old) (D.faults disk.new) result }
+    ensures value { IfOk result (λ empty. IfSome (D.state disk.old).seen (λ files. IsTrue empty ↔ AreEmpty files)) }
+    ensures reads { OnlyReads (D.state disk.old) (D.state disk.new) }
+    ensures cause { HasCause (D.state disk.old).faults (D.state disk.new).faults result }
 {
     let main = disk.length(Part::Main)?;
     let spare = disk.length(Part::Spare)?;

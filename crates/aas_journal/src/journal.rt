@@ -26,39 +26,28 @@ pub struct Journal<D: Disk> {
     pub(crate) part: Part,
     /// Where its closed gate stands.
     pub(crate) gate: u64,
-    ghost within: { ForSome (D.seen disk) (λ files. gate < length (file part files)) },
+    ghost within: { ForSome (D.state disk).seen (λ files. gate < length (file part files)) },
 }
 
 impl<D: Disk> Keeper for Journal<D> {
-    ghost use Rattle.aas_outside.specs.Faults.{HasCause};
-    ghost use Rattle.aas_outside.specs.Moments.{KeepsInTurn, Passes};
-    ghost use Rattle.aas_outside_disk.specs.Disk.{Meanwhile};
+    ghost use Rattle.aas_outside.specs.Keeper.{IsKeeperCall, KeepsBehind, KeepsInTurn};
+    ghost use Rattle.aas_outside_disk.specs.Disk.{Changes, MayLeave};
     ghost use Rattle.aas_outside_disk.specs.Files.{Files};
     ghost use Rattle.aas_journal.specs.Bank.{IsBankImage};
     ghost use Rattle.aas_journal.specs.Keep.{TearsRecord, WritesRecord};
-    ghost use Rattle.aas_journal.specs.Kept.{fits, has_room_behind, limit_law, room_law};
+    ghost use Rattle.aas_journal.specs.Kept.{fits, limit_law, room_law};
     ghost use Rattle.aas_journal.specs.Image.{gate_of};
-    ghost use Rattle.aas_journal.specs.Shown.{kept_by};
-    ghost use Rattle.std.specs.Prelude.{◌≡◌, ◌++◌, [], ◌∷◌, ℕ, List, IsTrue, OnOk, length};
+    ghost use Rattle.aas_journal.specs.Shown.{journal_state, kept_by};
+    ghost use Rattle.std.specs.Prelude.{List, ℕ, IsTrue, length};
 
     ghost Image = { Files };
 
     ghost stands_for = { IsBankImage };
 
-    ghost kept = { kept_by };
-
-    ghost room_behind = { λ journal. has_room_behind };
-
-    ghost has_room = { λ journal. fits journal.gate };
-
-    ghost moment = { λ journal. D.moment journal.disk };
-
-    ghost left_at = { λ journal. D.left_at journal.disk };
-
-    ghost faults = { λ journal. D.faults journal.disk };
+    ghost state = { journal_state };
 
     ghost room_by_payloads = { λ journal.
-        room_law (D.seen journal.disk) (D.left_at journal.disk (D.moment journal.disk)) journal.part
+        room_law (D.state journal.disk).seen (MayLeave (D.state journal.disk)) journal.part
         journal.gate };
 
     ghost room_limit = { λ journal payloads. limit_law (gate_of payloads (length payloads)) };
@@ -69,23 +58,16 @@ impl<D: Disk> Keeper for Journal<D> {
 
     fn keep(&mut self, frame: &Frame) -> Result<(), Failed>
         requires { IsTrue (fits self.old.gate (length frame.now)) }
-        ensures kept { (payloads : List (List ℕ)) → kept_by self.old payloads →
-            OnOk result (kept_by self.new (payloads ++ frame.now ∷ [])) }
-        ensures in_turn { KeepsInTurn IsBankImage kept_by
-            (λ journal. D.moment journal.disk) (λ journal. D.left_at journal.disk)
-            self.old self.new frame.now result }
-        ensures past { Passes (D.moment self.old.disk) (D.left_at self.old.disk)
-            (D.moment self.new.disk) (D.left_at self.new.disk) }
-        ensures cause { HasCause (D.faults self.old.disk) (D.faults self.new.disk) result }
-        ensures calm { OnOk result (D.faults self.new.disk ≡ D.faults self.old.disk) }
+        ensures kept { KeepsBehind (journal_state self.old) (journal_state self.new) frame.now result }
+        ensures in_turn { KeepsInTurn IsBankImage (journal_state self.old) (journal_state self.new) frame.now result }
+        ensures call { IsKeeperCall (journal_state self.old) (journal_state self.new) result }
 
         // In the chosen file, from the closed gate on, the record and a gate are written, and nothing else in any file.
         ensures bytes { (payloads : List (List ℕ)) → kept_by self.old payloads →
-            WritesRecord payloads frame.now (D.seen self.old.disk) (D.seen self.new.disk) result }
+            WritesRecord payloads frame.now (D.state self.old.disk).seen (D.state self.new.disk).seen result }
         ensures images { (payloads : List (List ℕ)) → kept_by self.old payloads →
-            Meanwhile (D.moment self.old.disk) (D.moment self.new.disk)
-            (D.left_at self.old.disk) (D.left_at self.new.disk)
-            (TearsRecord payloads frame.now (D.seen self.old.disk)) }
+            Changes (D.state self.old.disk) (D.state self.new.disk)
+            (TearsRecord payloads frame.now (D.state self.old.disk).seen) }
     {
         let bytes = frame.bytes();
         write_durably(&mut self.disk, self.part, self.gate + 1, bytes)?;

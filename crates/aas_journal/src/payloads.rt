@@ -1,11 +1,10 @@
 // How payloads are read from a journal.
 ghost use Rattle.std.specs.Prelude.{◌≡◌, ◌<◌, ◌≤◌, ◌+◌, ◌⊎◌, ◌++◌, List, ℕ, Err, IfErr, IfOk, IfSome};
 ghost use Rattle.std.specs.Prelude.{OnErr, OnOk, drop, length, take};
+ghost use Rattle.aas_outside_disk.specs.Disk.{AreReads};
 ghost use Rattle.aas_journal.specs.Given.{GivesNext, IsGateOf};
-ghost use Rattle.aas_journal.specs.Reads.{OnlyReads};
-ghost use Rattle.aas_journal.specs.Shown.{disk_of};
+ghost use Rattle.aas_journal.specs.Shown.{disk_of, journal_state};
 ghost use Rattle.aas_journal.specs.declared.fault.OpenFault.TheVariants.{Failed as DiskFailed, NoMemory};
-ghost use Rattle.aas_outside.specs.Faults.{Rose};
 ghost use Rattle.aas_outside_disk.specs.Files.{file};
 
 use crate::walk::{HEAD_BYTES, length_in};
@@ -25,22 +24,20 @@ impl<D: Disk> Journal<D> {
     /// closed one. The first gate stands at 8. At `Err`, which is `Failed` or `NoMemory`, nothing is appended.
     pub fn payload_at(&mut self, at: u64, out: &mut Vec<u8>) -> Result<Option<u64>, OpenFault>
         // Where the disk tells its files, the gate is one that the walk meets.
-        requires { IfSome (D.seen (disk_of self.old)) (λ _. (payloads : List (List ℕ)) ×
-            ⟦<Journal<D> as Keeper>⟧.kept self.old payloads × (n : ℕ) × IsGateOf payloads at n) }
+        requires { IfSome (D.state (disk_of self.old)).seen (λ _. (payloads : List (List ℕ)) ×
+            (journal_state self.old).kept payloads × (n : ℕ) × IsGateOf payloads at n) }
 
-        ensures given { (payloads : List (List ℕ)) (n : ℕ) → ⟦<Journal<D> as Keeper>⟧.kept self.old payloads →
+        ensures given { (payloads : List (List ℕ)) (n : ℕ) → (journal_state self.old).kept payloads →
             IsGateOf payloads at n → IfOk result (GivesNext payloads n out.old.items out.new.items) }
         ensures on { IfOk result (λ next. IfSome next (λ place. at < place)) }
         ensures fault { IfErr result (λ fault. (fault ≡ DiskFailed) ⊎ (fault ≡ NoMemory)) }
-        ensures failed { result ≡ Err DiskFailed → Rose (D.faults (disk_of self.old)) (D.faults (disk_of self.new)) }
         ensures unchanged { OnErr result (out.new.items ≡ out.old.items) }
 
-        ensures later { D.faults (disk_of self.old) ≤ D.faults (disk_of self.new) }
-        ensures calm { OnOk result (D.faults (disk_of self.new) ≡ D.faults (disk_of self.old)) }
-        ensures reads { OnlyReads D.seen D.moment D.left_at (disk_of self.old) (disk_of self.new) }
-        ensures kept { (payloads : List (List ℕ)) → ⟦<Journal<D> as Keeper>⟧.kept self.old payloads →
-            ⟦<Journal<D> as Keeper>⟧.kept self.new payloads }
-        ensures room { ⟦<Journal<D> as Keeper>⟧.has_room self.new ≡ ⟦<Journal<D> as Keeper>⟧.has_room self.old }
+        ensures reads { AreReads (result ≡ Err DiskFailed) (D.state (disk_of self.old)) (D.state (disk_of self.new)) }
+        ensures calm { OnOk result ((D.state (disk_of self.new)).faults ≡ (D.state (disk_of self.old)).faults) }
+        ensures kept { (payloads : List (List ℕ)) → (journal_state self.old).kept payloads →
+            (journal_state self.new).kept payloads }
+        ensures room { (journal_state self.new).has_room ≡ (journal_state self.old).has_room }
     {
         if at >= self.gate {
             return Ok(None);
@@ -62,15 +59,13 @@ fn append_from<D: Disk>(
     count: u32,
     out: &mut Vec<u8>,
 ) -> Result<(), OpenFault>
-    requires { IfSome (D.seen disk.old) (λ files. at + count ≤ length (file part files)) }
-    ensures appended { OnOk result (IfSome (D.seen disk.old) (λ files.
+    requires { IfSome (D.state disk.old).seen (λ files. at + count ≤ length (file part files)) }
+    ensures appended { OnOk result (IfSome (D.state disk.old).seen (λ files.
         out.new.items ≡ out.old.items ++ take count (drop at (file part files)))) }
     ensures fault { IfErr result (λ fault. (fault ≡ DiskFailed) ⊎ (fault ≡ NoMemory)) }
-    ensures failed { result ≡ Err DiskFailed → Rose (D.faults disk.old) (D.faults disk.new) }
     ensures unchanged { OnErr result (out.new.items ≡ out.old.items) }
-    ensures later { D.faults disk.old ≤ D.faults disk.new }
-    ensures calm { OnOk result (D.faults disk.new ≡ D.faults disk.old) }
-    ensures reads { OnlyReads D.seen D.moment D.left_at disk.old disk.new }
+    ensures reads { AreReads (result ≡ Err DiskFailed) (D.state disk.old) (D.state disk.new) }
+    ensures calm { OnOk result ((D.state disk.new).faults ≡ (D.state disk.old).faults) }
 {
     let old = out.len();
     out.resize(old + count as usize, 0)?;

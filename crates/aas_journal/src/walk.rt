@@ -6,10 +6,8 @@ ghost use Rattle.aas_journal.specs.Bank.{chosen, chosen_file};
 ghost use Rattle.aas_journal.specs.Causes.{HasFault};
 ghost use Rattle.aas_journal.specs.Gates.{IsBetween, IsClosedAt, StandsAt};
 ghost use Rattle.aas_journal.specs.Image.{IsHeader};
-ghost use Rattle.aas_journal.specs.Reads.{OnlyReads};
 ghost use Rattle.aas_journal.specs.declared.fault.OpenFault.TheVariants.{Failed as DiskFailed, NoMemory};
-ghost use Rattle.aas_outside.specs.Faults.{HasCause, Rose};
-ghost use Rattle.aas_outside_disk.specs.Disk.{HoldsWhatIsRead};
+ghost use Rattle.aas_outside_disk.specs.Disk.{AreReads, HoldsWhatIsRead, IsDiskCall, MayLeave, OnlyReads};
 ghost use Rattle.aas_outside_disk.specs.Files.{file};
 ghost use Rattle.aas_outside_disk.specs.declared.part.Part.TheVariants.{Selector};
 
@@ -38,10 +36,10 @@ pub enum Gate {
 
 /// The first byte of the selector, or 0 where it is empty.
 pub fn first_of_selector<D: Disk>(disk: &mut D) -> Result<u8, Failed>
-    ensures value { IfOk result (λ byte. IfSome (D.seen disk.old) (λ files. byte ≡ slice_index files.selector 0)) }
-    ensures reads { OnlyReads D.seen D.moment D.left_at disk.old disk.new }
-    ensures cause { HasCause (D.faults disk.old) (D.faults disk.new) result }
-    ensures calm { OnOk result (D.faults disk.new ≡ D.faults disk.old) }
+    ensures value { IfOk result
+        (λ byte. IfSome (D.state disk.old).seen (λ files. byte ≡ slice_index files.selector 0)) }
+    ensures reads { OnlyReads (D.state disk.old) (D.state disk.new) }
+    ensures call { IsDiskCall (D.state disk.old) (D.state disk.new) result }
 {
     if disk.length(Part::Selector)? == 0 {
         return Ok(0);
@@ -53,12 +51,11 @@ pub fn first_of_selector<D: Disk>(disk: &mut D) -> Result<u8, Failed>
 
 /// The part that the selector chooses, after a sync of the selector.
 fn chosen_part<D: Disk>(disk: &mut D) -> Result<Part, Failed>
-    ensures value { IfOk result (λ part. IfSome (D.seen disk.old) (λ files. part ≡ chosen files.selector)) }
+    ensures value { IfOk result (λ part. IfSome (D.state disk.old).seen (λ files. part ≡ chosen files.selector)) }
     ensures durable { OnOk result
-        (HoldsWhatIsRead Selector (D.seen disk.old) (D.left_at disk.new (D.moment disk.new))) }
-    ensures reads { OnlyReads D.seen D.moment D.left_at disk.old disk.new }
-    ensures cause { HasCause (D.faults disk.old) (D.faults disk.new) result }
-    ensures calm { OnOk result (D.faults disk.new ≡ D.faults disk.old) }
+        (HoldsWhatIsRead Selector (D.state disk.old).seen (MayLeave (D.state disk.new))) }
+    ensures reads { OnlyReads (D.state disk.old) (D.state disk.new) }
+    ensures call { IsDiskCall (D.state disk.old) (D.state disk.new) result }
 {
     disk.sync(Part::Selector)?;
     Ok(if first_of_selector(disk)? % 2 == 0 {
@@ -70,12 +67,11 @@ fn chosen_part<D: Disk>(disk: &mut D) -> Result<Part, Failed>
 
 /// Whether a file begins with a header. It has so many bytes.
 fn has_header<D: Disk>(disk: &mut D, part: Part) -> Result<bool, Failed>
-    requires { IfSome (D.seen disk.old) (λ files. 8 ≤ length (file part files)) }
-    ensures value { IfOk result (λ known. IfSome (D.seen disk.old) (λ files.
+    requires { IfSome (D.state disk.old).seen (λ files. 8 ≤ length (file part files)) }
+    ensures value { IfOk result (λ known. IfSome (D.state disk.old).seen (λ files.
         IsTrue known ↔ IsHeader (take 8 (file part files)))) }
-    ensures reads { OnlyReads D.seen D.moment D.left_at disk.old disk.new }
-    ensures cause { HasCause (D.faults disk.old) (D.faults disk.new) result }
-    ensures calm { OnOk result (D.faults disk.new ≡ D.faults disk.old) }
+    ensures reads { OnlyReads (D.state disk.old) (D.state disk.new) }
+    ensures call { IsDiskCall (D.state disk.old) (D.state disk.new) result }
 {
     let mut header = [0; 8];
     disk.read_at(part, 0, &mut header)?;
@@ -94,13 +90,12 @@ pub fn length_in(bytes: [u8; 4]) -> u32
 /// Reads a gate and the length behind it.
 fn gate_at<D: Disk>(disk: &mut D, part: Part, at: u64, size: u64) -> Result<Gate, Failed>
     requires within { at < size }
-    requires size { IfSome (D.seen disk.old) (λ files. size ≡ length (file part files)) }
-    ensures value { IfOk result (λ gate. IfSome (D.seen disk.old) (λ files.
+    requires size { IfSome (D.state disk.old).seen (λ files. size ≡ length (file part files)) }
+    ensures value { IfOk result (λ gate. IfSome (D.state disk.old).seen (λ files.
         StandsAt (drop at (file part files)) at gate)) }
     ensures next { IfOk result (λ gate. IsBetween at size gate) }
-    ensures reads { OnlyReads D.seen D.moment D.left_at disk.old disk.new }
-    ensures cause { HasCause (D.faults disk.old) (D.faults disk.new) result }
-    ensures calm { OnOk result (D.faults disk.new ≡ D.faults disk.old) }
+    ensures reads { OnlyReads (D.state disk.old) (D.state disk.new) }
+    ensures call { IsDiskCall (D.state disk.old) (D.state disk.new) result }
 {
     let behind = size - at;
     if behind <= HEAD_BYTES {
@@ -129,16 +124,14 @@ fn gate_at<D: Disk>(disk: &mut D, part: Part, at: u64, size: u64) -> Result<Gate
 /// The place of the closed gate of a file that has a header, or of the first gate whose record passes the end.
 fn closed_gate<D: Disk>(disk: &mut D, part: Part, size: u64) -> Result<u64, OpenFault>
     requires some { 8 < size }
-    requires size { IfSome (D.seen disk.old) (λ files.
+    requires size { IfSome (D.state disk.old).seen (λ files.
         (size ≡ length (file part files)) × IsHeader (take 8 (file part files))) }
-    ensures closed { IfOk result (λ gate. IfSome (D.seen disk.old) (λ files. IsClosedAt (file part files) gate)) }
+    ensures closed { IfOk result (λ gate. IfSome (D.state disk.old).seen (λ files. IsClosedAt (file part files) gate)) }
     ensures within { IfOk result (λ gate. gate < size) }
-    ensures fault { IfErr result (λ fault. IfSome (D.seen disk.old) (λ files. HasFault (file part files) fault)) }
+    ensures fault { IfErr result (λ fault. IfSome (D.state disk.old).seen (λ files. HasFault (file part files) fault)) }
     ensures memory { IfErr result (λ fault. fault ≢ NoMemory) }
-    ensures failed { result ≡ Err DiskFailed → Rose (D.faults disk.old) (D.faults disk.new) }
-    ensures later { D.faults disk.old ≤ D.faults disk.new }
-    ensures calm { OnOk result (D.faults disk.new ≡ D.faults disk.old) }
-    ensures reads { OnlyReads D.seen D.moment D.left_at disk.old disk.new }
+    ensures reads { AreReads (result ≡ Err DiskFailed) (D.state disk.old) (D.state disk.new) }
+    ensures calm { OnOk result ((D.state disk.new).faults ≡ (D.state disk.old).faults) }
 {
     let mut gate = FIRST_GATE;
     'gates: loop {
@@ -161,17 +154,16 @@ pub struct End {
 
 /// Finds the closed gate of the chosen file, after a sync of the selector and of that file.
 pub fn find_end<D: Disk>(disk: &mut D) -> Result<End, OpenFault>
-    ensures found { IfOk result (λ end. IfSome (D.seen disk.old) (λ files.
+    ensures found { IfOk result (λ end. IfSome (D.state disk.old).seen (λ files.
         (end.part ≡ chosen files.selector) × IsClosedAt (chosen_file files) end.gate)) }
     ensures durable { IfOk result (λ end.
-        HoldsWhatIsRead Selector (D.seen disk.old) (D.left_at disk.new (D.moment disk.new))
-        × HoldsWhatIsRead end.part (D.seen disk.old) (D.left_at disk.new (D.moment disk.new))) }
-    ensures fault { IfErr result (λ fault. IfSome (D.seen disk.old) (λ files. HasFault (chosen_file files) fault)) }
+        HoldsWhatIsRead Selector (D.state disk.old).seen (MayLeave (D.state disk.new))
+        × HoldsWhatIsRead end.part (D.state disk.old).seen (MayLeave (D.state disk.new))) }
+    ensures fault { IfErr result
+        (λ fault. IfSome (D.state disk.old).seen (λ files. HasFault (chosen_file files) fault)) }
     ensures memory { IfErr result (λ fault. fault ≢ NoMemory) }
-    ensures failed { result ≡ Err DiskFailed → Rose (D.faults disk.old) (D.faults disk.new) }
-    ensures later { D.faults disk.old ≤ D.faults disk.new }
-    ensures calm { OnOk result (D.faults disk.new ≡ D.faults disk.old) }
-    ensures reads { OnlyReads D.seen D.moment D.left_at disk.old disk.new }
+    ensures reads { AreReads (result ≡ Err DiskFailed) (D.state disk.old) (D.state disk.new) }
+    ensures calm { OnOk result ((D.state disk.new).faults ≡ (D.state disk.old).faults) }
 {
     let part = chosen_part(disk)?;
     disk.sync(part)?;

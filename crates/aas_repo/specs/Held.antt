@@ -1,5 +1,5 @@
 -- What a repository holds, as its callers see it.
-use Rattle.std.specs.Prelude.{ℕ, Bool, List, refl}
+use Rattle.std.specs.Prelude.{Bool, refl}
 use Rattle.std.specs.Coded.{Coded, code_by, coded×, coded_bool, coded_list, coded_ℕ}
 use Rattle.std.specs.FinMap as map
 use Rattle.aas_model.specs.contracts.documents.Concept as concept
@@ -8,7 +8,8 @@ use Rattle.aas_model.specs.contracts.documents.Submodel as submodel
 use Rattle.aas_model.specs.declared.documents.Concept.{Concept}
 use Rattle.aas_model.specs.declared.documents.Shell.{Shell}
 use Rattle.aas_model.specs.declared.documents.Submodel.{Submodel}
-use Rattle.aas_rule.specs.State.{State}
+use Rattle.aas_outside.specs.Keeper.{KeeperState}
+use Rattle.aas_rule.specs.State.{MachineState}
 use Rattle.aas_store.specs.Documents.{Documents, Map}
 
 -- the documents, the keeper of the commands that made them, and whether that has failed
@@ -17,15 +18,21 @@ pub record Held (K : Type 0) : Type 0 where
   pub keeper : K
   pub stopped : Bool
 
--- with what a stop leaves of the keeper
-abbrev pub state_of : {K I : Type 0}
-    → (K → List (List ℕ) → Type 0) → (K → ℕ) → (K → ℕ → I → Type 0) → Held K → State Documents I
-state_of kept moment left_at held = record {
-  documents = held.documents;
-  kept = kept held.keeper;
-  moment = moment held.keeper;
-  left_at = left_at held.keeper;
-}
+-- what it tells as a machine, by what its keeper tells
+abbrev pub machine_state : {K I : Type 0} → (K → KeeperState I) → Held K → MachineState Documents I
+machine_state state held =
+    let keeper = state held.keeper in
+    record {
+      held = record {
+        documents = held.documents;
+        kept = keeper.kept;
+        moment = keeper.moment;
+        left_at = keeper.left_at;
+      };
+      room = keeper.room_behind;
+      faults = keeper.faults;
+      stopped = held.stopped;
+    }
 
 -- ---- the codes by which a proof tells these apart
 

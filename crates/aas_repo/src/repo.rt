@@ -1,14 +1,13 @@
 // Documents in a store, and the commands that made them in a keeper.
-ghost use Rattle.std.specs.Prelude.{◌≡◌, ◌≢◌, ◌≤◌, ℕ, List, None, Some, true, false, Err, IfErr, MatchResult};
+ghost use Rattle.std.specs.Prelude.{◌≡◌, ◌≢◌, None, Some, true, false, Err, IfErr, MatchResult};
 ghost use Rattle.aas_command.specs.Commands.{IsWellFormed};
 ghost use Rattle.aas_command.specs.declared.refusal.Refusal.TheVariants.{StorageFault};
-ghost use Rattle.aas_outside.specs.Faults.{Rose};
-ghost use Rattle.aas_rule.specs.State.{IsSettledState, PassesTo, repository_of};
+ghost use Rattle.aas_rule.specs.State.{GoesOn, WhereSettled};
 ghost use Rattle.aas_step.specs.Causes.{first_of, reference_causes};
 ghost use Rattle.aas_step.specs.Valid.{AreValid};
 ghost use Rattle.aas_repo.specs.Acts.{Acts, ComesOut, done_of};
 ghost use Rattle.aas_repo.specs.Decisions.{has_room_for};
-ghost use Rattle.aas_repo.specs.Held.{state_of};
+ghost use Rattle.aas_repo.specs.Held.{machine_state};
 
 use crate::references::referring;
 use crate::taking::{Taken, take};
@@ -106,22 +105,15 @@ impl<S: Store, K: Keeper> Repo<S, K> {
     pub fn act(&mut self, command: Command) -> Result<Done, Refusal>
         requires open { self.old.stopped ≡ false }
         requires well_formed { IsWellFormed command }
-        ensures acts { (records : List (List ℕ)) →
-            IsSettledState K.stands_for (state_of K.kept K.moment K.left_at self.old) records →
-            Acts (K.room_behind self.old.keeper) K.stands_for
-            (repository_of (state_of K.kept K.moment K.left_at self.old) records) command
-            (K.moment self.old.keeper) (state_of K.kept K.moment K.left_at self.new) result }
-        ensures room { K.room_behind self.new.keeper ≡ K.room_behind self.old.keeper }
-        ensures past { PassesTo (state_of K.kept K.moment K.left_at self.old)
-            (state_of K.kept K.moment K.left_at self.new) }
-        ensures stopped { result ≢ Err StorageFault → self.new.stopped ≡ false }
+        ensures acts { WhereSettled K.stands_for (machine_state K.state self.old).held (λ r.
+            Acts (K.state self.old.keeper).room_behind K.stands_for r command
+            (K.state self.old.keeper).moment (machine_state K.state self.new).held result) }
+        ensures goes_on { GoesOn (result ≡ Err StorageFault)
+            (machine_state K.state self.old) (machine_state K.state self.new) }
         ensures stops { result ≡ Err StorageFault → self.new.stopped ≡ true }
-        ensures outcome { ComesOut (has_room_for (K.has_room self.old.keeper) command)
+        ensures outcome { ComesOut (has_room_for (K.state self.old.keeper).has_room command)
             self.old.documents command self.new.documents result }
         ensures unchanged { IfErr result (λ refusal. refusal ≢ StorageFault → self.new ≡ self.old) }
-        ensures later { K.faults self.old.keeper ≤ K.faults self.new.keeper }
-        ensures calm { result ≢ Err StorageFault → K.faults self.new.keeper ≡ K.faults self.old.keeper }
-        ensures fault { result ≡ Err StorageFault → Rose (K.faults self.old.keeper) (K.faults self.new.keeper) }
     {
         let done = done_of(&command);
         match take(self.alloc, &mut self.store, &self.keeper, command) {

@@ -32,7 +32,8 @@ pub(crate) fn take<S: Store, K: Keeper>(
 ) -> Taken
     requires valid { AreValid (S.documents store.old) }
     requires well_formed { IsWellFormed command }
-    ensures taken { IsTaken (K.has_room keeper.now) (S.documents store.old) command (S.documents store.new) result }
+    ensures taken { IsTaken (K.state keeper.now).has_room (S.documents store.old) command (S.documents store.new)
+        result }
     ensures valid { AreValid (S.documents store.new) }
 {
     match encode(alloc, &command) {

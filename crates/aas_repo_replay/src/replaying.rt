@@ -1,13 +1,12 @@
 // How the payloads of a journal are replayed in a store.
-ghost use Rattle.std.specs.Prelude.{◌≡◌, ◌≢◌, ◌<◌, ◌≤◌, ◌⊎◌, List, ℕ, true, Err, Ok};
+ghost use Rattle.std.specs.Prelude.{◌≡◌, ◌≢◌, ◌<◌, ◌⊎◌, List, ℕ, true, Err, Ok};
 ghost use Rattle.std.specs.Prelude.{IfOk, IfSome, IsErrAnd, MatchBool, MatchResult, OnOk};
+ghost use Rattle.aas_outside_disk.specs.Disk.{AreReads};
 ghost use Rattle.aas_command.specs.Commands.{IsWellFormed};
 ghost use Rattle.aas_journal.specs.Image.{gate_of};
-ghost use Rattle.aas_journal.specs.Reads.{OnlyReads};
-ghost use Rattle.aas_journal.specs.Shown.{disk_of};
+ghost use Rattle.aas_journal.specs.Shown.{disk_of, journal_state};
 ghost use Rattle.aas_journal.specs.declared.fault.OpenFault.TheVariants.{Damaged, Failed, NoMemory as OutOfMemory};
 ghost use Rattle.aas_journal.specs.declared.fault.OpenFault.TheVariants.{NotInitialised};
-ghost use Rattle.aas_outside.specs.Faults.{Rose};
 ghost use Rattle.aas_record.specs.Records.{IsRecord};
 ghost use Rattle.aas_step.specs.Valid.{AreValid};
 ghost use Rattle.aas_store.specs.Documents.{Documents, empty};
@@ -41,27 +40,23 @@ pub fn replay<S: Store, D: Disk>(
     requires empty { S.documents store.old ≡ empty }
 
     // Where the disk tells its files, the journal keeps some payloads, as one that was opened does.
-    requires told { IfSome (D.seen (disk_of journal.old)) (λ _. (payloads : List (List ℕ)) ×
-        ⟦<Journal<D> as Keeper>⟧.kept journal.old payloads) }
+    requires told { IfSome (D.state (disk_of journal.old)).seen (λ _. (payloads : List (List ℕ)) ×
+        (journal_state journal.old).kept payloads) }
 
-    ensures replayed { (payloads : List (List ℕ)) → ⟦<Journal<D> as Keeper>⟧.kept journal.old payloads →
+    ensures replayed { (payloads : List (List ℕ)) → (journal_state journal.old).kept payloads →
         MatchResult result (λ _. Replays payloads (S.documents store.new))
         (λ fault. IsReplayFault payloads fault (S.documents store.new)) }
     ensures damaged { (payloads : List (List ℕ)) (n : ℕ) (d : Documents) →
-        ⟦<Journal<D> as Keeper>⟧.kept journal.old payloads → StopsAt payloads n d →
+        (journal_state journal.old).kept payloads → StopsAt payloads n d →
         IsErrAnd result (λ fault. (fault ≡ Damaged (gate_of payloads n)) ⊎ (fault ≡ Failed) ⊎ (fault ≡ OutOfMemory)) }
     ensures initialised { result ≢ Err NotInitialised }
     ensures valid { AreValid (S.documents store.new) }
 
-    ensures failed { result ≡ Err Failed → Rose (D.faults (disk_of journal.old)) (D.faults (disk_of journal.new)) }
-    ensures later { D.faults (disk_of journal.old) ≤ D.faults (disk_of journal.new) }
-    ensures calm { OnOk result (D.faults (disk_of journal.new) ≡ D.faults (disk_of journal.old)) }
-    ensures reads { OnlyReads D.seen D.moment D.left_at (disk_of journal.old) (disk_of journal.new) }
-    ensures kept { (payloads : List (List ℕ)) → ⟦<Journal<D> as Keeper>⟧.kept journal.old payloads →
-        ⟦<Journal<D> as Keeper>⟧.kept journal.new payloads }
-    ensures room { ⟦<Journal<D> as Keeper>⟧.has_room journal.new ≡ ⟦<Journal<D> as Keeper>⟧.has_room journal.old }
-    ensures room_behind { ⟦<Journal<D> as Keeper>⟧.room_behind journal.new
-        ≡ ⟦<Journal<D> as Keeper>⟧.room_behind journal.old }
+    ensures reads { AreReads (result ≡ Err Failed) (D.state (disk_of journal.old)) (D.state (disk_of journal.new)) }
+    ensures calm { OnOk result ((D.state (disk_of journal.new)).faults ≡ (D.state (disk_of journal.old)).faults) }
+    ensures kept { (payloads : List (List ℕ)) →
+        (journal_state journal.old).kept payloads → (journal_state journal.new).kept payloads }
+    ensures room { (journal_state journal.new).has_room ≡ (journal_state journal.old).has_room }
 {
     no_documents_are_valid();
     payloads_stop_at_one_place();
@@ -83,22 +78,20 @@ fn add_at<S: Store, D: Disk>(
     payload: &mut Vec<u8>,
 ) -> Result<Option<u64>, OpenFault>
     requires valid { AreValid (S.documents store.old) }
-    requires told { IfSome (D.seen (disk_of journal.old)) (λ _. (payloads : List (List ℕ)) ×
-        ⟦<Journal<D> as Keeper>⟧.kept journal.old payloads × HasDone payloads gate (S.documents store.old)) }
-    ensures done { (payloads : List (List ℕ)) → ⟦<Journal<D> as Keeper>⟧.kept journal.old payloads →
+    requires told { IfSome (D.state (disk_of journal.old)).seen (λ _. (payloads : List (List ℕ)) ×
+        (journal_state journal.old).kept payloads × HasDone payloads gate (S.documents store.old)) }
+    ensures done { (payloads : List (List ℕ)) → (journal_state journal.old).kept payloads →
         HasDone payloads gate (S.documents store.old) →
         MatchResult result (HasDoneNext payloads (S.documents store.new))
         (λ fault. IsReplayFault payloads fault (S.documents store.new)) }
     ensures on { IfOk result (λ next. IfSome next (λ place. gate < place)) }
     ensures initialised { result ≢ Err NotInitialised }
     ensures valid { AreValid (S.documents store.new) }
-    ensures failed { result ≡ Err Failed → Rose (D.faults (disk_of journal.old)) (D.faults (disk_of journal.new)) }
-    ensures later { D.faults (disk_of journal.old) ≤ D.faults (disk_of journal.new) }
-    ensures calm { OnOk result (D.faults (disk_of journal.new) ≡ D.faults (disk_of journal.old)) }
-    ensures reads { OnlyReads D.seen D.moment D.left_at (disk_of journal.old) (disk_of journal.new) }
-    ensures kept { (payloads : List (List ℕ)) → ⟦<Journal<D> as Keeper>⟧.kept journal.old payloads →
-        ⟦<Journal<D> as Keeper>⟧.kept journal.new payloads }
-    ensures room { ⟦<Journal<D> as Keeper>⟧.has_room journal.new ≡ ⟦<Journal<D> as Keeper>⟧.has_room journal.old }
+    ensures reads { AreReads (result ≡ Err Failed) (D.state (disk_of journal.old)) (D.state (disk_of journal.new)) }
+    ensures calm { OnOk result ((D.state (disk_of journal.new)).faults ≡ (D.state (disk_of journal.old)).faults) }
+    ensures kept { (payloads : List (List ℕ)) →
+        (journal_state journal.old).kept payloads → (journal_state journal.new).kept payloads }
+    ensures room { (journal_state journal.new).has_room ≡ (journal_state journal.old).has_room }
 {
     payload.clear();
     let Some(next) = journal.payload_at(gate, payload)? else {

@@ -11,8 +11,9 @@ use Rattle.std.proofs.lemmas.List.Elements.{filter_passes}
 use Rattle.std.proofs.lemmas.Grind.{flat_map-append}
 use Rattle.aas_outside.specs.Faults.{Rose}
 use Rattle.aas_outside.specs.Moments.{InTurn}
-use Rattle.aas_outside.specs.Surroundings.{Visit, Connections, sent_on_all, to_first, open_visits, Begins}
-use Rattle.aas_outside.specs.Surroundings.{BeginsVisit, BeginsNext}
+use Rattle.aas_outside.specs.Surroundings.{Visit, Connections, sent_on_all, to_first, open_visits}
+use Rattle.aas_outside.specs.Wire.{Begins, BeginsVisit, BeginsNext, connections}
+use Rattle.aas_outside.specs.Link.{LinkState}
 use Rattle.aas_outside.specs.declared.visit.NextVisit.{NextVisit}
 use Rattle.aas_outside.specs.declared.visit.NextVisit.TheVariants.{New, Again}
 use Rattle.aas_outside.proofs.Turns.{in_turn_later, in_turn_then, in_turn_settled, in_turn_none}
@@ -43,16 +44,16 @@ told_turns new turns (inl x) = ([], x.1)
 told_turns new turns (inr (first, last, is, (n, within, given))) = (replies first ++ take n last.reply, given)
 
 module _ {D I : Type 0} (rule : HttpRule D) (stands_for : I → List (List ℕ) → Type 0) (old : Repository D)
-    (c : Connections) (s : List ℕ) (ahead : List Visit) (clients : ℕ) (connections1 connections2 : Option Connections)
-    (left1 sent1 sent2 : Option (List ℕ)) (from : ℕ) (now : State D I) (faults faults2 : ℕ) (later : faults ≤ faults2)
+    (c : Connections) (s : List ℕ) (ahead : List Visit) (clients : ℕ) (mid : LinkState)
+    (connections2 : Option Connections) (sent2 : Option (List ℕ)) (from : ℕ) (now : State D I) (faults faults2 : ℕ) (later : faults ≤ faults2)
     (v : Visit) (rest : List Visit) (first : ahead ≡ v ∷ rest)
-    (B : BeginsVisit c s v rest clients connections1 left1 sent1) (same : connections2 ≡ connections1) where
+    (B : BeginsVisit c s v rest clients mid) (same : connections2 ≡ connections mid) where
   abbrev DidVisit : Type 0
   DidVisit =
       (w : Visited D) × (w.visit ≡ v)
       × ServesVisit rule stands_for old ahead (sent_on_all c s) clients from now connections2 sent2 faults faults2 w
 
-  pub finished_visit : (end : End) → IsFinished rule stands_for old v.input from now sent1 sent2 end → DidVisit
+  pub finished_visit : (end : End) → IsFinished rule stands_for old v.input from now mid.sent sent2 end → DidVisit
   finished_visit end f =
       let S = f.session in
       let given : sent2 ≡ Some (replies S.turns) =
@@ -79,7 +80,7 @@ module _ {D I : Type 0} (rule : HttpRule D) (stands_for : I → List (List ℕ) 
         },
       )
 
-  pub cut_visit : Rose faults faults2 → IsCut rule stands_for old v.input from now sent1 sent2 → DidVisit
+  pub cut_visit : Rose faults faults2 → IsCut rule stands_for old v.input from now mid.sent sent2 → DidVisit
   cut_visit failed f =
       let gives : GivesTurns (Some []) sent2 f.turns =
       subst (λ (k : Option (List ℕ)). GivesTurns k sent2 f.turns) B.unsent f.gives in
@@ -111,10 +112,10 @@ module _ {D I : Type 0} (rule : HttpRule D) (stands_for : I → List (List ℕ) 
 
 -- The next visit, where it is this session's whatever client it goes to.
 module _ {D I : Type 0} (rule : HttpRule D) (stands_for : I → List (List ℕ) → Type 0) (old : Repository D)
-    (may_begin : Bool) (c : Connections) (s : List ℕ) (connections1 connections2 : Option Connections)
-    (left1 sent1 sent2 : Option (List ℕ)) (from : ℕ) (now : State D I) (faults faults2 : ℕ)
+    (may_begin : Bool) (c : Connections) (s : List ℕ) (mid : LinkState)
+    (connections2 : Option Connections) (sent2 : Option (List ℕ)) (from : ℕ) (now : State D I) (faults faults2 : ℕ)
     (does : (v : Visit) (rest : List Visit) (clients : ℕ)
-    → open_visits may_begin c ≡ v ∷ rest → BeginsVisit c s v rest clients connections1 left1 sent1
+    → open_visits may_begin c ≡ v ∷ rest → BeginsVisit c s v rest clients mid
     → (w : Visited D) × (w.visit ≡ v)
     × ServesVisit rule stands_for old (open_visits may_begin c)
     (sent_on_all c s) clients from now connections2 sent2 faults faults2 w) where
@@ -123,23 +124,21 @@ module _ {D I : Type 0} (rule : HttpRule D) (stands_for : I → List (List ℕ) 
       ServesNext rule stands_for old c may_begin (sent_on_all c s) from now connections2 sent2 faults faults2 way
 
   abbrev BeginsSome : NextVisit → Type 0
-  BeginsSome visit = Begins c s may_begin connections1 left1 sent1 visit
+  BeginsSome visit = Begins c s may_begin mid visit
 
-  pub next_served : {E : Type 0} (connections : Option Connections)
-      (left sent : Option (List ℕ)) (result : Result NextVisit E) (way : Next)
-      → connections ≡ Some c → sent ≡ Some s
-      → BeginsNext connections may_begin connections1 left left1 sent sent1 result
+  pub next_served : {E : Type 0} (before : LinkState) (result : Result NextVisit E) (way : Next)
+      → connections before ≡ Some c → before.sent ≡ Some s → BeginsNext may_begin before mid result
       → ((result ≡ Ok New) × (way ≡ next.Begun)) ⊎ ((result ≡ Ok Again) × (way ≡ next.Again)) → DidNext way
-  next_served connections left sent result way told told_here begins (inl (is, served)) =
+  next_served before result way told told_here begins (inl (is, served)) =
       let B : BeginsSome New =
-      when_told (λ b t. Begins b t may_begin connections1 left1 sent1 New) connections sent c s told told_here
-      (subst (λ r. BeginsNext connections may_begin connections1 left left1 sent sent1 r) is begins) in
+      when_told (λ b t. Begins b t may_begin mid New) (connections before) before.sent c s told told_here
+      (subst (λ r. BeginsNext may_begin before mid r) is begins) in
       let F = does B.0 B.1 (c.clients + 1) B.2 B.5 in
       subst DidNext (sym served) (F.0, B.3, ap (λ (v : Visit). v.client) F.1 ∙ B.4, F.2)
-  next_served connections left sent result way told told_here begins (inr (is, served)) =
+  next_served before result way told told_here begins (inr (is, served)) =
       let B : BeginsSome Again =
-      when_told (λ b t. Begins b t may_begin connections1 left1 sent1 Again) connections sent c s told told_here
-      (subst (λ r. BeginsNext connections may_begin connections1 left left1 sent sent1 r) is begins) in
+      when_told (λ b t. Begins b t may_begin mid Again) (connections before) before.sent c s told told_here
+      (subst (λ r. BeginsNext may_begin before mid r) is begins) in
       let F = does B.0 B.1 c.clients B.2 B.4 in
       subst DidNext (sym served) (F.0, omega (arith, B.3, ap (λ (v : Visit). v.client) F.1), F.2)
 

@@ -9,7 +9,7 @@ use Rattle.std.proofs.lemmas.Bool.Decides.{nat_tests}
 use Rattle.aas_http.specs.FirstRequest.{Message, FirstRequest, Nothing, Bad, Whole, IsFirstRequest}
 use Rattle.aas_out.specs.Told.{Grows}
 use Rattle.aas_outside.specs.Faults.{Rose}
-use Rattle.aas_outside.specs.Link.{GivesFront}
+use Rattle.aas_outside.specs.Link.{GivesFront, LinkState}
 use Rattle.aas_http.specs.declared.replies.Reply.{Reply}
 use Rattle.aas_session.specs.Refusals.{bad_request, out_of_memory, storage_fault}
 use Rattle.aas_outside.specs.Moments.{InTurn}
@@ -465,13 +465,14 @@ module _ {D I : Type 0} (rule : HttpRule D) (stands_for : I → List (List ℕ) 
 -- ---- what else the loop needs
 
 -- the link is that which was lent
-pub served_at : {L D I : Type 0} (sent : L → Option (List ℕ)) (faults : L → ℕ) (before : ℕ)
+pub served_at : {L D I : Type 0} (state : L → LinkState) (before : ℕ)
     (rule : HttpRule D) (stands_for : I → List (List ℕ) → Type 0) (old : Repository D) (input : List ℕ) (from : ℕ)
     (now : State D I) (sent_old : Option (List ℕ)) (way : Ended) (link lent : L) → link ≡ lent
-    → Served rule stands_for old input from now sent_old (sent lent) (Rose before (faults lent)) way
-    → Served rule stands_for old input from now sent_old (sent link) (Rose before (faults link)) way
-served_at {L} sent faults before rule stands_for old input from now sent_old way link lent same s =
-    subst (λ (l : L). Served rule stands_for old input from now sent_old (sent l) (Rose before (faults l)) way)
+    → Served rule stands_for old input from now sent_old (state lent).sent (Rose before (state lent).faults) way
+    → Served rule stands_for old input from now sent_old (state link).sent (Rose before (state link).faults) way
+served_at {L} state before rule stands_for old input from now sent_old way link lent same s =
+    subst (λ (l : L).
+    Served rule stands_for old input from now sent_old (state l).sent (Rose before (state l).faults) way)
     (sym same) s
 
 pub served_weaker : {D I : Type 0} (rule : HttpRule D) (stands_for : I → List (List ℕ) → Type 0)

@@ -1,8 +1,9 @@
 -- What a connection did, by the way in which it ended.
-use Rattle.std.specs.Prelude.{◌≡◌, ◌⊎◌, ℕ, List, [], ◌∷◌, ◌++◌, Option}
+use Rattle.std.specs.Prelude.{◌≡◌, ◌⊎◌, ℕ, List, [], ◌∷◌, ◌++◌, Option, Some}
 use Rattle.std.specs.Io.KnownBytes.{append_known}
 use Rattle.aas_http.specs.FirstRequest.{Message, Whole, IsFirstRequest}
-use Rattle.aas_outside.specs.Link.{GivesFront}
+use Rattle.aas_outside.specs.Faults.{Rose}
+use Rattle.aas_outside.specs.Link.{GivesFront, LinkState}
 use Rattle.aas_http.specs.declared.replies.Reply.{Reply}
 use Rattle.aas_session.specs.Refusals.{storage_fault}
 use Rattle.aas_rule.specs.Rule.{Repository, Outcome, HasCommand}
@@ -72,3 +73,9 @@ Served rule stands_for old input from now sent_old sent_new link_failed ended.Li
     IsCut rule stands_for old input from now sent_old sent_new
 Served rule stands_for old input from now sent_old sent_new link_failed ended.KeeperFault =
     IsBroken rule stands_for old.records [] old input from now sent_old sent_new link_failed
+
+-- the same of a link that tells its input
+abbrev pub ServesLink : {D I : Type 0} → HttpRule D → (I → List (List ℕ) → Type 0) → Repository D → ℕ → State D I
+    → LinkState → LinkState → Ended → Type 0
+ServesLink rule stands_for r from now old new ended = (input : List ℕ) → old.left ≡ Some input
+    → Served rule stands_for r input from now old.sent new.sent (Rose old.faults new.faults) ended

@@ -2,7 +2,9 @@
 use Rattle.std.specs.Prelude.{◌≡◌, ◌<◌, ◌≤◌, ◌+◌, ◌-◌, ◌^◌, ◌⊎◌, ℕ, Bool, List, [], ◌∷◌, ◌++◌, length, map, flat_map}
 use Rattle.std.specs.Prelude.{Option, Some, true}
 use Rattle.aas_outside.specs.Faults.{Rose}
+use Rattle.aas_outside.specs.Link.{LinkState}
 use Rattle.aas_outside.specs.Surroundings.{Visit, Connections, sent_on_all, open_visits, to_first}
+use Rattle.aas_outside.specs.Wire.{connections}
 use Rattle.aas_rule.specs.Rule.{Repository}
 use Rattle.aas_session.specs.declared.wire.Next.{Next}
 use Rattle.aas_session.specs.declared.wire.Next.TheVariants as next
@@ -137,3 +139,18 @@ pub record ServesAll {D I : Type 0} (rule : HttpRule D) (stands_for : I → List
   pub serving : Serving rule old faults c.coming (c.clients + count)
   pub ends : EndsServing rule stands_for old faults c.coming
       (c.clients + count) sent_before from now connections sent faults_now serving ended
+
+-- the same of a wire that tells its connections and what was sent: of one visit, and of all
+abbrev pub ServesNextOn : {D I : Type 0} → HttpRule D → (I → List (List ℕ) → Type 0)
+    → Repository D → Bool → ℕ → State D I → LinkState → LinkState → Next → Type 0
+ServesNextOn rule stands_for r may_begin from now old new next =
+    (c : Connections) (sent : List ℕ) → connections old ≡ Some c → old.sent ≡ Some sent
+    → ServesNext rule stands_for r c may_begin (sent_on_all c sent) from now
+    (connections new) new.sent old.faults new.faults next
+
+abbrev pub ServesWire : {D I : Type 0} → HttpRule D → (I → List (List ℕ) → Type 0)
+    → Repository D → ℕ → ℕ → State D I → LinkState → LinkState → WireEnded → Type 0
+ServesWire rule stands_for r count from now old new ended =
+    (c : Connections) (sent : List ℕ) → connections old ≡ Some c → old.sent ≡ Some sent
+    → ServesAll rule stands_for r c (sent_on_all c sent) count from now
+    (connections new) new.sent old.faults new.faults ended

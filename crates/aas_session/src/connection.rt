@@ -1,16 +1,16 @@
 // One connection served.
-ghost use Rattle.std.specs.Prelude.{◌≡◌, ◌≢◌, ◌≤◌, ◌⊎◌, ◌↔◌, ◌++◌, List, ℕ, false, Some, Err, IfOk, IsTrue};
+ghost use Rattle.std.specs.Prelude.{◌≡◌, ◌⊎◌, ◌↔◌, ◌++◌, false, Some, Err, IfOk, IsTrue};
 ghost use Rattle.std.specs.Prelude.{OnOk, OnErr};
 ghost use Rattle.std.specs.Io.KnownBytes.{append_known};
+ghost use Rattle.aas_rule.specs.State.{GoesOn, WhereSettled};
 ghost use Rattle.aas_http.specs.Steps.{AwaitsHead, AwaitsBody, message_of};
 ghost use Rattle.aas_out.specs.Held.{held_by, HoldsNothing};
 ghost use Rattle.aas_out.specs.Told.{Grows};
 ghost use Rattle.aas_outside.specs.Faults.{HasCause, Rose};
-ghost use Rattle.aas_outside.specs.Link.{GivesFront};
-ghost use Rattle.aas_rule.specs.State.{IsSettledState, PassesTo, repository_of};
+ghost use Rattle.aas_outside.specs.Link.{AreGives, AreLinkCalls, GivesFront, OnlyGives, OnlyTakes};
 ghost use Rattle.aas_session.specs.Intake.{ReceivesMore};
 ghost use Rattle.aas_session.specs.Safe.{IsSafe};
-ghost use Rattle.aas_session.specs.Served.{Served};
+ghost use Rattle.aas_session.specs.Served.{ServesLink};
 ghost use Rattle.aas_session.specs.Steps.{ServesOne, ClosesWith};
 
 use crate::given::WholeAnswer;
@@ -50,28 +50,16 @@ pub fn serve_connection<M: Machine, L: Link>(
     link: &mut L,
     intake: &mut Intake,
 ) -> Ended
-    requires { M.stopped machine.old ≡ false }
+    requires { (M.state machine.old).stopped ≡ false }
 
     // The session on the bytes that the link had, or what was done of it where the link or the
     // keeper failed.
-    ensures served { (input : List ℕ) (records : List (List ℕ)) → L.left link.old ≡ Some input →
-        IsSettledState M.stands_for (M.state machine.old) records →
-        Served (M.rule (M.room machine.old)) M.stands_for
-        (repository_of (M.state machine.old) records) input
-        (M.state machine.old).moment (M.state machine.new) (L.sent link.old) (L.sent link.new)
-        (Rose (L.faults link.old) (L.faults link.new)) result }
+    ensures served { WhereSettled M.stands_for (M.state machine.old).held (λ r.
+        ServesLink (M.rule (M.state machine.old).room) M.stands_for r (M.state machine.old).held.moment
+        (M.state machine.new).held (L.state link.old) (L.state link.new) result) }
 
-    ensures room { M.room machine.new ≡ M.room machine.old }
-    ensures past { PassesTo (M.state machine.old) (M.state machine.new) }
-    ensures stopped { result ≢ Ended.KeeperFault → M.stopped machine.new ≡ false }
-    ensures surroundings { L.surroundings link.new ≡ L.surroundings link.old }
-    ensures later_keeper { M.faults machine.old ≤ M.faults machine.new }
-    ensures calm_keeper { result ≢ Ended.KeeperFault → M.faults machine.new ≡ M.faults machine.old }
-    ensures later_link { L.faults link.old ≤ L.faults link.new }
-    ensures keeper_fault { result ≡ Ended.KeeperFault →
-        Rose (M.faults machine.old) (M.faults machine.new) }
-    ensures link_fault { result ≡ Ended.LinkFault →
-        Rose (L.faults link.old) (L.faults link.new) }
+    ensures goes_on { GoesOn (result ≡ Ended.KeeperFault) (M.state machine.old) (M.state machine.new) }
+    ensures link { AreLinkCalls (result ≡ Ended.LinkFault) (L.state link.old) (L.state link.new) }
 {
     intake.clear();
     let mut buffer = PieceBuffer::new();
@@ -114,13 +102,13 @@ fn give_and_receive<L: Link>(intake: &mut Intake, out: &mut BufferOut<L>) -> Res
     requires { AwaitsHead intake.old.unread ⊎ AwaitsBody intake.old.unread }
     ensures same_reference { out.new.link.ghost_name ≡ out.old.link.ghost_name }
     ensures received { IfOk result (λ more. ReceivesMore intake.old.unread intake.new.unread
-        (L.left out.old.link.now) (L.left out.new.link.now) more) }
+        (L.state out.old.link.now).left (L.state out.new.link.now).left more) }
     ensures empty { OnOk result (HoldsNothing out.new) }
-    ensures put { append_known (L.sent out.new.link.now) (held_by out.new) ≡
-        append_known (L.sent out.old.link.now) (held_by out.old) }
-    ensures given { Grows (L.sent out.old.link.now) (L.sent out.new.link.now) }
-    ensures surroundings { L.surroundings out.new.link.now ≡ L.surroundings out.old.link.now }
-    ensures cause { HasCause (L.faults out.old.link.now) (L.faults out.new.link.now) result }
+    ensures put { append_known (L.state out.new.link.now).sent (held_by out.new) ≡
+        append_known (L.state out.old.link.now).sent (held_by out.old) }
+    ensures given { Grows (L.state out.old.link.now).sent (L.state out.new.link.now).sent }
+    ensures surroundings { (L.state out.new.link.now).surroundings ≡ (L.state out.old.link.now).surroundings }
+    ensures cause { HasCause (L.state out.old.link.now).faults (L.state out.new.link.now).faults result }
 {
     out.flush()?;
     receive_more(intake, out)
@@ -133,11 +121,9 @@ fn receive_more<L: Link>(intake: &mut Intake, out: &mut BufferOut<L>) -> Result<
     requires empty { HoldsNothing out.old }
     ensures same_reference { out.new.link.ghost_name ≡ out.old.link.ghost_name }
     ensures received { IfOk result (λ more. ReceivesMore intake.old.unread intake.new.unread
-        (L.left out.old.link.now) (L.left out.new.link.now) more) }
+        (L.state out.old.link.now).left (L.state out.new.link.now).left more) }
     ensures empty { HoldsNothing out.new }
-    ensures sent { L.sent out.new.link.now ≡ L.sent out.old.link.now }
-    ensures surroundings { L.surroundings out.new.link.now ≡ L.surroundings out.old.link.now }
-    ensures cause { HasCause (L.faults out.old.link.now) (L.faults out.new.link.now) result }
+    ensures call { OnlyTakes (L.state out.old.link.now) (L.state out.new.link.now) result }
 {
     match whole_length(intake.unread()) {
         Some(count) => intake.receive_until(out.link, count),
@@ -156,27 +142,15 @@ fn serve_one<M: Machine, L: Link>(
     request: &Request,
     close: bool,
 ) -> Result<(), Ended>
-    requires { M.stopped machine.old ≡ false }
+    requires { (M.state machine.old).stopped ≡ false }
     ensures same_reference { out.new.link.ghost_name ≡ out.old.link.ghost_name }
-    ensures served { (records : List (List ℕ)) →
-        IsSettledState M.stands_for (M.state machine.old) records →
-        ServesOne (M.rule (M.room machine.old)) M.stands_for
-        (repository_of (M.state machine.old) records) (message_of request.now) close
-        (M.state machine.old) (M.state machine.new) (L.sent out.old.link.now) (held_by out.old)
-        (L.sent out.new.link.now) (held_by out.new)
-        (Rose (L.faults out.old.link.now) (L.faults out.new.link.now)) result }
-    ensures room { M.room machine.new ≡ M.room machine.old }
-    ensures past { PassesTo (M.state machine.old) (M.state machine.new) }
-    ensures surroundings { L.surroundings out.new.link.now ≡ L.surroundings out.old.link.now }
-    ensures left { L.left out.new.link.now ≡ L.left out.old.link.now }
-    ensures stopped { result ≢ Err Ended.KeeperFault → M.stopped machine.new ≡ false }
-    ensures later_keeper { M.faults machine.old ≤ M.faults machine.new }
-    ensures calm_keeper { result ≢ Err Ended.KeeperFault → M.faults machine.new ≡ M.faults machine.old }
-    ensures later_link { L.faults out.old.link.now ≤ L.faults out.new.link.now }
-    ensures keeper_fault { result ≡ Err Ended.KeeperFault →
-        Rose (M.faults machine.old) (M.faults machine.new) }
-    ensures link_fault { result ≡ Err Ended.LinkFault →
-        Rose (L.faults out.old.link.now) (L.faults out.new.link.now) }
+    ensures served { WhereSettled M.stands_for (M.state machine.old).held (λ r.
+        ServesOne (M.rule (M.state machine.old).room) M.stands_for r (message_of request.now) close
+        (M.state machine.old).held (M.state machine.new).held (L.state out.old.link.now).sent (held_by out.old)
+        (L.state out.new.link.now).sent (held_by out.new)
+        (Rose (L.state out.old.link.now).faults (L.state out.new.link.now).faults) result) }
+    ensures goes_on { GoesOn (result ≡ Err Ended.KeeperFault) (M.state machine.old) (M.state machine.new) }
+    ensures link { AreGives (result ≡ Err Ended.LinkFault) (L.state out.old.link.now) (L.state out.new.link.now) }
 {
     match give_before(out, request) {
         Ok(()) => {}
@@ -210,12 +184,10 @@ fn serve_one<M: Machine, L: Link>(
 fn give_before<L: Link>(out: &mut BufferOut<L>, request: &Request) -> Result<(), Failed>
     ensures same_reference { out.new.link.ghost_name ≡ out.old.link.ghost_name }
     ensures empty { OnOk result (IsSafe (message_of request.now) ⊎ HoldsNothing out.new) }
-    ensures put { append_known (L.sent out.new.link.now) (held_by out.new) ≡
-        append_known (L.sent out.old.link.now) (held_by out.old) }
-    ensures given { Grows (L.sent out.old.link.now) (L.sent out.new.link.now) }
-    ensures surroundings { L.surroundings out.new.link.now ≡ L.surroundings out.old.link.now }
-    ensures left { L.left out.new.link.now ≡ L.left out.old.link.now }
-    ensures cause { HasCause (L.faults out.old.link.now) (L.faults out.new.link.now) result }
+    ensures put { append_known (L.state out.new.link.now).sent (held_by out.new) ≡
+        append_known (L.state out.old.link.now).sent (held_by out.old) }
+    ensures given { Grows (L.state out.old.link.now).sent (L.state out.new.link.now).sent }
+    ensures call { OnlyGives (L.state out.old.link.now) (L.state out.new.link.now) result }
 {
     if is_safe(request) {
         return Ok(());
@@ -233,12 +205,9 @@ fn is_safe(request: &Request) -> bool
 /// Gives what is held and a last text behind it, and closes the connection.
 fn close_with<L: Link>(out: &mut BufferOut<L>, text: &[u8]) -> Ended
     ensures same_reference { out.new.link.ghost_name ≡ out.old.link.ghost_name }
-    ensures closed { ClosesWith text.now (L.sent out.old.link.now) (held_by out.old)
-        (L.sent out.new.link.now) result }
-    ensures surroundings { L.surroundings out.new.link.now ≡ L.surroundings out.old.link.now }
-    ensures later { L.faults out.old.link.now ≤ L.faults out.new.link.now }
-    ensures fault { result ≡ Ended.LinkFault →
-        Rose (L.faults out.old.link.now) (L.faults out.new.link.now) }
+    ensures closed { ClosesWith text.now (L.state out.old.link.now).sent (held_by out.old)
+        (L.state out.new.link.now).sent result }
+    ensures link { AreLinkCalls (result ≡ Ended.LinkFault) (L.state out.old.link.now) (L.state out.new.link.now) }
 {
     match give_last(out, text) {
         Ok(()) => Ended::Closed,
@@ -249,13 +218,11 @@ fn close_with<L: Link>(out: &mut BufferOut<L>, text: &[u8]) -> Ended
 /// Gives what is held and a text behind it.
 fn give_last<L: Link>(out: &mut BufferOut<L>, text: &[u8]) -> Result<(), Failed>
     ensures same_reference { out.new.link.ghost_name ≡ out.old.link.ghost_name }
-    ensures given { OnOk result (L.sent out.new.link.now ≡
-        append_known (L.sent out.old.link.now) (held_by out.old ++ text.now)) }
-    ensures front { OnErr result (GivesFront (L.sent out.old.link.now) (L.sent out.new.link.now)
+    ensures given { OnOk result ((L.state out.new.link.now).sent ≡
+        append_known (L.state out.old.link.now).sent (held_by out.old ++ text.now)) }
+    ensures front { OnErr result (GivesFront (L.state out.old.link.now).sent (L.state out.new.link.now).sent
         (held_by out.old ++ text.now)) }
-    ensures surroundings { L.surroundings out.new.link.now ≡ L.surroundings out.old.link.now }
-    ensures left { L.left out.new.link.now ≡ L.left out.old.link.now }
-    ensures cause { HasCause (L.faults out.old.link.now) (L.faults out.new.link.now) result }
+    ensures call { OnlyGives (L.state out.old.link.now) (L.state out.new.link.now) result }
 {
     out.flush()?;
     give_all(out.link, text)

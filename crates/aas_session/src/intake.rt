@@ -1,6 +1,6 @@
 // The storage for one request.
 ghost use Rattle.std.specs.Prelude.{◌≡◌, ◌<◌, ◌≤◌, [], length, drop, take, vec_capacity, IfOk};
-ghost use Rattle.aas_outside.specs.Faults.{HasCause};
+ghost use Rattle.aas_outside.specs.Link.{OnlyTakes};
 ghost use Rattle.aas_session.specs.Intake.{intake_size, ReceivesPiece, ReceivesUntil};
 
 use aas_model_text::NoMemory;
@@ -100,10 +100,9 @@ impl Intake {
     ) -> Result<bool, Failed>
         requires { count ≤ intake_size }
         ensures received { IfOk result (λ enough.
-            ReceivesUntil count self.old.unread self.new.unread (L.left link.old) (L.left link.new) enough) }
-        ensures sent { L.sent link.new ≡ L.sent link.old }
-        ensures surroundings { L.surroundings link.new ≡ L.surroundings link.old }
-        ensures cause { HasCause (L.faults link.old) (L.faults link.new) result }
+            ReceivesUntil count self.old.unread self.new.unread (L.state link.old).left (L.state link.new).left
+            enough) }
+        ensures call { OnlyTakes (L.state link.old) (L.state link.new) result }
     {
         'pieces: while self.unread().len() < count {
             if self.receive(link)? == 0 {
@@ -117,10 +116,8 @@ impl Intake {
     fn receive<L: Link>(&mut self, link: &mut L) -> Result<usize, Failed>
         requires { length self.old.unread < intake_size }
         ensures received { IfOk result (λ count.
-            ReceivesPiece count self.old.unread self.new.unread (L.left link.old) (L.left link.new)) }
-        ensures sent { L.sent link.new ≡ L.sent link.old }
-        ensures surroundings { L.surroundings link.new ≡ L.surroundings link.old }
-        ensures cause { HasCause (L.faults link.old) (L.faults link.new) result }
+            ReceivesPiece count self.old.unread self.new.unread (L.state link.old).left (L.state link.new).left) }
+        ensures call { OnlyTakes (L.state link.old) (L.state link.new) result }
     {
         self.make_room();
         let count = link.take(&mut self.bytes[self.end..])?;

@@ -1,11 +1,10 @@
 // What takes the requests: a repository over a keeper.
-ghost use Rattle.std.specs.Prelude.{◌≡◌, ◌≢◌, ◌≤◌, List, ℕ, Bool, false, Err, IfOk, IsSome};
+ghost use Rattle.std.specs.Prelude.{◌≡◌, ◌≢◌, List, ℕ, false, Err, IfOk, IsSome};
 ghost use Rattle.aas_http.specs.ReplyText.{phrase};
 ghost use Rattle.aas_http.specs.Steps.{message_of};
 ghost use Rattle.aas_out.specs.Told.{Puts};
-ghost use Rattle.aas_outside.specs.Faults.{Rose};
 ghost use Rattle.aas_rule.specs.Rule.{Room};
-ghost use Rattle.aas_rule.specs.State.{State, IsSettledState, PassesTo, repository_of};
+ghost use Rattle.aas_rule.specs.State.{GoesOn, MachineState, WhereSettled};
 ghost use Rattle.aas_session.specs.Answers.{Answers};
 ghost use Rattle.aas_session.specs.Safe.{IsSafe, IsUnchanged};
 ghost use Rattle.aas_session.specs.Session.{HttpRule};
@@ -52,17 +51,9 @@ pub trait Machine {
     /// What a request comes to, where the keeper has this rule for room.
     ghost rule: { Room → HttpRule Documents };
 
-    /// The keeper's own rule for room.
-    ghost room: { Self → Room };
-
-    /// What it holds, and what a stop leaves of it.
-    ghost state: { Self → State Documents Image };
-
-    /// How many calls of the keeper have failed. It stands still at 2^64 - 1.
-    ghost faults: { Self → ℕ };
-
-    /// The keeper has failed, and no more requests are taken.
-    ghost stopped: { Self → Bool };
+    /// What it tells: what it holds and what a stop leaves of it, its keeper's rule for room and count of failed calls,
+    /// and whether it has stopped: then no more requests are taken.
+    ghost state: { Self → MachineState Documents Image };
 
     /// The bytes that a plan stands for.
     ghost poured: { Self → Self.Plan → List ℕ };
@@ -70,24 +61,17 @@ pub trait Machine {
     /// Answers a request; who gives the reply sets its `close`. At `Ok` every stop leaves the
     /// request's command, where it is one that was accepted.
     fn answer(&mut self, request: &Request) -> Result<Answer<Self::Plan>, Stop>
-        requires { stopped self.old ≡ false }
-        ensures answered { (records : List (List ℕ)) →
-            IsSettledState stands_for (state self.old) records →
-            Answers (rule (room self.old)) stands_for (repository_of (state self.old) records)
-            (message_of request.now) (state self.old).moment (state self.new)
-            (whole_replies (poured self.new) result) }
+        requires { (state self.old).stopped ≡ false }
+        ensures answered { WhereSettled stands_for (state self.old).held (λ r.
+            Answers (rule (state self.old).room) stands_for r (message_of request.now)
+            (state self.old).held.moment (state self.new).held (whole_replies (poured self.new) result)) }
         ensures measured { IfOk result (λ a. IsMeasured (poured self.new) a) }
         ensures reply { IfOk result (λ a. IsSome (phrase a.reply.status)) }
-        ensures room { room self.new ≡ room self.old }
-        ensures past { PassesTo (state self.old) (state self.new) }
-        ensures stopped { result ≢ Err StorageFault → stopped self.new ≡ false }
-        ensures later { faults self.old ≤ faults self.new }
-        ensures calm { result ≢ Err StorageFault → faults self.new ≡ faults self.old }
-        ensures fault { result ≡ Err StorageFault → Rose (faults self.old) (faults self.new) }
+        ensures goes_on { GoesOn (result ≡ Err StorageFault) (state self.old) (state self.new) }
 
         // A safe request changes nothing, and the keeper isn't asked.
         ensures safe { IsSafe (message_of request.now) →
-            IsUnchanged (state self.old) (state self.new) × (result ≢ Err StorageFault) };
+            IsUnchanged (state self.old).held (state self.new).held × (result ≢ Err StorageFault) };
 
     /// Puts what is poured. It takes no memory.
     fn pour<O: Out>(&self, plan: &Self::Plan, out: &mut O) -> Result<(), Failed>

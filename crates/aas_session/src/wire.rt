@@ -1,9 +1,8 @@
 // Visits served one after another.
-ghost use Rattle.std.specs.Prelude.{◌≡◌, ◌≢◌, ◌≤◌, ◌+◌, List, ℕ, false, Some};
+ghost use Rattle.std.specs.Prelude.{◌≡◌, ◌≢◌, ◌≤◌, ◌+◌, false};
+ghost use Rattle.aas_rule.specs.State.{GoesOn, WhereSettled};
 ghost use Rattle.aas_outside.specs.Faults.{Rose};
-ghost use Rattle.aas_outside.specs.Surroundings.{Connections, sent_on_all};
-ghost use Rattle.aas_session.specs.Visits.{ServesNext, ServesAll};
-ghost use Rattle.aas_rule.specs.State.{IsSettledState, PassesTo, repository_of};
+ghost use Rattle.aas_session.specs.Visits.{ServesNextOn, ServesWire};
 
 use crate::connection::{Ended, serve_connection};
 use crate::intake::Intake;
@@ -42,31 +41,20 @@ pub fn serve<M: Machine, W: Wire>(
     intake: &mut Intake,
     count: u32,
 ) -> WireEnded
-    requires { M.stopped machine.old ≡ false }
+    requires { (M.state machine.old).stopped ≡ false }
 
     // The sessions on the visits that were to come to so many clients.
-    ensures served { (c : Connections) (sent : List ℕ) (records : List (List ℕ)) →
-        (W.surroundings wire.old).connections ≡ Some c → W.sent wire.old ≡ Some sent →
-        IsSettledState M.stands_for (M.state machine.old) records →
-        ServesAll (M.rule (M.room machine.old)) M.stands_for
-        (repository_of (M.state machine.old) records) c (sent_on_all c sent) count
-        (M.state machine.old).moment (M.state machine.new)
-        (W.surroundings wire.new).connections (W.sent wire.new)
-        (W.faults wire.old) (W.faults wire.new) result }
+    ensures served { WhereSettled M.stands_for (M.state machine.old).held (λ r.
+        ServesWire (M.rule (M.state machine.old).room) M.stands_for r count (M.state machine.old).held.moment
+        (M.state machine.new).held (W.state wire.old) (W.state wire.new) result) }
 
     // No more clients are begun, whatever the wire tells.
-    ensures few { (W.surroundings wire.new).clients ≤ (W.surroundings wire.old).clients + count }
+    ensures few { (W.state wire.new).surroundings.clients ≤ (W.state wire.old).surroundings.clients + count }
 
-    ensures room { M.room machine.new ≡ M.room machine.old }
-    ensures past { PassesTo (M.state machine.old) (M.state machine.new) }
-    ensures stopped { result ≢ WireEnded.KeeperFault → M.stopped machine.new ≡ false }
-    ensures later_keeper { M.faults machine.old ≤ M.faults machine.new }
-    ensures calm_keeper { result ≢ WireEnded.KeeperFault → M.faults machine.new ≡ M.faults machine.old }
-    ensures later_wire { (W.surroundings wire.old).faults ≤ (W.surroundings wire.new).faults }
-    ensures keeper_fault { result ≡ WireEnded.KeeperFault →
-        Rose (M.faults machine.old) (M.faults machine.new) }
+    ensures goes_on { GoesOn (result ≡ WireEnded.KeeperFault) (M.state machine.old) (M.state machine.new) }
+    ensures later_wire { (W.state wire.old).surroundings.faults ≤ (W.state wire.new).surroundings.faults }
     ensures wire_fault { result ≡ WireEnded.WireFault →
-        Rose (W.surroundings wire.old).faults (W.surroundings wire.new).faults }
+        Rose (W.state wire.old).surroundings.faults (W.state wire.new).surroundings.faults }
 {
     let mut begun = 0;
     'visits: for _number in 0..u64::MAX {
@@ -89,30 +77,21 @@ fn serve_next<M: Machine, W: Wire>(
     intake: &mut Intake,
     may_begin: bool,
 ) -> Next
-    requires { M.stopped machine.old ≡ false }
-    ensures served { (c : Connections) (sent : List ℕ) (records : List (List ℕ)) →
-        (W.surroundings wire.old).connections ≡ Some c → W.sent wire.old ≡ Some sent →
-        IsSettledState M.stands_for (M.state machine.old) records →
-        ServesNext (M.rule (M.room machine.old)) M.stands_for
-        (repository_of (M.state machine.old) records) c may_begin (sent_on_all c sent)
-        (M.state machine.old).moment (M.state machine.new)
-        (W.surroundings wire.new).connections (W.sent wire.new)
-        (W.faults wire.old) (W.faults wire.new) result }
-    ensures room { M.room machine.new ≡ M.room machine.old }
-    ensures past { PassesTo (M.state machine.old) (M.state machine.new) }
+    requires { (M.state machine.old).stopped ≡ false }
+    ensures served { WhereSettled M.stands_for (M.state machine.old).held (λ r.
+        ServesNextOn (M.rule (M.state machine.old).room) M.stands_for r may_begin (M.state machine.old).held.moment
+        (M.state machine.new).held (W.state wire.old) (W.state wire.new) result) }
+    ensures goes_on { GoesOn (result ≡ Next.KeeperFault) (M.state machine.old) (M.state machine.new) }
     ensures asked { may_begin ≡ false → result ≢ Next.Begun }
-    ensures one { (W.surroundings wire.new).clients ≤ (W.surroundings wire.old).clients + 1 }
-    ensures none { may_begin ≡ false → (W.surroundings wire.new).clients ≡ (W.surroundings wire.old).clients }
-    ensures again { result ≡ Next.Again → (W.surroundings wire.new).clients ≡ (W.surroundings wire.old).clients }
-    ensures stopped { result ≢ Next.KeeperFault → M.stopped machine.new ≡ false }
-    ensures later_keeper { M.faults machine.old ≤ M.faults machine.new }
-    ensures calm_keeper { result ≢ Next.KeeperFault → M.faults machine.new ≡ M.faults machine.old }
-    ensures later_link { W.faults wire.old ≤ W.faults wire.new }
-    ensures later_wire { (W.surroundings wire.old).faults ≤ (W.surroundings wire.new).faults }
-    ensures keeper_fault { result ≡ Next.KeeperFault →
-        Rose (M.faults machine.old) (M.faults machine.new) }
+    ensures one { (W.state wire.new).surroundings.clients ≤ (W.state wire.old).surroundings.clients + 1 }
+    ensures none { may_begin ≡ false →
+        (W.state wire.new).surroundings.clients ≡ (W.state wire.old).surroundings.clients }
+    ensures again { result ≡ Next.Again →
+        (W.state wire.new).surroundings.clients ≡ (W.state wire.old).surroundings.clients }
+    ensures later_link { (W.state wire.old).faults ≤ (W.state wire.new).faults }
+    ensures later_wire { (W.state wire.old).surroundings.faults ≤ (W.state wire.new).surroundings.faults }
     ensures wire_fault { result ≡ Next.WireFault →
-        Rose (W.surroundings wire.old).faults (W.surroundings wire.new).faults }
+        Rose (W.state wire.old).surroundings.faults (W.state wire.new).surroundings.faults }
 {
     let served = match wire.next(may_begin) {
         Ok(NextVisit::New) => Next::Begun,

@@ -8,6 +8,6 @@ pub returns-in-Ok-clause-answered : goal.returns-in-Ok-clause-answered
 returns-in-Ok-clause-answered g c = λ records settled.
     let finishes = subst (λ (reply : Reply). Finishes c.act.result reply c.finish.result)
     c.in-Ok.ensures.reply c.finish.ensures.finished in
-    answers_command (g.K.Keeper.room_behind c.args.repo.now.keeper)
+    answers_command (g.K.Keeper.state c.args.repo.now.keeper).room_behind
     g.K.Keeper.stands_for _ _ _ c.args.command c.act.result
     (c.act.ensures.acts records settled) c.finish.result finishes

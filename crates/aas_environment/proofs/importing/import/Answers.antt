@@ -2,9 +2,10 @@ use Rattle.std.proofs.Common.{◌≡◌, ◌≢◌, Err, refl, sym, ap, ◌∙�
 use Rattle.std.specs.Prelude.{IfErr, Result}
 use Rattle.aas_command.specs.Commands.{IsWellFormed}
 use Rattle.aas_json_spelling.specs.Reading.{reading}
-use Rattle.aas_repo.specs.Held.{state_of}
+use Rattle.aas_repo.specs.Held.{machine_state}
 use Rattle.aas_repo.specs.declared.repo.Counts.{Counts}
-use Rattle.aas_rule.specs.State.{repository_of}
+use Rattle.aas_rule.specs.State.{GoesOn, repository_of}
+use Rattle.aas_rule.proofs.GoesOn.{goes_on_as}
 use Rattle.aas_environment.specs.Imports.{Blames, ComesOut, Imports, IsFileFault}
 use Rattle.aas_environment.specs.declared.import_fault.ImportFault.{ImportFault}
 use Rattle.aas_environment.specs.declared.import_fault.ImportFault.TheVariants.{Storage}
@@ -23,11 +24,11 @@ pub returns-after-refusal-clause-imports : goal.returns-after-refusal-clause-imp
 returns-after-refusal-clause-imports g c = λ records settled.
     let K = g.K.Keeper in
     let old = c.args.repo.now in
-    let before = state_of K.kept K.moment K.left_at old in
-    let now = state_of K.kept K.moment K.left_at c.act.new.self in
+    let before = (machine_state K.state old).held in
+    let now = (machine_state K.state c.act.new.self).held in
     let acts = c.in-Err-act.ensures.acts records settled in
-    let Answers : Result Counts ImportFault → Type 0 = Imports (K.room_behind old.keeper) K.stands_for
-    (repository_of before records) c.args.bytes.now (K.moment old.keeper) now in
+    let Answers : Result Counts ImportFault → Type 0 = Imports (K.state old.keeper).room_behind K.stands_for
+    (repository_of before records) c.args.bytes.now (K.state old.keeper).moment now in
     elim c.match-refusal.branch [
       | in-StorageFault w ↦ subst Answers (sym w.result-is) (record {
         environment = c.in-Ok.environment;
@@ -36,8 +37,8 @@ returns-after-refusal-clause-imports g c = λ records settled.
       })
       | in-NoMemory w ↦
           subst Answers (sym w.result-is) (acts.1 (λ is. let wrong = sym w.in-NoMemory.is ∙ is in absurd (cc)))
-      | in_default w ↦ subst Answers (sym w.result-is) (answered (K.room_behind old.keeper) K.stands_for
-          (repository_of before records) c.args.bytes.now (K.moment old.keeper) now
+      | in_default w ↦ subst Answers (sym w.result-is) (answered (K.state old.keeper).room_behind K.stands_for
+          (repository_of before records) c.args.bytes.now (K.state old.keeper).moment now
           c.in-Ok.environment c.in-Ok.ensures.reads c.in-Err-act.refusal
           (acts.2 w.in_default.not-StorageFault w.in_default.not-NoMemory) (acts.1 w.in_default.not-StorageFault)
           w.fault_of.result (λ left. w.fault_of.ensures left c.in-Ok.environment c.in-Ok.ensures.reads))
@@ -54,16 +55,26 @@ returns-after-refusal-clause-file g c =
           (c.in-Ok.environment, c.in-Ok.ensures.reads) w.fault_of.result w.fault_of.ensures)
     ]
 
-pub returns-after-refusal-clause-fault : goal.returns-after-refusal-clause-fault
-returns-after-refusal-clause-fault g c = λ storage.
+pub returns-after-refusal-clause-goes_on : goal.returns-after-refusal-clause-goes_on
+returns-after-refusal-clause-goes_on g c =
+    let K = g.K.Keeper in
+    let before = machine_state K.state c.args.repo.now in
+    let now = machine_state K.state c.act.new.self in
+    let Goes : Result Counts ImportFault → Type 0 = λ result. GoesOn (result ≡ Err Storage) before now in
+    let acted = c.in-Err-act.ensures.goes_on in
     elim c.match-refusal.branch [
-      | in-StorageFault w ↦ c.in-Err-act.ensures.fault (ap (λ why. Err why) w.in-StorageFault.is)
-      | in-NoMemory w ↦ let wrong = sym w.result-is ∙ storage in absurd (cc)
-      | in_default w ↦
-          let is : w.fault_of.result ≡ Storage = let both = sym w.result-is ∙ storage in cc in
-          let blames = w.fault_of.ensures (λ left. let wrong = sym is ∙ left in absurd (cc))
+      | in-StorageFault w ↦ subst Goes (sym w.result-is)
+          (goes_on_as _ _ before now (λ is. refl) (λ is. ap (λ why. Err why) w.in-StorageFault.is) acted)
+      | in-NoMemory w ↦ subst Goes (sym w.result-is)
+          (goes_on_as _ _ before now (λ is. absurd (cc (w.in-NoMemory.is))) (λ is. absurd (cc)) acted)
+      | in_default w ↦ subst Goes (sym w.result-is)
+          (goes_on_as _ _ before now (λ is. absurd (w.in_default.not-StorageFault (cc)))
+          (λ is.
+          let blames = w.fault_of.ensures (λ left. let wrong = sym is ∙ ap (λ why. Err why) left in absurd (cc))
           c.in-Ok.environment c.in-Ok.ensures.reads in
-          absurd (subst (λ fault. Blames c.in-Ok.environment fault) is blames)
+          let storage : w.fault_of.result ≡ Storage = cc in
+          absurd (subst (λ fault. Blames c.in-Ok.environment fault) storage blames))
+          acted)
     ]
 
 pub returns-after-refusal-clause-stops : goal.returns-after-refusal-clause-stops
@@ -80,7 +91,7 @@ returns-after-refusal-clause-stops g c = λ storage.
 
 pub returns-after-refusal-clause-outcome : goal.returns-after-refusal-clause-outcome
 returns-after-refusal-clause-outcome g c =
-    let has_room = g.K.Keeper.has_room c.args.repo.now.keeper in
+    let has_room = (g.K.Keeper.state c.args.repo.now.keeper).has_room in
     let old = c.args.repo.now.documents in
     let new = c.act.new.self.documents in
     let outcome = c.in-Err-act.ensures.outcome in

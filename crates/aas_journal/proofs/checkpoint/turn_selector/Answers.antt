@@ -6,5 +6,5 @@ pub returns-clause-images : goal.returns-clause-images
 returns-clause-images g c =
     let reads = c.first_of_selector.ensures.reads in
     let writes = c.write_durably.ensures in
-    changes_then Selector reads.past (none_changes Selector reads.past reads.images) writes.past
-    (tears_change Selector writes.past 0 1 writes.images)
+    changes_then Selector reads.past (none_changes Selector reads.past reads.images) writes.call.past
+    (tears_change Selector writes.call.past 0 1 writes.images)

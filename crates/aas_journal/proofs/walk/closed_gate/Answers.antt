@@ -13,8 +13,8 @@ gates-init g c =
     let disk = c.args.disk.now in
     record {
       within = c.requires.some;
-      meets = λ files told. begun (file c.args.part files) (known files (D.seen disk) _ told c.requires.size).1;
-      reads = reads_none D.seen D.moment D.left_at disk;
+      meets = λ files told. begun (file c.args.part files) (known files (D.state disk).seen _ told c.requires.size).1;
+      reads = reads_none (D.state disk);
       calm = refl;
     }
 
@@ -29,9 +29,9 @@ gates-preserved g c =
       within = between.1;
       meets = λ files told. further (file c.args.part files) c.gates.gate (before.meets files told) c.in-Open.next
           (subst (λ (gate : Gate). StandsAt (drop c.gates.gate (file c.args.part files)) c.gates.gate gate) c.in-Open.is
-          (known files (D.seen c.gates.disk) _ (before.reads.same ∙ told) c.in_ok-gate_at.ensures.value));
+          (known files (D.state c.gates.disk).seen _ (before.reads.seen ∙ told) c.in_ok-gate_at.ensures.value));
       reads =
-          reads_then D.seen D.moment D.left_at disk c.gates.disk
-          c.gate_at.new.disk before.reads c.gate_at.ensures.reads;
-      calm = c.in_ok-gate_at.ensures.calm ∙ before.calm;
+          reads_then (D.state disk) (D.state c.gates.disk) (D.state c.gate_at.new.disk)
+          before.reads c.gate_at.ensures.reads;
+      calm = c.in_ok-gate_at.ensures.call.calm ∙ before.calm;
     }

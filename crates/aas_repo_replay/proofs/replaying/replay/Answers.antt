@@ -17,9 +17,8 @@ gates-preserved g c =
       room = c.add_at.ensures.room ∙ before.room;
       valid = c.add_at.ensures.valid;
       reads =
-          reads_then D.seen D.moment D.left_at (disk_of c.args.journal.now)
-          (disk_of c.gates.journal) (disk_of c.add_at.new.journal) before.reads
-          c.add_at.ensures.reads;
+          reads_then (D.state (disk_of c.args.journal.now)) (D.state (disk_of c.gates.journal))
+          (D.state (disk_of c.add_at.new.journal)) before.reads c.add_at.ensures.reads.only;
       calm = c.in_ok-next.ensures.calm ∙ before.calm;
     }
 

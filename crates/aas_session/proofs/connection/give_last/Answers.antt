@@ -11,12 +11,12 @@ returns-in_err-flush-clause-front g c =
     let old = c.args.out.now in
     let new = c.flush.new.self in
     on_err c.from_residual.result
-    (front_put (g.L.Link.sent old.link.now) (held_by new) (g.L.Link.sent new.link.now)
+    (front_put (g.L.Link.state old.link.now).sent (held_by new) (g.L.Link.state new.link.now).sent
     (held_by old) c.args.text.now (held_by old ++ c.args.text.now) refl c.flush.ensures.sent c.flush.ensures.more)
 
 pub returns-clause-front : goal.returns-clause-front
 returns-clause-front g c =
-    let sent = g.L.Link.sent in
+    let sent = λ (l : g.row.L.Denot). (g.L.Link.state l).sent in
     let old = c.args.out.now in
     let mid = c.flush.new.self in
     let flushed = emptied (sent old.link.now) (sent mid.link.now) (held_by old)

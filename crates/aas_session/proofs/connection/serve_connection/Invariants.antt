@@ -6,18 +6,18 @@ use Rattle.aas_session.proofs.connection.serve_connection.Given as goal
 
 abbrev pub invariant-requests : goal.invariant-requests
 invariant-requests g l = let M = g.M.Machine in let L = g.L.Link in record {
-  so_far : (input : List ℕ) (records : List (List ℕ)) → L.left l.fn.link ≡ Some input
-      → IsSettledState M.stands_for (M.state l.fn.machine) records
-      → SoFar (M.rule (M.room l.fn.machine)) M.stands_for
-      (repository_of (M.state l.fn.machine) records) input (M.state l.fn.machine).moment (M.state l.machine)
-      (L.sent l.fn.link) (L.sent l.out.link.now) (held_by l.out) l.requests l.intake.unread (L.left l.out.link.now);
+  so_far : (input : List ℕ) (records : List (List ℕ)) → (L.state l.fn.link).left ≡ Some input
+      → IsSettledState M.stands_for (M.state l.fn.machine).held records
+      → SoFar (M.rule (M.state l.fn.machine).room) M.stands_for
+      (repository_of (M.state l.fn.machine).held records) input (M.state l.fn.machine).held.moment (M.state l.machine).held
+      (L.state l.fn.link).sent (L.state l.out.link.now).sent (held_by l.out) l.requests l.intake.unread (L.state l.out.link.now).left;
   same_reference : l.out.link.ghost_name ≡ l.initial.out.link.ghost_name;
-  room : M.room l.machine ≡ M.room l.fn.machine;
-  past : PassesTo (M.state l.fn.machine) (M.state l.machine);
-  stopped : M.stopped l.machine ≡ false;
-  calm_keeper : M.faults l.machine ≡ M.faults l.fn.machine;
-  later_link : L.faults l.fn.link ≤ L.faults l.out.link.now;
-  surroundings : L.surroundings l.out.link.now ≡ L.surroundings l.fn.link;
+  room : (M.state l.machine).room ≡ (M.state l.fn.machine).room;
+  past : PassesTo (M.state l.fn.machine).held (M.state l.machine).held;
+  stopped : (M.state l.machine).stopped ≡ false;
+  calm_keeper : (M.state l.machine).faults ≡ (M.state l.fn.machine).faults;
+  later_link : (L.state l.fn.link).faults ≤ (L.state l.out.link.now).faults;
+  surroundings : (L.state l.out.link.now).surroundings ≡ (L.state l.fn.link).surroundings;
   some : 0 < l.requests;
 }
 

@@ -13,18 +13,18 @@ use Rattle.aas_session.proofs.connection.serve_one.Goals as goal
 
 pub returns-in-Err-clause-served : goal.returns-in-Err-clause-served
 returns-in-Err-clause-served g c = λ records settled.
-    let sent = g.L.Link.sent in
+    let sent = λ (l : g.row.L.Denot). (g.L.Link.state l).sent in
     let old = c.args.out.now in
     let new = c.give_before.new.out in
     inl (
-      unchanged (g.M.Machine.state c.args.machine.now),
+      unchanged (g.M.Machine.state c.args.machine.now).held,
       front_given (sent old.link.now) (sent new.link.now) (held_by new)
           (held_by old) c.in-Err.ensures.put c.in-Err.ensures.given,
     )
 
 pub returns-in-Ok-pour-clause-served : goal.returns-in-Ok-pour-clause-served
 returns-in-Ok-pour-clause-served g c = λ records settled.
-    let M = g.M.Machine in let sent = g.L.Link.sent in
+    let M = g.M.Machine in let sent = λ (l : g.row.L.Denot). (g.L.Link.state l).sent in
     let old = c.args.out.now in
     let mid = c.give_before.new.out in
     let new = c.pour.new.out in
@@ -40,7 +40,7 @@ returns-in-Ok-pour-clause-served g c = λ records settled.
       all
           ∙ ap (λ (k : Option (List ℕ)). append_known k (text answer.0.reply))
           {x = append_known (sent mid.link.now) (held_by mid)} c.give_before.ensures.put,
-      stops_behind sent (M.state c.args.machine.now) (M.state c.answer.new.self) old mid
+      stops_behind sent (M.state c.args.machine.now).held (M.state c.answer.new.self).held old mid
           c.in-Ok.ensures.empty c.answer.ensures.safe c.give_before.ensures.put c.give_before.ensures.given
           new (text answer.0.reply) c.in-Ok-pour.ensures.gone all,
     )
@@ -55,8 +55,8 @@ returns-in-Ok-answer-clause-served g c = λ records settled.
       answer.0,
       answer.1,
       answer.3,
-      stops_within g.L.Link.sent (M.state c.args.machine.now)
-          (M.state c.answer.new.self) c.args.out.now c.give_before.new.out c.in-Ok.ensures.empty c.answer.ensures.safe
+      stops_within (λ (l : g.row.L.Denot). (g.L.Link.state l).sent) (M.state c.args.machine.now).held
+          (M.state c.answer.new.self).held c.args.out.now c.give_before.new.out c.in-Ok.ensures.empty c.answer.ensures.safe
           c.give_before.ensures.put c.give_before.ensures.given c.pour.new.out
           (text answer.0.reply) put.wrote.gone put.front put.rest (ap text (sym answer.2) ∙ put.parts) put.wrote.sent,
     ))
@@ -66,30 +66,30 @@ returns-in-Err-NoMemory-clause-served g c = λ records settled.
     let M = g.M.Machine in
     inr (inr (
       rw c.in-Err-NoMemory.field-0-is at c.in-Err-NoMemory.ensures.answered records settled,
-      stops_in g.L.Link.sent (M.state c.args.machine.now)
-          (M.state c.answer.new.self) c.args.out.now c.give_before.new.out c.in-Ok.ensures.empty c.answer.ensures.safe
+      stops_in (λ (l : g.row.L.Denot). (g.L.Link.state l).sent) (M.state c.args.machine.now).held
+          (M.state c.answer.new.self).held c.args.out.now c.give_before.new.out c.in-Ok.ensures.empty c.answer.ensures.safe
           c.give_before.ensures.put c.give_before.ensures.given out_of_memory
-          (g.L.Link.sent c.give_last.new.out.link.now)
+          (g.L.Link.state c.give_last.new.out.link.now).sent
           (rw (← c.out_of_memory.ensures) c.in-Err-give_last.ensures.front),
     ))
 
 pub returns-clause-served : goal.returns-clause-served
 returns-clause-served g c = λ records settled.
-    let sent = g.L.Link.sent in let faults = g.L.Link.faults in
+    let sent = λ (l : g.row.L.Denot). (g.L.Link.state l).sent in let faults = λ (l : g.row.L.Denot). (g.L.Link.state l).faults in
     let old = c.args.out.now in
     let mid = c.give_before.new.out in
     let new = c.give_all-given.new.link in
     let faulted = rw c.in-Err-StorageFault.field-0-is at c.in-Err-StorageFault.ensures.answered records settled in
     let safe = c.in-Err-StorageFault.ensures.safe in
     let given : sent mid.link.now ≡ append_known (sent old.link.now) (held_by old) =
-    given_unless_safe sent (g.M.Machine.state c.args.machine.now)
-    (g.M.Machine.state c.answer.new.self) old mid c.in-Ok.ensures.empty safe
+    given_unless_safe sent (g.M.Machine.state c.args.machine.now).held
+    (g.M.Machine.state c.answer.new.self).held old mid c.in-Ok.ensures.empty safe
     c.give_before.ensures.put c.give_before.ensures.given (λ s.
     (safe s).1 (ap (λ e. Err e) c.in-Err-StorageFault.field-0-is)) in
     let e = c.give_all-given.ensures in
     let F = Rose (faults old.link.now) (faults new) in
     let failed = on_err_weaker c.give_all-given.result
-    (λ rose. let since : F = omega (arith, rose, c.give_before.ensures.cause.later) in since) e.cause.failed in (
+    (λ rose. let since : F = omega (arith, rose, c.give_before.ensures.call.cause.later) in since) e.call.cause.failed in (
       faulted.0,
       faulted.1,
       faulted.2,

@@ -11,19 +11,19 @@ use Rattle.aas_session.proofs.wire.serve.Goals as goal
 pub visits-init : goal.visits-init
 visits-init g c = let M = g.M.Machine in let W = g.W.Link in record {
   progress = λ k s records told sent settled_before.
-      begins _ M.stands_for records (M.state c.args.machine.now) _ _
-      (W.faults c.args.wire.now) c.args.count k s told sent settled_before;
+      begins _ M.stands_for records (M.state c.args.machine.now).held _ _
+      (W.state c.args.wire.now).faults c.args.count k s told sent settled_before;
   within = omega arith;
   few = omega arith;
   room = refl;
-  past = passes_none (M.state c.args.machine.now).moment (M.state c.args.machine.now).left_at;
+  past = passes_none (M.state c.args.machine.now).held.moment (M.state c.args.machine.now).held.left_at;
   stopped = c.requires;
   calm_keeper = refl;
   later_wire = omega arith;
 }
 
 pub returns-in-NoneLeft-clause-served : goal.returns-in-NoneLeft-clause-served
-returns-in-NoneLeft-clause-served g c = λ k s records told sent settled_before.
+returns-in-NoneLeft-clause-served g c = λ records settled_before k s told sent.
     let M = g.M.Machine in let W = g.W.Link in
     let P = c.visits.invariant.progress k s records told sent settled_before in
     let may : nat_lt c.visits.begun c.args.count ≡ true → c.visits.begun < c.args.count = λ is.
@@ -32,14 +32,14 @@ returns-in-NoneLeft-clause-served g c = λ k s records told sent settled_before.
     (let high : c.args.count ≤ c.visits.begun = grind (arith, nat_tests, is) in
     omega (arith, high, c.visits.invariant.within)) in
     none_left _ _ _ _ _ _ _ _ _ _ _ _ _ _ P (nat_lt c.visits.begun c.args.count) c.visits.invariant.within may may_not
-    (M.state c.serve_next.new.machine) c.serve_next.ensures.past
-    (W.surroundings c.serve_next.new.wire).connections (W.sent c.serve_next.new.wire)
-    (W.faults c.serve_next.new.wire) (M.rule (M.room c.visits.machine)) (λ i. M.rule (c.visits.invariant.room i))
-    (c.in-NoneLeft.ensures.served P.surroundings P.here
-    (records ++ all_commands P.served) P.told P.told_here (settled _ _ _ _ _ _ _ _ _ _ _ _ _ _ P))
+    (M.state c.serve_next.new.machine).held c.serve_next.ensures.goes_on.past
+    (W.state c.serve_next.new.wire).surroundings.connections (W.state c.serve_next.new.wire).sent
+    (W.state c.serve_next.new.wire).faults (M.rule (M.state c.visits.machine).room) (λ i. M.rule (c.visits.invariant.room i))
+    (c.in-NoneLeft.ensures.served (records ++ all_commands P.served)
+    (settled _ _ _ _ _ _ _ _ _ _ _ _ _ _ P) P.surroundings P.here P.told P.told_here)
 
 pub returns-in-WireFault-clause-served : goal.returns-in-WireFault-clause-served
-returns-in-WireFault-clause-served g c = λ k s records told sent settled_before.
+returns-in-WireFault-clause-served g c = λ records settled_before k s told sent.
     let M = g.M.Machine in let W = g.W.Link in
     let P = c.visits.invariant.progress k s records told sent settled_before in
     let may : nat_lt c.visits.begun c.args.count ≡ true → c.visits.begun < c.args.count = λ is.
@@ -48,14 +48,14 @@ returns-in-WireFault-clause-served g c = λ k s records told sent settled_before
     (let high : c.args.count ≤ c.visits.begun = grind (arith, nat_tests, is) in
     omega (arith, high, c.visits.invariant.within)) in
     wire_failed _ _ _ _ _ _ _ _ _ _ _ _ _ _ P (nat_lt c.visits.begun c.args.count) c.visits.invariant.within may may_not
-    (M.state c.serve_next.new.machine) c.serve_next.ensures.past
-    (W.surroundings c.serve_next.new.wire).connections (W.sent c.serve_next.new.wire)
-    (W.faults c.serve_next.new.wire) (M.rule (M.room c.visits.machine)) (λ i. M.rule (c.visits.invariant.room i))
-    (c.in-WireFault.ensures.served P.surroundings P.here
-    (records ++ all_commands P.served) P.told P.told_here (settled _ _ _ _ _ _ _ _ _ _ _ _ _ _ P))
+    (M.state c.serve_next.new.machine).held c.serve_next.ensures.goes_on.past
+    (W.state c.serve_next.new.wire).surroundings.connections (W.state c.serve_next.new.wire).sent
+    (W.state c.serve_next.new.wire).faults (M.rule (M.state c.visits.machine).room) (λ i. M.rule (c.visits.invariant.room i))
+    (c.in-WireFault.ensures.served (records ++ all_commands P.served)
+    (settled _ _ _ _ _ _ _ _ _ _ _ _ _ _ P) P.surroundings P.here P.told P.told_here)
 
 pub returns-in-KeeperFault-clause-served : goal.returns-in-KeeperFault-clause-served
-returns-in-KeeperFault-clause-served g c = λ k s records told sent settled_before.
+returns-in-KeeperFault-clause-served g c = λ records settled_before k s told sent.
     let M = g.M.Machine in let W = g.W.Link in
     let P = c.visits.invariant.progress k s records told sent settled_before in
     let may : nat_lt c.visits.begun c.args.count ≡ true → c.visits.begun < c.args.count = λ is.
@@ -64,11 +64,11 @@ returns-in-KeeperFault-clause-served g c = λ k s records told sent settled_befo
     (let high : c.args.count ≤ c.visits.begun = grind (arith, nat_tests, is) in
     omega (arith, high, c.visits.invariant.within)) in
     keeper_failed _ _ _ _ _ _ _ _ _ _ _ _ _ _ P (nat_lt c.visits.begun c.args.count)
-    c.visits.invariant.within may may_not (M.state c.serve_next.new.machine) c.serve_next.ensures.past
-    (W.surroundings c.serve_next.new.wire).connections (W.sent c.serve_next.new.wire)
-    (W.faults c.serve_next.new.wire) (M.rule (M.room c.visits.machine)) (λ i. M.rule (c.visits.invariant.room i))
-    (c.in-KeeperFault.ensures.served P.surroundings P.here
-    (records ++ all_commands P.served) P.told P.told_here (settled _ _ _ _ _ _ _ _ _ _ _ _ _ _ P))
+    c.visits.invariant.within may may_not (M.state c.serve_next.new.machine).held c.serve_next.ensures.goes_on.past
+    (W.state c.serve_next.new.wire).surroundings.connections (W.state c.serve_next.new.wire).sent
+    (W.state c.serve_next.new.wire).faults (M.rule (M.state c.visits.machine).room) (λ i. M.rule (c.visits.invariant.room i))
+    (c.in-KeeperFault.ensures.served (records ++ all_commands P.served)
+    (settled _ _ _ _ _ _ _ _ _ _ _ _ _ _ P) P.surroundings P.here P.told P.told_here)
 
 pub visits-preserved : goal.visits-preserved
 visits-preserved g c = record {
@@ -81,20 +81,20 @@ visits-preserved g c = record {
       (let high : c.args.count ≤ c.visits.begun = grind (arith, nat_tests, is) in
       omega (arith, high, c.visits.invariant.within)) in
       one_begun _ _ _ _ _ _ _ _ _ _ _ _ _ _ P (nat_lt c.visits.begun c.args.count) c.visits.invariant.within may may_not
-      (M.state c.serve_next.new.machine) c.serve_next.ensures.past
-      (W.surroundings c.serve_next.new.wire).connections (W.sent c.serve_next.new.wire)
-      (W.faults c.serve_next.new.wire) (M.rule (M.room c.visits.machine)) (λ i. M.rule (c.visits.invariant.room i))
-      (c.in-Begun.ensures.served P.surroundings P.here
-      (records ++ all_commands P.served) P.told P.told_here (settled _ _ _ _ _ _ _ _ _ _ _ _ _ _ P));
+      (M.state c.serve_next.new.machine).held c.serve_next.ensures.goes_on.past
+      (W.state c.serve_next.new.wire).surroundings.connections (W.state c.serve_next.new.wire).sent
+      (W.state c.serve_next.new.wire).faults (M.rule (M.state c.visits.machine).room) (λ i. M.rule (c.visits.invariant.room i))
+      (c.in-Begun.ensures.served (records ++ all_commands P.served)
+      (settled _ _ _ _ _ _ _ _ _ _ _ _ _ _ P) P.surroundings P.here P.told P.told_here);
   within = (let less : c.visits.begun + 1 ≤ c.args.count = ⊎_elim (λ low. omega (arith, low))
       (λ high. absurd (c.serve_next.ensures.asked (le-ltb c.visits.begun c.args.count high) c.in-Begun.is))
       (cases_lt c.visits.begun c.args.count) in
       less);
   few = omega (arith, c.visits.invariant.few, c.serve_next.ensures.one);
-  room = c.serve_next.ensures.room ∙ c.visits.invariant.room;
-  past = passes_on _ _ _ _ _ _ c.visits.invariant.past c.serve_next.ensures.past;
+  room = c.serve_next.ensures.goes_on.room ∙ c.visits.invariant.room;
+  past = passes_on _ _ _ _ _ _ c.visits.invariant.past c.serve_next.ensures.goes_on.past;
   stopped = search rules;
-  calm_keeper = c.serve_next.ensures.calm_keeper (search rules) ∙ c.visits.invariant.calm_keeper;
+  calm_keeper = c.serve_next.ensures.goes_on.calm (search rules) ∙ c.visits.invariant.calm_keeper;
   later_wire = omega (arith, c.visits.invariant.later_wire, c.serve_next.ensures.later_wire);
 }
 
@@ -109,21 +109,21 @@ visits-preserved-in-Again g c = record {
       (let high : c.args.count ≤ c.visits.begun = grind (arith, nat_tests, is) in
       omega (arith, high, c.visits.invariant.within)) in
       one_again _ _ _ _ _ _ _ _ _ _ _ _ _ _ P (nat_lt c.visits.begun c.args.count) c.visits.invariant.within may may_not
-      (M.state c.serve_next.new.machine) c.serve_next.ensures.past
-      (W.surroundings c.serve_next.new.wire).connections (W.sent c.serve_next.new.wire)
-      (W.faults c.serve_next.new.wire) (M.rule (M.room c.visits.machine)) (λ i. M.rule (c.visits.invariant.room i))
-      (c.in-Again.ensures.served P.surroundings P.here
-      (records ++ all_commands P.served) P.told P.told_here (settled _ _ _ _ _ _ _ _ _ _ _ _ _ _ P));
+      (M.state c.serve_next.new.machine).held c.serve_next.ensures.goes_on.past
+      (W.state c.serve_next.new.wire).surroundings.connections (W.state c.serve_next.new.wire).sent
+      (W.state c.serve_next.new.wire).faults (M.rule (M.state c.visits.machine).room) (λ i. M.rule (c.visits.invariant.room i))
+      (c.in-Again.ensures.served (records ++ all_commands P.served)
+      (settled _ _ _ _ _ _ _ _ _ _ _ _ _ _ P) P.surroundings P.here P.told P.told_here);
   within = c.visits.invariant.within;
   few = omega (arith, c.visits.invariant.few, c.serve_next.ensures.again c.in-Again.is);
-  room = c.serve_next.ensures.room ∙ c.visits.invariant.room;
-  past = passes_on _ _ _ _ _ _ c.visits.invariant.past c.serve_next.ensures.past;
+  room = c.serve_next.ensures.goes_on.room ∙ c.visits.invariant.room;
+  past = passes_on _ _ _ _ _ _ c.visits.invariant.past c.serve_next.ensures.goes_on.past;
   stopped = search rules;
-  calm_keeper = c.serve_next.ensures.calm_keeper (search rules) ∙ c.visits.invariant.calm_keeper;
+  calm_keeper = c.serve_next.ensures.goes_on.calm (search rules) ∙ c.visits.invariant.calm_keeper;
   later_wire = omega (arith, c.visits.invariant.later_wire, c.serve_next.ensures.later_wire);
 }
 
 pub returns-clause-served : goal.returns-clause-served
-returns-clause-served g c = λ k s records told sent settled_before.
+returns-clause-served g c = λ records settled_before k s told sent.
     all_counted _ _ _ _ _ _ _ _ _ _ _ _ _ _
     (c.visits.invariant.progress k s records told sent settled_before) (omega (arith, c.visits-test.false))

@@ -9,7 +9,7 @@ use Rattle.aas_session.proofs.wire.serve_next.Goals.{in-Ok-New, in-Ok-Again}
 use Rattle.aas_session.proofs.wire.serve_next.Goals as goal
 
 pub returns-in-Closed-clause-served : goal.returns-in-Closed-clause-served
-returns-in-Closed-clause-served g c = λ k s records told sent settled.
+returns-in-Closed-clause-served g c = λ records settled k s told sent.
     let W = g.W.Link in
     let way : ((c.next.result ≡ Ok New) × (c.match-next-2.served ≡ next.Begun))
     ⊎ ((c.next.result ≡ Ok Again) × (c.match-next-2.served ≡ next.Again)) =
@@ -17,17 +17,17 @@ returns-in-Closed-clause-served g c = λ k s records told sent settled.
       | in-Ok-New w ↦ inl (search rules, w.served-is)
       | in-Ok-Again w ↦ inr (search rules, w.served-is)
     ] in
-    let later : W.faults c.args.wire.now ≤ W.faults c.serve_connection.new.link =
-    omega (arith, c.serve_connection.ensures.later_link, c.next.ensures.faults) in
-    next_served _ _ _ c.args.may_begin k s _ _ _ _ _ _ _ _ _
-    (λ v rest clients first B. finished_visit _ _ _ k s (open_visits c.args.may_begin k) clients _ _ _ _ _ _ _
-    (W.faults c.args.wire.now) (W.faults c.serve_connection.new.link) later v rest first B
-    (λ i. (c.serve_connection.ensures.surroundings i).connections) Closed
-    (c.in-Closed.ensures.served v.input records B.left settled))
-    _ _ _ c.next.result c.match-next-2.served told sent c.next.ensures.begins way
+    let later : (W.state c.args.wire.now).faults ≤ (W.state c.serve_connection.new.link).faults =
+    omega (arith, c.serve_connection.ensures.link.later, c.next.ensures.call.faults) in
+    next_served _ _ _ c.args.may_begin k s _ _ _ _ _ _ _
+    (λ v rest clients first B. finished_visit _ _ _ k s (open_visits c.args.may_begin k) clients _ _ _ _ _
+    (W.state c.args.wire.now).faults (W.state c.serve_connection.new.link).faults later v rest first B
+    (λ i. (c.serve_connection.ensures.link.surroundings i).connections) Closed
+    (c.in-Closed.ensures.served records settled v.input B.left))
+    _ c.next.result c.match-next-2.served told sent c.next.ensures.begins way
 
 pub returns-in-LinkFault-clause-served : goal.returns-in-LinkFault-clause-served
-returns-in-LinkFault-clause-served g c = λ k s records told sent settled.
+returns-in-LinkFault-clause-served g c = λ records settled k s told sent.
     let W = g.W.Link in
     let way : ((c.next.result ≡ Ok New) × (c.match-next-2.served ≡ next.Begun))
     ⊎ ((c.next.result ≡ Ok Again) × (c.match-next-2.served ≡ next.Again)) =
@@ -35,19 +35,19 @@ returns-in-LinkFault-clause-served g c = λ k s records told sent settled.
       | in-Ok-New w ↦ inl (search rules, w.served-is)
       | in-Ok-Again w ↦ inr (search rules, w.served-is)
     ] in
-    let later : W.faults c.args.wire.now ≤ W.faults c.serve_connection.new.link =
-    omega (arith, c.serve_connection.ensures.later_link, c.next.ensures.faults) in
-    let failed : Rose (W.faults c.args.wire.now) (W.faults c.serve_connection.new.link) =
-    omega (arith, c.in-LinkFault.ensures.link_fault refl, c.next.ensures.faults) in
-    next_served _ _ _ c.args.may_begin k s _ _ _ _ _ _ _ _ _
-    (λ v rest clients first B. cut_visit _ _ _ k s (open_visits c.args.may_begin k) clients _ _ _ _ _ _ _
-    (W.faults c.args.wire.now) (W.faults c.serve_connection.new.link) later v rest first B
-    (λ i. (c.serve_connection.ensures.surroundings i).connections) failed
-    (c.in-LinkFault.ensures.served v.input records B.left settled))
-    _ _ _ c.next.result c.match-next-2.served told sent c.next.ensures.begins way
+    let later : (W.state c.args.wire.now).faults ≤ (W.state c.serve_connection.new.link).faults =
+    omega (arith, c.serve_connection.ensures.link.later, c.next.ensures.call.faults) in
+    let failed : Rose (W.state c.args.wire.now).faults (W.state c.serve_connection.new.link).faults =
+    omega (arith, c.in-LinkFault.ensures.link.rose refl, c.next.ensures.call.faults) in
+    next_served _ _ _ c.args.may_begin k s _ _ _ _ _ _ _
+    (λ v rest clients first B. cut_visit _ _ _ k s (open_visits c.args.may_begin k) clients _ _ _ _ _
+    (W.state c.args.wire.now).faults (W.state c.serve_connection.new.link).faults later v rest first B
+    (λ i. (c.serve_connection.ensures.link.surroundings i).connections) failed
+    (c.in-LinkFault.ensures.served records settled v.input B.left))
+    _ c.next.result c.match-next-2.served told sent c.next.ensures.begins way
 
 pub returns-in-NoMemory-clause-served : goal.returns-in-NoMemory-clause-served
-returns-in-NoMemory-clause-served g c = λ k s records told sent settled.
+returns-in-NoMemory-clause-served g c = λ records settled k s told sent.
     let W = g.W.Link in
     let way : ((c.next.result ≡ Ok New) × (c.match-next-2.served ≡ next.Begun))
     ⊎ ((c.next.result ≡ Ok Again) × (c.match-next-2.served ≡ next.Again)) =
@@ -55,11 +55,11 @@ returns-in-NoMemory-clause-served g c = λ k s records told sent settled.
       | in-Ok-New w ↦ inl (search rules, w.served-is)
       | in-Ok-Again w ↦ inr (search rules, w.served-is)
     ] in
-    let later : W.faults c.args.wire.now ≤ W.faults c.serve_connection.new.link =
-    omega (arith, c.serve_connection.ensures.later_link, c.next.ensures.faults) in
-    next_served _ _ _ c.args.may_begin k s _ _ _ _ _ _ _ _ _
-    (λ v rest clients first B. finished_visit _ _ _ k s (open_visits c.args.may_begin k) clients _ _ _ _ _ _ _
-    (W.faults c.args.wire.now) (W.faults c.serve_connection.new.link) later v rest first B
-    (λ i. (c.serve_connection.ensures.surroundings i).connections) NoMemory
-    (c.in-NoMemory.ensures.served v.input records B.left settled))
-    _ _ _ c.next.result c.match-next-2.served told sent c.next.ensures.begins way
+    let later : (W.state c.args.wire.now).faults ≤ (W.state c.serve_connection.new.link).faults =
+    omega (arith, c.serve_connection.ensures.link.later, c.next.ensures.call.faults) in
+    next_served _ _ _ c.args.may_begin k s _ _ _ _ _ _ _
+    (λ v rest clients first B. finished_visit _ _ _ k s (open_visits c.args.may_begin k) clients _ _ _ _ _
+    (W.state c.args.wire.now).faults (W.state c.serve_connection.new.link).faults later v rest first B
+    (λ i. (c.serve_connection.ensures.link.surroundings i).connections) NoMemory
+    (c.in-NoMemory.ensures.served records settled v.input B.left))
+    _ c.next.result c.match-next-2.served told sent c.next.ensures.begins way

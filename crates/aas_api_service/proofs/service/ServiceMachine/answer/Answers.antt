@@ -2,7 +2,7 @@ use Rattle.std.proofs.Common.{Result, subst, sym}
 use Rattle.aas_answer.specs.Plans.{plan_text}
 use Rattle.aas_http.specs.Steps.{message_of}
 use Rattle.aas_http.specs.declared.replies.Reply.{Reply}
-use Rattle.aas_repo.specs.Held.{state_of}
+use Rattle.aas_repo.specs.Held.{Held, machine_state}
 use Rattle.aas_rule.specs.State.{repository_of}
 use Rattle.aas_session.specs.Answers.{Answers}
 use Rattle.aas_session.specs.declared.machine.Stop.{Stop}
@@ -20,7 +20,7 @@ answer-requires-clause-well_formed g c =
 pub returns-in-Ok-clause-answered : goal.returns-in-Ok-clause-answered
 returns-in-Ok-clause-answered g c = λ records settled.
     let m = message_of c.args.request.now in
-    answers_asked (g.K.Keeper.room_behind c.args.self.now.repo.keeper) g.K.Keeper.stands_for _ _ _ m c.in-Ok.call _
+    answers_asked (g.K.Keeper.state c.args.self.now.repo.keeper).room_behind g.K.Keeper.stands_for _ _ _ m c.in-Ok.call _
     (asked_of m c.in-Ok.call c.in-Ok.ensures) (c.answer.ensures.answered records settled)
 
 pub returns-in-Ok-clause-safe : goal.returns-in-Ok-clause-safe
@@ -30,13 +30,13 @@ returns-in-Ok-clause-safe g c = λ safe.
     let question =
     asks_question m c.in-Ok.call.through c.in-Ok.call.ask safe (asked_of m c.in-Ok.call c.in-Ok.ensures) in
     let still = c.answer.ensures.unchanged question.0 question.1 in
-    (same_unchanged (state_of K.kept K.moment K.left_at) _ _ still.0, still.1)
+    (same_unchanged (λ (held : Held _). (machine_state K.state held).held) _ _ still.0, still.1)
 
 pub returns-in-Err-clause-answered : goal.returns-in-Err-clause-answered
 returns-in-Err-clause-answered g c = λ records settled.
     let K = g.K.Keeper in
-    let room = K.room_behind c.args.self.now.repo.keeper in
-    let state = state_of K.kept K.moment K.left_at c.args.self.now.repo in
+    let room = (K.state c.args.self.now.repo.keeper).room_behind in
+    let state = (machine_state K.state c.args.self.now.repo).held in
     let m = message_of c.args.request.now in
     let P : Result Reply Stop → Type 0 = λ a.
     Answers (Turns room) K.stands_for (repository_of state records) m state.moment state a in

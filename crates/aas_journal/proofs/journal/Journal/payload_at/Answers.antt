@@ -16,11 +16,11 @@ pub read_at-requires : goal.read_at-requires
 read_at-requires g c =
     let D = g.D.Disk in
     let self = c.args.self.now in
-    where_told (D.seen self.disk) _ (λ files told.
-    let at = known files (D.seen self.disk) _ told c.requires in
+    where_told (D.state self.disk).seen _ (λ files told.
+    let at = known files (D.state self.disk).seen _ told c.requires in
     let below = not_last at.0 at.2 c.args.at self.gate at.3.within at.3.at_is at.1.gate_is c.if-at-self.false in
     let image =
-    image_told (D.seen self.disk) (D.left_at self.disk (D.moment self.disk)) self.part self.gate at.0 files told at.1 in
+    image_told (D.state self.disk).seen ((D.state self.disk).left_at (D.state self.disk).moment) self.part self.gate at.0 files told at.1 in
     let it = record_at at.0 at.2 below (file self.part files) c.args.at image at.3.at_is in
     omega (arith, it.enough))
 
@@ -28,17 +28,17 @@ pub append_from-requires : goal.append_from-requires
 append_from-requires g c =
     let D = g.D.Disk in
     let self = c.args.self.now in
-    where_told (D.seen c.read_at.new.self) _ (λ files now_told.
-    let told : D.seen self.disk ≡ Some files = sym c.read_at.ensures.seen ∙ now_told in
-    let at = known files (D.seen self.disk) _ told c.requires in
+    where_told (D.state c.read_at.new.self).seen _ (λ files now_told.
+    let told : (D.state self.disk).seen ≡ Some files = sym c.read_at.ensures.reads.seen ∙ now_told in
+    let at = known files (D.state self.disk).seen _ told c.requires in
     let below = not_last at.0 at.2 c.args.at self.gate at.3.within at.3.at_is at.1.gate_is c.if-at-self.false in
     let image =
-    image_told (D.seen self.disk) (D.left_at self.disk (D.moment self.disk)) self.part self.gate at.0 files told at.1 in
+    image_told (D.state self.disk).seen ((D.state self.disk).left_at (D.state self.disk).moment) self.part self.gate at.0 files told at.1 in
     let it = record_at at.0 at.2 below (file self.part files) c.args.at image at.3.at_is in
     let count : c.length_in-length.result ≡ length (get_or at.0 at.2 []) =
     c.length_in-length.ensures.value
     ∙ read_length (file self.part files) c.args.at (get_or at.0 at.2 []) it c.read_at.new.buf
-    (known files (D.seen self.disk) _ told c.in_ok-read_at.ensures.value) in
+    (known files (D.state self.disk).seen _ told c.in_ok-read_at.ensures.value) in
     omega (arith, it.enough, count, c.saturating_add-from.ensures))
 
 pub returns-clause-given : goal.returns-clause-given
@@ -48,14 +48,14 @@ returns-clause-given g c = λ payloads n kept gate.
     let files = kept.files in
     let told = kept.told in
     let below = not_last payloads n c.args.at self.gate gate.within gate.at_is kept.gate_is c.if-at-self.false in
-    let image = image_told (D.seen self.disk)
-    (D.left_at self.disk (D.moment self.disk)) self.part self.gate payloads files told kept in
+    let image = image_told (D.state self.disk).seen
+    ((D.state self.disk).left_at (D.state self.disk).moment) self.part self.gate payloads files told kept in
     let payload = get_or payloads n [] in
     let it = record_at payloads n below (file self.part files) c.args.at image gate.at_is in
     let count : c.length_in-length.result ≡ length payload =
     c.length_in-length.ensures.value
     ∙ read_length (file self.part files) c.args.at payload it c.read_at.new.buf
-    (known files (D.seen self.disk) _ told c.in_ok-read_at.ensures.value) in
+    (known files (D.state self.disk).seen _ told c.in_ok-read_at.ensures.value) in
     let within : c.args.at + (5 + length payload) ≤ self.gate =
     omega (arith, next_within payloads n below, gate.at_is, kept.gate_is) in
     let from : c.saturating_add-from.result ≡ c.args.at + 5 = omega (arith, c.saturating_add-from.ensures, within) in
@@ -63,7 +63,7 @@ returns-clause-given g c = λ payloads n kept gate.
     omega (arith, c.saturating_add.ensures, from, count, within, next_gate_of payloads n below, gate.at_is) in (
       payload,
       slice_get-get_or payloads n [] below,
-      known files (D.seen c.read_at.new.self) _ (c.read_at.ensures.seen ∙ told) c.in_ok-append_from.ensures.appended
+      known files (D.state c.read_at.new.self).seen _ (c.read_at.ensures.reads.seen ∙ told) c.in_ok-append_from.ensures.appended
           ∙ ap (λ (l : List ℕ). c.args.out.now.items ++ l)
           (read_payload (file self.part files) c.args.at payload
           it c.saturating_add-from.result c.length_in-length.result from count),

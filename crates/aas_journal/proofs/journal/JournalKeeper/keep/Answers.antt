@@ -14,7 +14,7 @@ invariant_of-self g c =
     let self = c.args.self.now in
     record {
       within =
-          within_write (D.seen self.disk) (D.seen c.write_durably.new.disk) self.part self.gate
+          within_write (D.state self.disk).seen (D.state c.write_durably.new.disk).seen self.part self.gate
           (self.gate + 1) c.bytes-bytes.result.now c.write_durably.result self.within c.write_durably.ensures.written;
     }
 
@@ -22,11 +22,11 @@ pub invariant_of-self-in-Break-branch-2 : goal.invariant_of-self-in-Break-branch
 invariant_of-self-in-Break-branch-2 g c =
     let D = g.D.Disk in
     let self = c.args.self.now in
-    let first = within_write (D.seen self.disk) (D.seen c.write_durably.new.disk) self.part self.gate
+    let first = within_write (D.state self.disk).seen (D.state c.write_durably.new.disk).seen self.part self.gate
     (self.gate + 1) c.bytes-bytes.result.now c.write_durably.result self.within c.write_durably.ensures.written in
     record {
       within =
-          within_write (D.seen c.write_durably.new.disk) (D.seen c.write_durably-2.new.disk) self.part
+          within_write (D.state c.write_durably.new.disk).seen (D.state c.write_durably-2.new.disk).seen self.part
           self.gate self.gate (1 ∷ []) c.write_durably-2.result first c.write_durably-2.ensures.written;
     }
 
@@ -35,12 +35,12 @@ invariant_of-self-2 g c =
     let D = g.D.Disk in
     let self = c.args.self.now in
     let frame = c.bytes-bytes.result.now in
-    let first = within_further Failed (D.seen self.disk)
-    (D.seen c.write_durably.new.disk) self.part self.gate frame self.within c.in_ok-write_durably.ensures.written in
+    let first = within_further Failed (D.state self.disk).seen
+    (D.state c.write_durably.new.disk).seen self.part self.gate frame self.within c.in_ok-write_durably.ensures.written in
     record {
       within =
-          within_write (D.seen c.write_durably.new.disk)
-          (D.seen c.write_durably-2.new.disk) self.part (self.gate + length frame) self.gate
+          within_write (D.state c.write_durably.new.disk).seen
+          (D.state c.write_durably-2.new.disk).seen self.part (self.gate + length frame) self.gate
           (1 ∷ []) c.write_durably-2.result first c.write_durably-2.ensures.written;
     }
 
@@ -48,22 +48,22 @@ pub returns-clause-kept : goal.returns-clause-kept
 returns-clause-kept g c = λ payloads kept.
     let D = g.D.Disk in
     let self = c.args.self.now in
-    let t = told kept.files (D.seen self.disk)
-    (D.seen c.write_durably.new.disk) _ kept.told c.in_ok-write_durably.ensures.written in
-    let u = told t.0 (D.seen c.write_durably.new.disk)
-    (D.seen c.write_durably-2.new.disk) _ t.1 c.in_ok-write_durably-2.ensures.written in
+    let t = told kept.files (D.state self.disk).seen
+    (D.state c.write_durably.new.disk).seen _ kept.told c.in_ok-write_durably.ensures.written in
+    let u = told t.0 (D.state c.write_durably.new.disk).seen
+    (D.state c.write_durably-2.new.disk).seen _ t.1 c.in_ok-write_durably-2.ensures.written in
     let small = limit_law self.gate (length c.args.frame.now) c.requires in
-    keeps (D.seen self.disk) self.part self.gate payloads (D.moment self.disk)
-    (D.left_at self.disk) kept c.args.frame.now small c.bytes-bytes.result.now c.bytes-bytes.ensures
-    (D.seen c.write_durably-2.new.disk) (D.left_at c.write_durably-2.new.disk (D.moment c.write_durably-2.new.disk)) u.0
+    keeps (D.state self.disk).seen self.part self.gate payloads (D.state self.disk).moment
+    (D.state self.disk).left_at kept c.args.frame.now small c.bytes-bytes.result.now c.bytes-bytes.ensures
+    (D.state c.write_durably-2.new.disk).seen ((D.state c.write_durably-2.new.disk).left_at (D.state c.write_durably-2.new.disk).moment) u.0
     (file self.part t.0) u.1
     (same_part self.part kept.files.selector t.0 u.0 kept.part_is u.2.0
     (same_part self.part kept.files.selector kept.files t.0 kept.part_is t.2.0 refl))
-    (same_selectors (D.seen self.disk) self.part self.gate payloads (D.moment self.disk)
-    (D.left_at self.disk) kept c.args.frame.now small c.bytes-bytes.result.now c.bytes-bytes.ensures
-    (self.gate + 1) (length c.bytes-bytes.result.now) self.gate 1 (D.moment c.write_durably.new.disk)
-    (D.moment c.write_durably-2.new.disk) (D.left_at c.write_durably.new.disk) (D.left_at c.write_durably-2.new.disk)
-    c.write_durably.ensures.past.later c.write_durably-2.ensures.past.later
+    (same_selectors (D.state self.disk).seen self.part self.gate payloads (D.state self.disk).moment
+    (D.state self.disk).left_at kept c.args.frame.now small c.bytes-bytes.result.now c.bytes-bytes.ensures
+    (self.gate + 1) (length c.bytes-bytes.result.now) self.gate 1 (D.state c.write_durably.new.disk).moment
+    (D.state c.write_durably-2.new.disk).moment (D.state c.write_durably.new.disk).left_at (D.state c.write_durably-2.new.disk).left_at
+    c.write_durably.ensures.call.past.later c.write_durably-2.ensures.call.past.later
     c.write_durably.ensures.images c.write_durably-2.ensures.images)
     t.2.2 u.2.2
 
@@ -72,67 +72,67 @@ returns-in_err-write_durably-clause-in_turn g c = λ payloads settled.
     let D = g.D.Disk in
     let self = c.args.self.now in
     at_err _ c.from_residual.result c.from_residual.ensures.0
-    (failed_first (D.seen self.disk) self.part self.gate payloads (D.moment self.disk)
-    (D.left_at self.disk) settled.told c.args.frame.now (limit_law self.gate (length c.args.frame.now) c.requires)
-    c.bytes-bytes.result.now c.bytes-bytes.ensures settled.alone (D.moment c.write_durably.new.disk)
-    (D.left_at c.write_durably.new.disk) c.write_durably.ensures.past c.write_durably.ensures.images)
+    (failed_first (D.state self.disk).seen self.part self.gate payloads (D.state self.disk).moment
+    (D.state self.disk).left_at settled.told c.args.frame.now (limit_law self.gate (length c.args.frame.now) c.requires)
+    c.bytes-bytes.result.now c.bytes-bytes.ensures settled.alone (D.state c.write_durably.new.disk).moment
+    (D.state c.write_durably.new.disk).left_at c.write_durably.ensures.call.past c.write_durably.ensures.images)
 
 pub returns-in_err-write_durably-2-clause-in_turn : goal.returns-in_err-write_durably-2-clause-in_turn
 returns-in_err-write_durably-2-clause-in_turn g c = λ payloads settled.
     let D = g.D.Disk in
     let self = c.args.self.now in
     let kept = settled.told in
-    let t = told kept.files (D.seen self.disk)
-    (D.seen c.write_durably.new.disk) _ kept.told c.in_ok-write_durably.ensures.written in
+    let t = told kept.files (D.state self.disk).seen
+    (D.state c.write_durably.new.disk).seen _ kept.told c.in_ok-write_durably.ensures.written in
     at_err _ c.from_residual-in_err-write_durably-2.result c.from_residual-in_err-write_durably-2.ensures.0
-    (failed_second (D.seen self.disk) self.part self.gate payloads (D.moment self.disk)
-    (D.left_at self.disk) kept c.args.frame.now (limit_law self.gate (length c.args.frame.now) c.requires)
-    c.bytes-bytes.result.now c.bytes-bytes.ensures settled.alone (D.moment c.write_durably.new.disk)
-    (D.left_at c.write_durably.new.disk) c.write_durably.ensures.past c.write_durably.ensures.images
-    (file self.part t.0) t.2.2 (known t.0 (D.seen c.write_durably.new.disk) _ t.1 c.in_ok-write_durably.ensures.durable)
-    (D.moment c.write_durably-2.new.disk) (D.left_at c.write_durably-2.new.disk)
-    c.write_durably-2.ensures.past c.write_durably-2.ensures.images)
+    (failed_second (D.state self.disk).seen self.part self.gate payloads (D.state self.disk).moment
+    (D.state self.disk).left_at kept c.args.frame.now (limit_law self.gate (length c.args.frame.now) c.requires)
+    c.bytes-bytes.result.now c.bytes-bytes.ensures settled.alone (D.state c.write_durably.new.disk).moment
+    (D.state c.write_durably.new.disk).left_at c.write_durably.ensures.call.past c.write_durably.ensures.images
+    (file self.part t.0) t.2.2 (known t.0 (D.state c.write_durably.new.disk).seen _ t.1 c.in_ok-write_durably.ensures.durable)
+    (D.state c.write_durably-2.new.disk).moment (D.state c.write_durably-2.new.disk).left_at
+    c.write_durably-2.ensures.call.past c.write_durably-2.ensures.images)
 
 pub returns-clause-in_turn : goal.returns-clause-in_turn
 returns-clause-in_turn g c = λ payloads settled.
     let D = g.D.Disk in
     let self = c.args.self.now in
     let kept = settled.told in
-    let t = told kept.files (D.seen self.disk)
-    (D.seen c.write_durably.new.disk) _ kept.told c.in_ok-write_durably.ensures.written in
-    let u = told t.0 (D.seen c.write_durably.new.disk)
-    (D.seen c.write_durably-2.new.disk) _ t.1 c.in_ok-write_durably-2.ensures.written in
-    kept_in_turn (D.seen self.disk) self.part self.gate payloads (D.moment self.disk)
-    (D.left_at self.disk) kept c.args.frame.now (limit_law self.gate (length c.args.frame.now) c.requires)
-    c.bytes-bytes.result.now c.bytes-bytes.ensures settled.alone (D.moment c.write_durably.new.disk)
-    (D.left_at c.write_durably.new.disk) c.write_durably.ensures.past c.write_durably.ensures.images
-    (file self.part t.0) t.2.2 (known t.0 (D.seen c.write_durably.new.disk) _ t.1 c.in_ok-write_durably.ensures.durable)
-    (D.moment c.write_durably-2.new.disk) (D.left_at c.write_durably-2.new.disk)
-    c.write_durably-2.ensures.past c.write_durably-2.ensures.images
+    let t = told kept.files (D.state self.disk).seen
+    (D.state c.write_durably.new.disk).seen _ kept.told c.in_ok-write_durably.ensures.written in
+    let u = told t.0 (D.state c.write_durably.new.disk).seen
+    (D.state c.write_durably-2.new.disk).seen _ t.1 c.in_ok-write_durably-2.ensures.written in
+    kept_in_turn (D.state self.disk).seen self.part self.gate payloads (D.state self.disk).moment
+    (D.state self.disk).left_at kept c.args.frame.now (limit_law self.gate (length c.args.frame.now) c.requires)
+    c.bytes-bytes.result.now c.bytes-bytes.ensures settled.alone (D.state c.write_durably.new.disk).moment
+    (D.state c.write_durably.new.disk).left_at c.write_durably.ensures.call.past c.write_durably.ensures.images
+    (file self.part t.0) t.2.2 (known t.0 (D.state c.write_durably.new.disk).seen _ t.1 c.in_ok-write_durably.ensures.durable)
+    (D.state c.write_durably-2.new.disk).moment (D.state c.write_durably-2.new.disk).left_at
+    c.write_durably-2.ensures.call.past c.write_durably-2.ensures.images
     (file self.part u.0) u.2.2
-    (known u.0 (D.seen c.write_durably-2.new.disk) _ u.1 c.in_ok-write_durably-2.ensures.durable)
+    (known u.0 (D.state c.write_durably-2.new.disk).seen _ u.1 c.in_ok-write_durably-2.ensures.durable)
 
 pub returns-in_err-write_durably-2-clause-bytes : goal.returns-in_err-write_durably-2-clause-bytes
 returns-in_err-write_durably-2-clause-bytes g c = λ payloads kept.
     let D = g.D.Disk in
     let self = c.args.self.now in
     let failed = c.from_residual-in_err-write_durably-2 in
-    let t = told kept.files (D.seen self.disk)
-    (D.seen c.write_durably.new.disk) _ kept.told c.in_ok-write_durably.ensures.written in
-    writes_both (D.seen self.disk) (D.left_at self.disk (D.moment self.disk)) self.part
+    let t = told kept.files (D.state self.disk).seen
+    (D.state c.write_durably.new.disk).seen _ kept.told c.in_ok-write_durably.ensures.written in
+    writes_both (D.state self.disk).seen ((D.state self.disk).left_at (D.state self.disk).moment) self.part
     self.gate payloads kept c.args.frame.now c.bytes-bytes.result.now c.bytes-bytes.ensures
-    Failed (D.seen c.write_durably.new.disk) (D.seen c.write_durably-2.new.disk) failed.result
+    Failed (D.state c.write_durably.new.disk).seen (D.state c.write_durably-2.new.disk).seen failed.result
     (self.within kept.files kept.told) c.in_ok-write_durably.ensures.written
-    (fails_so self.part self.gate (1 ∷ []) t.0 (D.seen c.write_durably.new.disk) (D.seen c.write_durably-2.new.disk)
+    (fails_so self.part self.gate (1 ∷ []) t.0 (D.state c.write_durably.new.disk).seen (D.state c.write_durably-2.new.disk).seen
     c.write_durably-2.result failed.result t.1 failed.ensures.0 c.write_durably-2.ensures.written)
 
 pub returns-clause-bytes : goal.returns-clause-bytes
 returns-clause-bytes g c = λ payloads kept.
     let D = g.D.Disk in
     let self = c.args.self.now in
-    writes_both (D.seen self.disk) (D.left_at self.disk (D.moment self.disk)) self.part
+    writes_both (D.state self.disk).seen ((D.state self.disk).left_at (D.state self.disk).moment) self.part
     self.gate payloads kept c.args.frame.now c.bytes-bytes.result.now c.bytes-bytes.ensures
-    {E = Failed} Failed (D.seen c.write_durably.new.disk) (D.seen c.write_durably-2.new.disk) (Ok tt)
+    {E = Failed} Failed (D.state c.write_durably.new.disk).seen (D.state c.write_durably-2.new.disk).seen (Ok tt)
     (self.within kept.files kept.told) c.in_ok-write_durably.ensures.written c.in_ok-write_durably-2.ensures.written
 
 pub returns-in_err-write_durably-clause-images : goal.returns-in_err-write_durably-clause-images
@@ -140,9 +140,9 @@ returns-in_err-write_durably-clause-images g c = λ payloads kept.
     let D = g.D.Disk in
     let self = c.args.self.now in
     let new = c.write_durably.new.disk in
-    tears_first (D.seen self.disk) self.part self.gate payloads (D.moment self.disk)
-    (D.left_at self.disk) kept c.args.frame.now c.bytes-bytes.result.now c.bytes-bytes.ensures
-    (D.moment new) (D.left_at new) c.write_durably.ensures.images
+    tears_first (D.state self.disk).seen self.part self.gate payloads (D.state self.disk).moment
+    (D.state self.disk).left_at kept c.args.frame.now c.bytes-bytes.result.now c.bytes-bytes.ensures
+    (D.state new).moment (D.state new).left_at c.write_durably.ensures.images
 
 pub returns-in_err-write_durably-2-clause-images : goal.returns-in_err-write_durably-2-clause-images
 returns-in_err-write_durably-2-clause-images g c = λ payloads kept.
@@ -150,10 +150,10 @@ returns-in_err-write_durably-2-clause-images g c = λ payloads kept.
     let self = c.args.self.now in
     let mid = c.write_durably.new.disk in
     let new = c.write_durably-2.new.disk in
-    tears_both (D.seen self.disk) self.part self.gate payloads (D.moment self.disk)
-    (D.left_at self.disk) kept c.args.frame.now c.bytes-bytes.result.now c.bytes-bytes.ensures
-    (D.moment mid) (D.left_at mid) c.write_durably.ensures.images c.write_durably.ensures.past.later
-    (D.moment new) (D.left_at new) c.write_durably-2.ensures.past c.write_durably-2.ensures.images
+    tears_both (D.state self.disk).seen self.part self.gate payloads (D.state self.disk).moment
+    (D.state self.disk).left_at kept c.args.frame.now c.bytes-bytes.result.now c.bytes-bytes.ensures
+    (D.state mid).moment (D.state mid).left_at c.write_durably.ensures.images c.write_durably.ensures.call.past.later
+    (D.state new).moment (D.state new).left_at c.write_durably-2.ensures.call.past c.write_durably-2.ensures.images
 
 pub returns-clause-images : goal.returns-clause-images
 returns-clause-images g c = λ payloads kept.
@@ -161,7 +161,7 @@ returns-clause-images g c = λ payloads kept.
     let self = c.args.self.now in
     let mid = c.write_durably.new.disk in
     let new = c.write_durably-2.new.disk in
-    tears_both (D.seen self.disk) self.part self.gate payloads (D.moment self.disk)
-    (D.left_at self.disk) kept c.args.frame.now c.bytes-bytes.result.now c.bytes-bytes.ensures
-    (D.moment mid) (D.left_at mid) c.write_durably.ensures.images c.write_durably.ensures.past.later
-    (D.moment new) (D.left_at new) c.write_durably-2.ensures.past c.write_durably-2.ensures.images
+    tears_both (D.state self.disk).seen self.part self.gate payloads (D.state self.disk).moment
+    (D.state self.disk).left_at kept c.args.frame.now c.bytes-bytes.result.now c.bytes-bytes.ensures
+    (D.state mid).moment (D.state mid).left_at c.write_durably.ensures.images c.write_durably.ensures.call.past.later
+    (D.state new).moment (D.state new).left_at c.write_durably-2.ensures.call.past c.write_durably-2.ensures.images

@@ -4,10 +4,10 @@ use Rattle.aas_session.proofs.intake.Intake.receive_until.Given as goal
 
 abbrev pub invariant-pieces : goal.invariant-pieces
 invariant-pieces g l = let L = g.L.Link in record {
-  received : Receives l.fn.self.unread l.self.unread (L.left l.fn.link) (L.left l.link);
-  sent : L.sent l.link ≡ L.sent l.fn.link;
-  surroundings : L.surroundings l.link ≡ L.surroundings l.fn.link;
-  later : L.faults l.fn.link ≤ L.faults l.link;
+  received : Receives l.fn.self.unread l.self.unread (L.state l.fn.link).left (L.state l.link).left;
+  sent : (L.state l.link).sent ≡ (L.state l.fn.link).sent;
+  surroundings : (L.state l.link).surroundings ≡ (L.state l.fn.link).surroundings;
+  later : (L.state l.fn.link).faults ≤ (L.state l.link).faults;
 }
 
 abbrev pub decreases-pieces : goal.decreases-pieces

@@ -2,7 +2,7 @@ use Rattle.std.proofs.Common.{subst}
 use Rattle.aas_api.specs.declared.ask.Metadata.TheVariants as metadata
 use Rattle.aas_api_service.specs.WellFormed.{IsWellFormedMetadata}
 use Rattle.aas_api_service.proofs.WellDescribed.{if_described}
-use Rattle.aas_api_service.proofs.describing.described.Goals as goal
+use Rattle.aas_api_service.proofs.describing.metadata_command.Goals as goal
 
 pub returns-in-Submodel-clause-well_formed : goal.returns-in-Submodel-clause-well_formed
 returns-in-Submodel-clause-well_formed g c =
