@@ -3,6 +3,8 @@ use Rattle.std.proofs.Common.{◌≡◌, ◌⊎◌, ⊎_elim, ◌≤◌, ℕ, Li
 use Rattle.std.proofs.Common.{sym, ◌∙◌, inl, inr, arith}
 use Rattle.std.specs.Prelude.{IfSome, MatchResult}
 use Rattle.std.proofs.lemmas.Bool.{cases_lt}
+use Rattle.aas_outside.specs.Link.{LinkState}
+use Rattle.aas_outside_disk.specs.Disk.{DiskState, OnlyReads}
 use Rattle.aas_journal.specs.Bank.{IsBankImage}
 use Rattle.aas_journal.specs.Checkpoint.{checkpointed}
 use Rattle.aas_journal.specs.Laws.{HaveOneList}
@@ -17,7 +19,6 @@ use Rattle.aas_store.specs.Documents.{Documents}
 use Rattle.aas_server.specs.Answer.{Answer, Says, disk_failed, done, journal_full}
 use Rattle.aas_server.specs.Checkpointing.{Checkpoints, IsCheckpointAnswer, IsCheckpointed, IsOneRecord, OpensMeanwhile}
 use Rattle.aas_server.specs.Checkpointing.{StaysOpen, checkpoint_size, whole_payload}
-use Rattle.aas_server.specs.Ends.{ConsoleState, DiskState, IsUnwritten}
 use Rattle.aas_server.specs.Making.{IsSaidThen, IsUnmadeBy, size_line}
 use Rattle.aas_server.specs.Opening.{OpensTo}
 use Rattle.aas_server.specs.declared.checkpointing.Unmade.{Unmade}
@@ -55,18 +56,18 @@ module _ {V J : Type 0} (items : V → List ℕ) (view : J → DiskState) (start
   abbrev ComesTo : Result V Unmade → Type 0
   ComesTo made = (payloads : List (List ℕ)) → kept payloads → MatchResult made
       (λ line. (items line ≡ size_line (checkpoint_size d)) × IsOneRecord (whole_payload d) mid last)
-      (IsUnmadeBy (λ j. (view j).faults) d old new)
+      (IsUnmadeBy view d old new)
 
   abbrev Stays : Type 0
   Stays = (payloads : List (List ℕ))
       → Replays payloads d → IsSettledState IsBankImage opened payloads → OpensMeanwhile d mid.moment last
 
   module _ (one_list : HaveOneList) (one_replay : OneReplay) (is_opened : IfSome start.seen (IsOpened opened))
-      (reads : IsUnwritten start mid) (later : start.faults ≤ mid.faults)
+      (reads : OnlyReads start mid) (later : start.faults ≤ mid.faults)
       (passed : Passes mid.moment mid.left_at last.moment last.left_at) (stays : Stays)
-      (status : ℕ) (console_old console_new : ConsoleState) (unread : console_new.left ≡ console_old.left) where
-    unwritten : new ≡ old → IsUnwritten start last
-    unwritten unchanged = subst (λ (j : J). IsUnwritten start (view j)) (sym unchanged) reads
+      (status : ℕ) (console_old console_new : LinkState) (unread : console_new.left ≡ console_old.left) where
+    unwritten : new ≡ old → OnlyReads start last
+    unwritten unchanged = subst (λ (j : J). OnlyReads start (view j)) (sym unchanged) reads
 
     one_record : IsOneRecord (whole_payload d) mid last → IsOneRecord (whole_payload d) start last
     one_record is = record {

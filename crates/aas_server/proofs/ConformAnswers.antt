@@ -7,12 +7,11 @@ use Rattle.std.specs.Io.KnownBytes.{append_known}
 use Rattle.aas_command.specs.declared.refusal.Refusal.{Refusal}
 use Rattle.aas_command.specs.declared.refusal.Refusal.TheVariants.{NoMemory}
 use Rattle.aas_outside.specs.Faults.{Rose}
-use Rattle.aas_outside.specs.Link.{GivesFront}
+use Rattle.aas_outside.specs.Link.{GivesFront, LinkState}
 use Rattle.aas_page.specs.Segment.{IsIdentifierCode}
 use Rattle.aas_store.specs.Documents.{Documents}
 use Rattle.aas_server.specs.Answer.{Answer, Says, done, refused}
 use Rattle.aas_server.specs.Conforming.{IsConformAnswer, StandsForNone, compared_answer, not_a_template, submodel_at}
-use Rattle.aas_server.specs.Ends.{ConsoleState}
 use Rattle.aas_server.proofs.Given.{says_weaker}
 
 -- ---- words that stand for none
@@ -35,7 +34,7 @@ module _ (template instance : List ℕ) (d : Documents) (t i : List ℕ)
 -- ---- what is said
 
 -- of a refusal that is an answer, unless it is want of memory
-pub says_refusal : (P : Answer → Type 0) (r : Refusal) (status : ℕ) (old new : ConsoleState)
+pub says_refusal : (P : Answer → Type 0) (r : Refusal) (status : ℕ) (old new : LinkState)
     → (r ≢ NoMemory → P (refused r))
     → (status ≡ 7 → (r ≢ NoMemory) × (new.sent ≡ append_known old.sent (refused r).text))
     → (status ≡ 3 → (r ≢ NoMemory) × GivesFront old.sent new.sent (refused r).text)
@@ -53,7 +52,7 @@ says_refusal P r status old new answers given front fault silent statuses = reco
 
 -- of a line that is an answer
 pub says_conform : (template instance : List ℕ) (d e : Documents)
-    (text items : List ℕ) (status : ℕ) (old new : ConsoleState)
+    (text items : List ℕ) (status : ℕ) (old new : LinkState)
     → d ≡ e → text ≡ items
     → IsConformAnswer template instance d (done items) → Says (λ said. said ≡ done text) status old new
     → Says (IsConformAnswer template instance e) status old new
@@ -64,7 +63,7 @@ says_conform template instance d e text items status old new same same_text answ
     subst (λ (x : Documents). IsConformAnswer template instance x (done items)) same answers in
     subst P (sym (is ∙ ap done same_text)) here)
 
-pub says_no_template : (template instance : List ℕ) (d e : Documents) (status : ℕ) (old new : ConsoleState)
+pub says_no_template : (template instance : List ℕ) (d e : Documents) (status : ℕ) (old new : LinkState)
     → d ≡ e → IsConformAnswer template instance d not_a_template
     → Says (λ said. said ≡ not_a_template) status old new → Says (IsConformAnswer template instance e) status old new
 says_no_template template instance d e status old new same answers =

@@ -6,6 +6,7 @@ use Rattle.std.specs.Option.{option_map_or, option_or}
 use Rattle.std.specs.Str.{IsUtf8}
 use Rattle.std.proofs.Math.Nat.{le_refl}
 use Rattle.std.proofs.lemmas.Bool.Decides.{nat_tests}
+use Rattle.aas_outside.specs.Link.{LinkState}
 use Rattle.serde_json.specs.Data.{Data}
 use Rattle.aas_command.specs.Refusals.{refusal_of_fault}
 use Rattle.aas_command.specs.declared.refusal.Refusal.TheVariants.{TooMany}
@@ -34,7 +35,6 @@ use Rattle.aas_repo.specs.Faulty.{first_faulty_in, in_list}
 use Rattle.aas_step.specs.Causes.{first_of, has_too_many, when}
 use Rattle.aas_server.specs.Answer.{Answer, GivesAnswer, Says}
 use Rattle.aas_server.specs.CommandLine.{IsCount, most_properties}
-use Rattle.aas_server.specs.Ends.{ConsoleState}
 use Rattle.aas_server.specs.Importing.{IsFaultAnswer, demo_input}
 
 -- ---- it spells what it is the text of
@@ -104,7 +104,7 @@ demo_taken valid so_many count few spelled fault.NoMemory is = tt
 
 -- ---- so its status isn't that of a refusal
 
-module _ (status : ℕ) (old new : ConsoleState) (seven : status ≡ 7) where
+module _ (status : ℕ) (old new : LinkState) (seven : status ≡ 7) where
   given_other : (why : ImportFault) → IsNoRefusal why → GivesAnswer (IsFaultAnswer why) status old.sent new.sent → ⊥
   given_other (fault.Read why) other gives = other
   given_other (fault.Twice p) other gives = other
@@ -116,7 +116,7 @@ module _ (status : ℕ) (old new : ConsoleState) (seven : status ≡ 7) where
       let four : 7 ≡ 4 = sym seven ∙ gives.2 ∙ ap (λ (a : Answer). a.status) gives.1 in cc
   given_other fault.NoMemory other gives = gives.1
 
-pub no_refusal_given : (status : ℕ) (old new : ConsoleState) (why : ImportFault)
+pub no_refusal_given : (status : ℕ) (old new : LinkState) (why : ImportFault)
     → IsNoRefusal why → Says (IsFaultAnswer why) status old new → status ≡ 7 → ⊥
 no_refusal_given status old new why other says seven =
     given_other status old new seven why other

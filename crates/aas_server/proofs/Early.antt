@@ -1,6 +1,8 @@
 -- Why no repository is begun, and what is said then.
 use Rattle.std.proofs.Common.{◌≡◌, ℕ, List, inl, inr, refl}
 use Rattle.std.specs.Prelude.{IfSome}
+use Rattle.aas_outside.specs.Link.{LinkState}
+use Rattle.aas_outside_disk.specs.Disk.{DiskState, OnlyReads}
 use Rattle.aas_journal.specs.Bank.{IsBankImage}
 use Rattle.aas_journal.specs.declared.fault.OpenFault.{OpenFault}
 use Rattle.aas_journal.specs.declared.fault.OpenFault.TheVariants as fault
@@ -11,7 +13,6 @@ use Rattle.aas_store.specs.Documents.{Documents}
 use Rattle.aas_server.specs.Answer.{Answer, Says}
 use Rattle.aas_server.specs.Causes.{IsAnswerTo, IsCause, IsCauseIn}
 use Rattle.aas_server.specs.Early.{EndsEarly, IsNotBegun}
-use Rattle.aas_server.specs.Ends.{ConsoleState, DiskState, IsUnwritten}
 use Rattle.aas_server.proofs.Given.{says_weaker}
 
 pub replay_cause : (payloads : List (List ℕ)) (f : OpenFault) (d : Documents)
@@ -35,11 +36,11 @@ not_begun (fault.Damaged at) old new answer cause failed is = inr (inr (at, is, 
 not_begun fault.Failed old new answer cause failed is = inl (is, failed refl)
 not_begun fault.NoMemory old new answer cause failed is = absurd is
 
-pub early : (f : OpenFault) (status : ℕ) (old new : ConsoleState) (disk_old disk_new : DiskState)
+pub early : (f : OpenFault) (status : ℕ) (old new : LinkState) (disk_old disk_new : DiskState)
     → IfSome disk_old.seen (λ files. IsCause files f)
     → (f ≡ fault.Failed → Rose disk_old.faults disk_new.faults)
     → Says (IsAnswerTo f) status old new → new.left ≡ old.left → (status ≡ 10 → new ≡ old)
-    → IsUnwritten disk_old disk_new → EndsEarly status old new disk_old disk_new
+    → OnlyReads disk_old disk_new → EndsEarly status old new disk_old disk_new
 early f status old new disk_old disk_new cause failed says unread silent unwritten = record {
   says =
       says_weaker (IsAnswerTo f) (IsNotBegun disk_old disk_new) status old new

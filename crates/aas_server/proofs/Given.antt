@@ -6,9 +6,8 @@ use Rattle.std.specs.Io.KnownBytes.{append_known}
 use Rattle.aas_command.specs.declared.refusal.Refusal.{Refusal}
 use Rattle.aas_command.specs.declared.refusal.Refusal.TheVariants as refusal
 use Rattle.aas_outside.specs.Faults.{Rose}
-use Rattle.aas_outside.specs.Link.{GivesFront}
+use Rattle.aas_outside.specs.Link.{GivesFront, LinkState}
 use Rattle.aas_server.specs.Answer.{Answer, GivesFrontOf, Says, damage, refused}
-use Rattle.aas_server.specs.Ends.{ConsoleState}
 use Rattle.aas_server.specs.Telling.{statuses_with}
 
 -- after a call that gave nothing, of a text that is another's
@@ -25,7 +24,7 @@ front_weaker : (P Q : Answer → Type 0) (old new : Option (List ℕ))
 front_weaker P Q old new then (inl nothing) = inl nothing
 front_weaker P Q old new then (inr (answer, is, front)) = inr (answer, then answer is, front)
 
-pub says_weaker : (P Q : Answer → Type 0) (status : ℕ) (old new : ConsoleState)
+pub says_weaker : (P Q : Answer → Type 0) (status : ℕ) (old new : LinkState)
     → ((answer : Answer) → P answer → Q answer)
     → Says P status old new → Says Q status old new
 says_weaker P Q status old new then says = record {
@@ -39,7 +38,7 @@ three_or_ten : (n : ℕ) → n ≡ 3 → n ≡ 10 → ⊥
 three_or_ten n three ten = cc
 
 -- nothing is said for want of memory
-pub says_nothing : (P : Answer → Type 0) (old : ConsoleState) → Says P 10 old old
+pub says_nothing : (P : Answer → Type 0) (old : LinkState) → Says P 10 old old
 says_nothing P old = record {
   given = λ not3 not10. absurd (not10 refl);
   front = λ is. absurd (three_or_ten 10 is refl);
@@ -48,7 +47,7 @@ says_nothing P old = record {
 }
 
 -- a line that takes no memory
-pub says_line : (answer : Answer) (status : ℕ) (old new : ConsoleState) → answer.status ≢ 10
+pub says_line : (answer : Answer) (status : ℕ) (old new : LinkState) → answer.status ≢ 10
     → (status ≢ 3 → (status ≡ answer.status) × (new.sent ≡ append_known old.sent answer.text))
     → (status ≡ 3 → GivesFront old.sent new.sent answer.text)
     → (status ≡ 3 → Rose old.faults new.faults) → (status ≡ 3) ⊎ (status ≡ answer.status)
@@ -60,7 +59,7 @@ says_line answer status old new never given front fault statuses = record {
   memory = λ ten. absurd (⊎_elim (λ three. three_or_ten status three ten) (λ is. never (sym is ∙ ten)) statuses);
 }
 
-pub says_damage : (at status : ℕ) (old new : ConsoleState)
+pub says_damage : (at status : ℕ) (old new : LinkState)
     → (status ≡ 6 → new.sent ≡ append_known old.sent (damage at).text)
     → (status ≡ 3 → GivesFront old.sent new.sent (damage at).text)
     → (status ≡ 3 → Rose old.faults new.faults) → (status ≡ 10 → new.sent ≡ old.sent)
@@ -75,7 +74,7 @@ says_damage at status old new given front fault silent statuses = record {
   memory = silent;
 }
 
-pub says_refused : (r : Refusal) (status : ℕ) (old new : ConsoleState)
+pub says_refused : (r : Refusal) (status : ℕ) (old new : LinkState)
     → (status ≡ 7 → (r ≢ refusal.NoMemory) × (new.sent ≡ append_known old.sent (refused r).text))
     → (status ≡ 3 → (r ≢ refusal.NoMemory) × GivesFront old.sent new.sent (refused r).text)
     → (status ≡ 3 → Rose old.faults new.faults)

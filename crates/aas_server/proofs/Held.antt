@@ -2,6 +2,7 @@
 use Rattle.std.proofs.Common.{◌≡◌, ℕ, List, Option, subst}
 use Rattle.std.specs.Prelude.{IfSome}
 use Rattle.std.proofs.lemmas.Option.{IfSome_then}
+use Rattle.aas_outside_disk.specs.Disk.{DiskState}
 use Rattle.aas_journal.specs.Bank.{IsBankImage}
 use Rattle.aas_journal.specs.Laws.{HaveOneList}
 use Rattle.aas_outside_disk.specs.Files.{Files}
@@ -9,7 +10,6 @@ use Rattle.aas_repo_replay.specs.Laws.{OneReplay}
 use Rattle.aas_rule.specs.Rule.{Repository}
 use Rattle.aas_rule.specs.State.{State, IsSettledState, repository_of}
 use Rattle.aas_store.specs.Documents.{Documents}
-use Rattle.aas_server.specs.Ends.{DiskState}
 use Rattle.aas_server.specs.Opening.{HasBegun, Opens, OpensAs, begun}
 use Rattle.aas_server.proofs.OneWay.{same_repository}
 

@@ -1,19 +1,21 @@
 -- What serving the repository that was opened on a disk comes to.
 use Rattle.std.proofs.Common.{◌≡◌, ◌≤◌, ◌+◌, ℕ, List, [], ◌∷◌, Some, sym, subst, ◌∙◌, arith, lit<}
 use Rattle.std.specs.Prelude.{◌≢◌, Contains, IfSome}
+use Rattle.aas_outside.specs.Wire.{connections}
+use Rattle.aas_outside.specs.Link.{LinkState}
 use Rattle.aas_journal.specs.Bank.{IsBankImage}
 use Rattle.aas_journal.specs.Kept.{has_room_behind}
 use Rattle.aas_journal.specs.Laws.{HaveOneList}
 use Rattle.aas_outside.specs.Faults.{Rose}
 use Rattle.aas_outside.specs.Moments.{Passes}
 use Rattle.aas_outside.specs.Surroundings.{Connections, sent_on_all}
-use Rattle.aas_outside_disk.specs.Disk.{AddsNone, Meanwhile}
+use Rattle.aas_outside_disk.specs.Disk.{AddsNone, DiskState, Meanwhile}
 use Rattle.aas_outside_disk.specs.Files.{Files}
 use Rattle.aas_repo_replay.specs.Laws.{AcceptedReplay, OneReplay}
 use Rattle.aas_rule.specs.Rule.{Repository}
-use Rattle.aas_rule.specs.State.{State, IsSettledState, repository_of}
-use Rattle.aas_session.specs.Visits.{ServesAll}
-use Rattle.aas_session.specs.Served.{Served}
+use Rattle.aas_rule.specs.State.{repository_of, State, WhereSettled}
+use Rattle.aas_session.specs.Visits.{ServesAll, ServesWire}
+use Rattle.aas_session.specs.Served.{Served, ServesLink}
 use Rattle.aas_session.specs.declared.connection.Ended.{Ended}
 use Rattle.aas_session.specs.declared.connection.Ended.TheVariants as ended
 use Rattle.aas_session.specs.declared.wire.WireEnded.{WireEnded}
@@ -21,7 +23,6 @@ use Rattle.aas_session.specs.declared.wire.WireEnded.TheVariants as wire
 use Rattle.aas_step.specs.Valid.{AreValid}
 use Rattle.aas_store.specs.Documents.{Documents}
 use Rattle.aas_api_service.specs.Turns.{Turns}
-use Rattle.aas_server.specs.Ends.{ConsoleState, DiskState, WireState}
 use Rattle.aas_server.specs.OnDisk.{StandsFor, state_on}
 use Rattle.aas_server.specs.Opening.{OpensAs}
 use Rattle.aas_server.specs.Pipe.{IsConsoleServed, IsPiped, pipe_status}
@@ -46,24 +47,23 @@ module _ (one_list : HaveOneList) (one_replay : OneReplay) (accepted_replay : Ac
 
   -- ---- what is served, told from the opening on
 
-  abbrev Session : Repository Documents → List ℕ → Ended → ConsoleState → ConsoleState → Type 0
+  abbrev Session : Repository Documents → List ℕ → Ended → LinkState → LinkState → Type 0
   Session r input end old new =
       Served (Turns has_room_behind) IsBankImage r input opened.moment now old.sent new.sent
       (Rose old.faults new.faults) end
 
-  abbrev ServesConsole : Ended → ConsoleState → ConsoleState → Type 0
-  ServesConsole end old new = (input : List ℕ) (records : List (List ℕ)) → old.left ≡ Some input
-      → IsSettledState IsBankImage opened records → Session (repository_of opened records) input end old new
+  abbrev ServesConsole : Ended → LinkState → LinkState → Type 0
+  ServesConsole end old new = WhereSettled IsBankImage opened (λ r.
+      ServesLink (Turns has_room_behind) IsBankImage r opened.moment now old new end)
 
-  abbrev Sessions : Repository Documents → Connections → List ℕ → ℕ → WireEnded → WireState → WireState → Type 0
+  abbrev Sessions : Repository Documents → Connections → List ℕ → ℕ → WireEnded → LinkState → LinkState → Type 0
   Sessions r c sent count end old new =
       ServesAll (Turns has_room_behind) IsBankImage r c (sent_on_all c sent) count opened.moment now
-      new.connections new.sent old.faults new.faults end
+      (connections new) new.sent old.faults new.faults end
 
-  abbrev ServesWire : ℕ → WireEnded → WireState → WireState → Type 0
-  ServesWire count end old new = (c : Connections) (sent : List ℕ) (records : List (List ℕ)) → old.connections ≡ Some c
-      → old.sent ≡ Some sent → IsSettledState IsBankImage opened records
-      → Sessions (repository_of opened records) c sent count end old new
+  abbrev ServesVisits : ℕ → WireEnded → LinkState → LinkState → Type 0
+  ServesVisits count end old new = WhereSettled IsBankImage opened (λ r.
+      ServesWire (Turns has_room_behind) IsBankImage r count opened.moment now old new end)
 
   -- ---- from the start on
 
@@ -77,7 +77,7 @@ module _ (one_list : HaveOneList) (one_replay : OneReplay) (accepted_replay : Ac
     read : AreRead r
     read = opens.2.1
 
-    piped : (end : Ended) (old new : ConsoleState)
+    piped : (end : Ended) (old new : LinkState)
         → ServesConsole end old new → (input : List ℕ) → old.left ≡ Some input
         → IsPiped end input r old new start last
     piped end old new serves input left = record {
@@ -86,25 +86,25 @@ module _ (one_list : HaveOneList) (one_replay : OneReplay) (accepted_replay : Ac
           d last.moment last.left_at kept (state_on last d).kept (kept_opens last d kept told)
           start.moment opened.moment r read reads.later (stood_before start last opened r read images passed)
           input old.sent new.sent (Rose old.faults new.faults) end
-          (subst (λ (x : Repository Documents). Session x input end old new) as_told (serves input held.0 left held.2));
+          (subst (λ (x : Repository Documents). Session x input end old new) as_told (serves held.0 held.2 input left));
       valid = valid;
     }
 
-    served : (count : ℕ) (end : WireEnded) (old new : WireState)
-        → ServesWire count end old new → (c : Connections) (sent : List ℕ)
-        → old.connections ≡ Some c → old.sent ≡ Some sent → ServesClients count end c sent r old new start last
+    served : (count : ℕ) (end : WireEnded) (old new : LinkState)
+        → ServesVisits count end old new → (c : Connections) (sent : List ℕ)
+        → connections old ≡ Some c → old.sent ≡ Some sent → ServesClients count end c sent r old new start last
     served count end old new serves c sent known known_sent = record {
       documents = d;
       served = all_since accepted_replay has_room_behind IsBankImage (StandsFor start r) (image_stands start r)
           d last.moment last.left_at kept (state_on last d).kept (kept_opens last d kept told)
           start.moment opened.moment r read reads.later (stood_before start last opened r read images passed)
-          c (sent_on_all c sent) count new.connections new.sent old.faults new.faults end
+          c (sent_on_all c sent) count (connections new) new.sent old.faults new.faults end
           (subst (λ (x : Repository Documents). Sessions x c sent count end old new) as_told
-          (serves c sent held.0 known known_sent held.2));
+          (serves held.0 held.2 c sent known known_sent));
       valid = valid;
     }
 
-  pub console_served : (status : ℕ) (end : Ended) (old new : ConsoleState)
+  pub console_served : (status : ℕ) (end : Ended) (old new : LinkState)
       → status ≡ pipe_status end → ServesConsole end old new
       → (end ≡ ended.LinkFault → Rose old.faults new.faults) → (end ≡ ended.KeeperFault → Rose start.faults last.faults)
       → (end ≢ ended.KeeperFault → last.faults ≡ start.faults) → IsConsoleServed status old new start last
@@ -119,25 +119,25 @@ module _ (one_list : HaveOneList) (one_replay : OneReplay) (accepted_replay : Ac
   }
 
   -- the wire served is as it was before it listened
-  pub wire_served : (count status : ℕ) (end : WireEnded) (old mid new : WireState) → mid.connections ≡ old.connections
-      → mid.sent ≡ old.sent → mid.clients ≡ old.clients → mid.faults ≡ old.faults
-      → old.wire_faults ≤ mid.wire_faults → status ≡ serve_status end
-      → ServesWire count end mid new → new.clients ≤ mid.clients + count
-      → (end ≡ wire.WireFault → Rose mid.wire_faults new.wire_faults)
+  pub wire_served : (count status : ℕ) (end : WireEnded) (old mid new : LinkState) → connections mid ≡ connections old
+      → mid.sent ≡ old.sent → mid.surroundings.clients ≡ old.surroundings.clients → mid.faults ≡ old.faults
+      → old.surroundings.faults ≤ mid.surroundings.faults → status ≡ serve_status end
+      → ServesVisits count end mid new → new.surroundings.clients ≤ mid.surroundings.clients + count
+      → (end ≡ wire.WireFault → Rose mid.surroundings.faults new.surroundings.faults)
       → (end ≡ wire.KeeperFault → Rose start.faults last.faults)
       → (end ≢ wire.KeeperFault → last.faults ≡ start.faults) → IsWireServed count status old new start last
-  wire_served count status end old mid new connections sent clients faults
+  wire_served count status end old mid new around sent clients faults
       later is serves few wire_fault keeper_fault no_keeper_fault = record {
         ended = end;
         status_is = is;
         has_begun = has_begun start opened is_opened;
         served = λ c bytes r known known_sent opens.
-            let s = served r opens count end mid new serves c bytes (connections ∙ known) (sent ∙ known_sent) in
+            let s = served r opens count end mid new serves c bytes (around ∙ known) (sent ∙ known_sent) in
             record {
               documents = s.documents;
               served = subst (λ (n : ℕ).
                   ServesAll (Turns has_room_behind) (StandsFor start r) r c (sent_on_all c bytes) count
-                  start.moment (state_on last s.documents) new.connections new.sent n new.faults end) faults s.served;
+                  start.moment (state_on last s.documents) (connections new) new.sent n new.faults end) faults s.served;
               valid = s.valid;
             };
         few = omega (arith, few, clients);

@@ -3,6 +3,7 @@ use Rattle.std.proofs.Common.{◌≡◌, ◌≢◌, ◌⊎◌, ◌≤◌, ℕ, L
 use Rattle.std.proofs.Common.{◌∙◌, inl, inr, arith}
 use Rattle.std.specs.Prelude.{IfSome, length}
 use Rattle.std.proofs.lemmas.Option.{IfSome_then}
+use Rattle.aas_outside.specs.Link.{LinkState}
 use Rattle.aas_command.specs.Commands.{IsWellFormed, payload_of}
 use Rattle.aas_command.specs.declared.command.Command.TheVariants.{Import}
 use Rattle.aas_command.specs.Encoding.{HasFields}
@@ -16,7 +17,7 @@ use Rattle.aas_journal.specs.Laws.{HaveOneList}
 use Rattle.aas_json_spelling.specs.Reading.{reading}
 use Rattle.aas_model.specs.declared.documents.Environment.{Environment}
 use Rattle.aas_outside.specs.Moments.{Passes}
-use Rattle.aas_outside_disk.specs.Disk.{AddsNone, Meanwhile}
+use Rattle.aas_outside_disk.specs.Disk.{AddsNone, DiskState, Meanwhile, OnlyReads}
 use Rattle.aas_outside_disk.specs.Files.{Files}
 use Rattle.aas_repo.specs.declared.repo.Counts.{Counts}
 use Rattle.aas_repo_replay.specs.Laws.{AcceptedReplay, OneReplay}
@@ -26,7 +27,7 @@ use Rattle.aas_rule.specs.State.{State, Holds, IsSettledState, repository_of}
 use Rattle.aas_step.specs.Step.{Steps, accepted}
 use Rattle.aas_store.specs.Documents.{Documents}
 use Rattle.aas_server.specs.Answer.{Answer, GivesAnswer, GivesFrontOf, Says, done}
-use Rattle.aas_server.specs.Ends.{ConsoleState, DiskState, IsCaused, IsUnwritten}
+use Rattle.aas_server.specs.Ends.{IsCaused}
 use Rattle.aas_server.specs.Importing.{ImportsDemo, ImportsInput, IsFaultAnswer, IsPutIn, IsRefusal, IsTooLong, PutsIn}
 use Rattle.aas_server.specs.Importing.{counts_text, demo_input, demo_text, import_limit}
 use Rattle.aas_server.specs.OnDisk.{StandsFor, state_on}
@@ -59,7 +60,7 @@ refused_holds room stands r bytes from now fault.NoMemory is other = is
 
 module _ {I : Type 0} (text : Counts → List ℕ)
     (stands : I → List (List ℕ) → Type 0) (r : Repository Documents) (input : List ℕ)
-    (from : ℕ) (now : State Documents I) (status : ℕ) (old new : ConsoleState) where
+    (from : ℕ) (now : State Documents I) (status : ℕ) (old new : LinkState) where
   abbrev Came : List ℕ → Result Counts ImportFault → Type 0
   Came bytes outcome = Imports has_room_behind stands r bytes from now outcome
 
@@ -96,7 +97,7 @@ all_within left items limit whole within =
     IfSome_then left whole (λ all is. subst (λ (l : List ℕ). length l ≤ limit) is within)
 
 -- after a call that gave nothing
-pub says_moved : (P : Answer → Type 0) (status : ℕ) (old mid new : ConsoleState)
+pub says_moved : (P : Answer → Type 0) (status : ℕ) (old mid new : LinkState)
     → mid.sent ≡ old.sent → old.faults ≤ mid.faults
     → Says P status mid new → Says P status old new
 says_moved P status old mid new nothing later says = record {
@@ -190,10 +191,10 @@ module _ (one_list : HaveOneList) (one_replay : OneReplay) (accepted_replay : Ac
   abbrev end : State Documents Files
   end = record { documents = d; kept = kept; moment = last.moment; left_at = last.left_at }
 
-  abbrev IsPut : (Counts → List ℕ) → List ℕ → ℕ → ConsoleState → ConsoleState → Repository Documents → Type 0
+  abbrev IsPut : (Counts → List ℕ) → List ℕ → ℕ → LinkState → LinkState → Repository Documents → Type 0
   IsPut text input status old new r = IsPutIn text IsBankImage r input opened.moment end status old new
 
-  module _ (text : Counts → List ℕ) (input : List ℕ) (status : ℕ) (old new : ConsoleState) where
+  module _ (text : Counts → List ℕ) (input : List ℕ) (status : ℕ) (old new : LinkState) where
     put_since : (r : Repository Documents)
         → AreRead r → IsPut text input status old new r → PutsIn text input r status old new start last
     put_since r read is = (
@@ -222,11 +223,11 @@ module _ (one_list : HaveOneList) (one_replay : OneReplay) (accepted_replay : Ac
         (subst (IsPut text input status old new) (same one_list one_replay start opened is_opened r opens)
         (put held.0 held.2))
 
-  pub input_imported : (unchanged : Type 0) (status : ℕ) (old new : ConsoleState)
+  pub input_imported : (unchanged : Type 0) (status : ℕ) (old new : LinkState)
       → (Says (IsTooLong old.left) status old new × unchanged) ⊎ (IfSome old.left (λ input. length input ≤ import_limit)
-      × ((input : List ℕ) (records : List (List ℕ)) → old.left ≡ Some input → IsSettledState IsBankImage opened records
+      × ((input : List ℕ) → old.left ≡ Some input → (records : List (List ℕ)) → IsSettledState IsBankImage opened records
       → IsPut counts_text input status old new (repository_of opened records)))
-      → (IsRefusal status → unchanged) → (unchanged → IsUnwritten start last) → IsCaused status old new start last
+      → (IsRefusal status → unchanged) → (unchanged → OnlyReads start last) → IsCaused status old new start last
       → ImportsInput status old new start last
   input_imported unchanged status old new (inl not_taken) refused unwritten causes = inr (inl (record {
     has_begun = has_begun start opened is_opened;
@@ -237,16 +238,16 @@ module _ (one_list : HaveOneList) (one_replay : OneReplay) (accepted_replay : Ac
     has_begun = has_begun start opened is_opened;
     within = taken.0;
     put_in = λ input r left opens.
-        puts_in counts_text input status old new (λ records settled. taken.1 input records left settled) r opens;
+        puts_in counts_text input status old new (λ records settled. taken.1 input left records settled) r opens;
     refused = λ is. unwritten (refused is);
     causes = causes;
   }))
 
-  pub demo_imported : (unchanged : Type 0) (count status : ℕ) (old new : ConsoleState)
+  pub demo_imported : (unchanged : Type 0) (count status : ℕ) (old new : LinkState)
       → ((status ≡ 10) × (new ≡ old) × unchanged)
       ⊎ ((records : List (List ℕ)) → IsSettledState IsBankImage opened records
       → IsPut (λ counts. demo_text count) (demo_input count) status old new (repository_of opened records))
-      → (IsRefusal status → unchanged) → (unchanged → IsUnwritten start last) → new.left ≡ old.left
+      → (IsRefusal status → unchanged) → (unchanged → OnlyReads start last) → new.left ≡ old.left
       → IsCaused status old new start last
       → ImportsDemo count status old new start last
   demo_imported unchanged count status old new (inl (ten, silent, same)) refused unwritten unread causes =

@@ -2,6 +2,7 @@
 use Rattle.std.proofs.Common.{◌⊎◌, ⊎_elim, inl, inr, ◌≤◌, ◌+◌, ℕ, List, [], ◌∷◌, ◌++◌, Option, sym, subst}
 use Rattle.std.proofs.Common.{append_assoc, arith}
 use Rattle.std.proofs.lemmas.Bool.{cases_lt}
+use Rattle.aas_outside.specs.Wire.{connections}
 use Rattle.aas_outside.specs.Faults.{Rose}
 use Rattle.aas_outside.specs.Moments.{During, InTurn}
 use Rattle.aas_outside.specs.Surroundings.{Connections, Visit}

@@ -2,13 +2,12 @@
 use Rattle.std.proofs.Common.{◌≡◌, ◌≤◌, ℕ, List, Some, inl, inr, refl}
 use Rattle.aas_journal.specs.Bank.{IsBankImage}
 use Rattle.aas_outside.specs.Moments.{Passes}
-use Rattle.aas_outside_disk.specs.Disk.{AddsNone, Meanwhile}
+use Rattle.aas_outside_disk.specs.Disk.{AddsNone, DiskState, MayLeave, Meanwhile}
 use Rattle.aas_outside_disk.specs.Files.{Files}
 use Rattle.aas_repo_replay.specs.Replay.{Replays}
 use Rattle.aas_rule.specs.Rule.{Repository}
 use Rattle.aas_rule.specs.State.{State}
 use Rattle.aas_store.specs.Documents.{Documents}
-use Rattle.aas_server.specs.Ends.{DiskState, MayLeave}
 use Rattle.aas_server.specs.OnDisk.{StandsFor, state_on}
 use Rattle.aas_server.proofs.Replayed.{AreRead, Replay}
 

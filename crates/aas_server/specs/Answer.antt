@@ -5,8 +5,7 @@ use Rattle.std.specs.Io.KnownBytes.{append_known}
 use Rattle.aas_command.specs.Refusals.{code_of, text_of}
 use Rattle.aas_command.specs.declared.refusal.Refusal.{Refusal}
 use Rattle.aas_outside.specs.Faults.{Rose}
-use Rattle.aas_outside.specs.Link.{GivesFront}
-use Rattle.aas_server.specs.Ends.{ConsoleState}
+use Rattle.aas_outside.specs.Link.{GivesFront, LinkState}
 
 -- the status of the run, and all that the console gets
 pub record Answer : Type 0 where
@@ -67,7 +66,7 @@ GivesFrontOf P old new = (new ≡ old) ⊎ ((answer : Answer) × P answer × Giv
 
 -- The console gets the text of an answer with P, whose status is the run's, or a front of it where the console fails,
 -- or nothing for want of memory.
-pub record Says (P : Answer → Type 0) (status : ℕ) (old new : ConsoleState) : Type 0 where
+pub record Says (P : Answer → Type 0) (status : ℕ) (old new : LinkState) : Type 0 where
   pub given : status ≢ 3 → status ≢ 10 → GivesAnswer P status old.sent new.sent
   pub front : status ≡ 3 → GivesFrontOf P old.sent new.sent
   pub fault : status ≡ 3 → Rose old.faults new.faults

@@ -2,6 +2,8 @@
 -- is put in the place of those in the journal. This profile's own rule.
 use Rattle.std.specs.Prelude.{◌≡◌, ◌≢◌, ◌⊎◌, ℕ, ◌+◌, ◌<◌, ◌≤◌, List, [], ◌∷◌, ◌++◌, codes, decimal, length}
 use Rattle.std.specs.Prelude.{Some, IfSome}
+use Rattle.aas_outside.specs.Link.{LinkState}
+use Rattle.aas_outside_disk.specs.Disk.{DiskState, MayLeave, OnlyReads}
 use Rattle.aas_command.specs.Commands.{payload_of}
 use Rattle.aas_command.specs.declared.command.Command.TheVariants.{Import}
 use Rattle.aas_environment.specs.Environments.{environment_of}
@@ -14,7 +16,7 @@ use Rattle.aas_rule.specs.Rule.{Repository}
 use Rattle.aas_store.specs.Documents.{Documents}
 use Rattle.aas_server.specs.Answer.{Answer, Says, disk_failed, done, journal_full, line}
 use Rattle.aas_server.specs.Early.{EndsEarly}
-use Rattle.aas_server.specs.Ends.{ConsoleState, DiskState, IsCaused, IsUnwritten, MayLeave}
+use Rattle.aas_server.specs.Ends.{IsCaused}
 use Rattle.aas_server.specs.Opening.{HasBegun, OpensAnyway, OpensAs, OpensTo}
 
 -- that of the import of all documents
@@ -35,7 +37,7 @@ abbrev pub IsCheckpointAnswer : Documents → DiskState → DiskState → Answer
 IsCheckpointAnswer d old new answer =
     ((answer ≡ done (line (codes "checkpoint " ++ decimal (checkpoint_size d))))
     × IsOneRecord (whole_payload d) old new)
-    ⊎ ((answer ≡ journal_full) × (most_bytes < checkpoint_size d) × IsUnwritten old new)
+    ⊎ ((answer ≡ journal_full) × (most_bytes < checkpoint_size d) × OnlyReads old new)
     ⊎ ((answer ≡ disk_failed) × Rose old.faults new.faults)
 
 -- whatever a stop at a moment from this one to now leaves opens as these documents
@@ -50,7 +52,7 @@ StaysOpen d old new = OpensAnyway old d → OpensMeanwhile d old.moment new
 
 -- The documents are those from before, in one record. Memory is asked for before the disk is written, so no want of it
 -- is told here.
-pub record IsCheckpointed (status : ℕ) (old new : ConsoleState) (disk_old disk_new : DiskState) : Type 0 where
+pub record IsCheckpointed (status : ℕ) (old new : LinkState) (disk_old disk_new : DiskState) : Type 0 where
   pub has_begun : HasBegun disk_old
   pub says : (r : Repository Documents)
       → OpensAs disk_old r → (answer : Answer) × IsCheckpointAnswer r.documents disk_old disk_new answer
@@ -61,13 +63,13 @@ pub record IsCheckpointed (status : ℕ) (old new : ConsoleState) (disk_old disk
   pub causes : IsCaused status old new disk_old disk_new
 
 -- there was no memory for it
-pub record IsForgone (status : ℕ) (old new : ConsoleState) (disk_old disk_new : DiskState) : Type 0 where
+pub record IsForgone (status : ℕ) (old new : LinkState) (disk_old disk_new : DiskState) : Type 0 where
   pub status_is : status ≡ 10
   pub silent : new ≡ old
-  pub unwritten : IsUnwritten disk_old disk_new
+  pub unwritten : OnlyReads disk_old disk_new
 
 -- no repository was begun, or there was no memory, or a checkpoint was made
-abbrev pub Checkpoints : ℕ → ConsoleState → ConsoleState → DiskState → DiskState → Type 0
+abbrev pub Checkpoints : ℕ → LinkState → LinkState → DiskState → DiskState → Type 0
 Checkpoints status old new disk_old disk_new =
     EndsEarly status old new disk_old disk_new
     ⊎ IsForgone status old new disk_old disk_new

@@ -1,7 +1,10 @@
 -- The words of the command line: which commands there are, what a run of each does,
 -- and how it may end. This profile's own rule.
 use Rattle.std.specs.Prelude.{◌≡◌, ◌≤◌, ℕ, List, [], ◌∷◌, ◌==◌, Bool, false, codes, decimal, Option, Some, None, IfSome}
+use Rattle.std.specs.Prelude.{Contains}
 use Rattle.std.specs.List.{list_any}
+use Rattle.aas_outside.specs.Link.{LinkState}
+use Rattle.aas_outside_disk.specs.Disk.{DiskState, IsLater}
 use Rattle.aas_server.specs.declared.command_line.CommandLine.{CommandLine}
 use Rattle.aas_server.specs.declared.command_line.CommandLine.TheVariants.{Value, Init, Pipe, Serve, Check, Export}
 use Rattle.aas_server.specs.declared.command_line.CommandLine.TheVariants.{Import, Demo, Checkpoint, Conform}
@@ -10,7 +13,6 @@ use Rattle.aas_server.specs.Answer.{Says, done, exported, not_a_command}
 use Rattle.aas_server.specs.CheckText.{check_text}
 use Rattle.aas_server.specs.Checkpointing.{Checkpoints}
 use Rattle.aas_server.specs.Conforming.{IsConformAnswer}
-use Rattle.aas_server.specs.Ends.{ConsoleState, DiskState, WireState}
 use Rattle.aas_server.specs.Importing.{ImportsDemo, ImportsInput}
 use Rattle.aas_server.specs.Init.{Inits}
 use Rattle.aas_server.specs.Pipe.{Pipes}
@@ -48,7 +50,7 @@ AreWordsOf (Serve count) words =
 -- What a run of each command, or of no command, does: its status, and the console, the wire and the disk before and
 -- after it, of which the disk is seen so.
 abbrev pub Does : {D : Type 0}
-    → (D → DiskState) → Option CommandLine → ℕ → ConsoleState → ConsoleState → WireState → WireState → D → D → Type 0
+    → (D → DiskState) → Option CommandLine → ℕ → LinkState → LinkState → LinkState → LinkState → D → D → Type 0
 Does view None status old new wire_old wire_new disk_old disk_new =
     Says (λ answer. answer ≡ not_a_command) status old new × (wire_new ≡ wire_old) × (disk_new ≡ disk_old)
 Does view (Some Value) status old new wire_old wire_new disk_old disk_new =
@@ -108,3 +110,11 @@ IsAsked words None = (command : CommandLine) → ¬ Asks words command
 -- P of the command that the words ask for
 abbrev pub ForAsked : List (List ℕ) → (Option CommandLine → Type 0) → Type 0
 ForAsked words P = (asked : Option CommandLine) × IsAsked words asked × P asked
+
+-- What a run with these words does on a console, a wire and a disk, of which the disk is seen so. The disk's time goes
+-- on, what a stop may have left before stays, and its count of faults never falls.
+pub record IsRun {D : Type 0} (view : D → DiskState) (words : List (List ℕ)) (status : ℕ)
+    (old new wire_old wire_new : LinkState) (disk_old disk_new : D) : Type 0 where
+  pub does : ForAsked words (λ asked. Does view asked status old new wire_old wire_new disk_old disk_new)
+  pub statuses : ForAsked words (λ asked. Contains (statuses_of asked) status)
+  pub later : IsLater (view disk_old) (view disk_new)

@@ -1,5 +1,6 @@
 -- What a checkpoint prepares, what comes of it, and what is said then.
 use Rattle.std.specs.Prelude.{◌≡◌, ℕ, ◌<◌, List, [], ◌∷◌, ◌++◌, codes, decimal, Result, Ok, Err}
+use Rattle.aas_outside_disk.specs.Disk.{DiskState}
 use Rattle.aas_command.specs.Encoding.{IsFaultOf}
 use Rattle.aas_command.specs.declared.encoding.EncodeFault.{EncodeFault}
 use Rattle.aas_command.specs.declared.encoding.EncodeFault.TheVariants as encode_fault
@@ -38,11 +39,11 @@ abbrev pub unmade_in : CheckpointFault → Unmade
 unmade_in checkpoint_fault.Full = Full
 unmade_in checkpoint_fault.Failed = Failed
 
--- what is true of a journal before and after, which counts its faults so, where this is why no checkpoint was made
-abbrev pub IsUnmadeBy : {J : Type 0} → (J → ℕ) → Documents → J → J → Unmade → Type 0
-IsUnmadeBy faults d old new Full = (most_bytes < checkpoint_size d) × (new ≡ old)
-IsUnmadeBy faults d old new Failed = Rose (faults old) (faults new)
-IsUnmadeBy faults d old new NoMemory = new ≡ old
+-- what is true of a journal before and after, whose disk is seen so, where this is why no checkpoint was made
+abbrev pub IsUnmadeBy : {J : Type 0} → (J → DiskState) → Documents → J → J → Unmade → Type 0
+IsUnmadeBy view d old new Full = (most_bytes < checkpoint_size d) × (new ≡ old)
+IsUnmadeBy view d old new Failed = Rose (view old).faults (view new).faults
+IsUnmadeBy view d old new NoMemory = new ≡ old
 
 -- it is the answer then; to want of memory there is none
 abbrev pub IsSaidThen : Unmade → Answer → Type 0

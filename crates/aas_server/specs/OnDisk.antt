@@ -1,12 +1,12 @@
 -- A repository on a disk, and what a stop leaves of it. This profile's own rule.
 use Rattle.std.specs.Prelude.{◌≡◌, ◌⊎◌, ℕ, List}
+use Rattle.aas_outside_disk.specs.Disk.{DiskState, MayLeave}
 use Rattle.aas_journal.specs.Bank.{IsBankImage}
 use Rattle.aas_outside_disk.specs.Files.{Files}
 use Rattle.aas_repo_replay.specs.Replay.{Replays}
 use Rattle.aas_rule.specs.Rule.{Repository}
 use Rattle.aas_rule.specs.State.{State}
 use Rattle.aas_store.specs.Documents.{Documents}
-use Rattle.aas_server.specs.Ends.{DiskState, MayLeave}
 use Rattle.aas_server.specs.Opening.{OpensAnyway, OpensAs, OpensTo}
 
 -- it keeps the payloads with which the files that reads give open as these documents

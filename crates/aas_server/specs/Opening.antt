@@ -1,13 +1,14 @@
 -- What the files of a disk open as: the journal in the chosen one is replayed. This profile's own rule.
 use Rattle.std.specs.Prelude.{◌≡◌, ◌⊎◌, ℕ, List, Some, IfSome}
+use Rattle.aas_outside_disk.specs.Disk.{DiskState, MayLeave}
 use Rattle.aas_journal.specs.Bank.{IsBankImage, chosen_file}
 use Rattle.aas_journal.specs.Causes.{IsDamaged, IsNotInitialised}
 use Rattle.aas_journal.specs.Image.{gate_of}
 use Rattle.aas_outside_disk.specs.Files.{Files}
 use Rattle.aas_repo_replay.specs.Replay.{Replays, StopsAt}
 use Rattle.aas_rule.specs.Rule.{Repository}
+use Rattle.aas_rule.specs.State.{IsSettledState, State, repository_of}
 use Rattle.aas_store.specs.Documents.{Documents}
-use Rattle.aas_server.specs.Ends.{DiskState, MayLeave}
 
 pub data Opened : Type 0 where
   -- no journal
@@ -48,3 +49,8 @@ OpensAs disk r = (files : Files) × (disk.seen ≡ Some files) × Opens files (b
 -- whatever a stop now leaves opens as some repository of these documents
 abbrev pub OpensAnyway : DiskState → Documents → Type 0
 OpensAnyway disk d = (image : Files) → MayLeave disk image → OpensTo d image
+
+-- the files that reads give of the disk, where it tells them, open as the repository of this state, which is settled
+abbrev pub HasOpened : DiskState → State Documents Files → Type 0
+HasOpened disk state = IfSome disk.seen (λ files. (payloads : List (List ℕ))
+    × Opens files (begun (repository_of state payloads)) × IsSettledState IsBankImage state payloads)

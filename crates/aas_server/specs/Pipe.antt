@@ -1,5 +1,7 @@
 -- What `pipe` does: it serves one connection, the console, from the repository on the disk. This profile's own rule.
 use Rattle.std.specs.Prelude.{◌≡◌, ◌≢◌, ◌⊎◌, ℕ, List, Some}
+use Rattle.aas_outside.specs.Link.{LinkState}
+use Rattle.aas_outside_disk.specs.Disk.{DiskState}
 use Rattle.aas_journal.specs.Kept.{has_room_behind}
 use Rattle.aas_outside.specs.Faults.{Rose}
 use Rattle.aas_rule.specs.Rule.{Repository}
@@ -10,7 +12,6 @@ use Rattle.aas_step.specs.Valid.{AreValid}
 use Rattle.aas_store.specs.Documents.{Documents}
 use Rattle.aas_api_service.specs.Turns.{Turns}
 use Rattle.aas_server.specs.Early.{EndsEarly}
-use Rattle.aas_server.specs.Ends.{ConsoleState, DiskState}
 use Rattle.aas_server.specs.OnDisk.{StandsFor, state_on}
 use Rattle.aas_server.specs.Opening.{HasBegun, OpensAs}
 
@@ -23,7 +24,7 @@ pipe_status NoMemory = 10
 
 -- Of the session on the input from this repository this was done, and the documents that it left are valid. From the
 -- start of the run on it is said for which payloads what a stop leaves stands, and as which documents it opens.
-pub record IsPiped (ended : Ended) (input : List ℕ) (r : Repository Documents) (old new : ConsoleState)
+pub record IsPiped (ended : Ended) (input : List ℕ) (r : Repository Documents) (old new : LinkState)
     (disk_old disk_new : DiskState) : Type 0 where
   pub documents : Documents
   pub served : Served (Turns has_room_behind)
@@ -32,7 +33,7 @@ pub record IsPiped (ended : Ended) (input : List ℕ) (r : Repository Documents)
   pub valid : AreValid documents
 
 -- the connection was served
-pub record IsConsoleServed (status : ℕ) (old new : ConsoleState) (disk_old disk_new : DiskState) : Type 0 where
+pub record IsConsoleServed (status : ℕ) (old new : LinkState) (disk_old disk_new : DiskState) : Type 0 where
   pub ended : Ended
   pub status_is : status ≡ pipe_status ended
   pub has_begun : HasBegun disk_old
@@ -43,6 +44,6 @@ pub record IsConsoleServed (status : ℕ) (old new : ConsoleState) (disk_old dis
   pub no_keeper_fault : ended ≢ KeeperFault → disk_new.faults ≡ disk_old.faults
 
 -- no repository was begun, or the connection was served
-abbrev pub Pipes : ℕ → ConsoleState → ConsoleState → DiskState → DiskState → Type 0
+abbrev pub Pipes : ℕ → LinkState → LinkState → DiskState → DiskState → Type 0
 Pipes status old new disk_old disk_new =
     EndsEarly status old new disk_old disk_new ⊎ IsConsoleServed status old new disk_old disk_new

@@ -1,9 +1,9 @@
 // The command that puts one record in the place of those in the journal.
-ghost use Rattle.std.specs.Prelude.{◌≡◌, ◌+◌, ◌<◌, ◌≤◌, ◌^◌, ℕ, List, Contains, Err, IfOk, MatchResult};
+ghost use Rattle.std.specs.Prelude.{◌≡◌, ◌+◌, ◌<◌, ◌^◌, ℕ, List, Contains, Err, IfOk, MatchResult};
+ghost use Rattle.aas_outside.specs.Keeper.{IsSettledKeeper};
+ghost use Rattle.aas_outside_disk.specs.Disk.{AreDiskCalls, IsLater};
 ghost use Rattle.aas_journal.specs.Bank.{IsBankImage};
-ghost use Rattle.aas_journal.specs.Shown.{disk_of as disk_in};
-ghost use Rattle.aas_outside.specs.Faults.{Rose};
-ghost use Rattle.aas_outside.specs.Moments.{IsSettled, Passes};
+ghost use Rattle.aas_journal.specs.Shown.{disk_of, journal_state};
 ghost use Rattle.aas_repo_replay.specs.Replay.{Replays};
 ghost use Rattle.aas_step.specs.Valid.{AreValid};
 ghost use Rattle.aas_store.specs.Documents.{Documents, empty};
@@ -11,19 +11,18 @@ ghost use Rattle.aas_server.specs.Answer.{Says, done};
 ghost use Rattle.aas_server.specs.Checkpointing.{Checkpoints, IsOneRecord, OpensMeanwhile};
 ghost use Rattle.aas_server.specs.Checkpointing.{checkpoint_size, whole_payload};
 ghost use Rattle.aas_server.specs.CommandLine.{statuses_of};
-ghost use Rattle.aas_server.specs.Ends.{console_of, disk_of};
 ghost use Rattle.aas_server.specs.Making.{IsPrepared, IsSaidThen, IsUnmadeBy, size_line};
 ghost use Rattle.aas_server.specs.Status.{exit_code};
 
 use crate::command_line::CommandLine;
 use crate::commands::Ran;
 use crate::console::end_with;
+use crate::not_begun::end_early;
 use crate::opening::open;
-use crate::serving::say_why;
 use crate::status::Status;
 use aas_command::EncodeFault;
 use aas_environment::{exports_come_back, import_frame};
-use aas_journal::{CheckpointFault, Journal, NotOpened, have_one_list};
+use aas_journal::{CheckpointFault, Journal, have_one_list};
 use aas_outside::{Frame, Keeper, Link};
 use aas_outside_disk::Disk;
 use aas_repo_replay::payloads_replay_to_one_state;
@@ -88,11 +87,9 @@ pub(crate) fn checkpoint<S: Store + Drop, C: Link, D: Disk>(
 ) -> Ran<D>
     requires empty { S.documents store ≡ empty }
     ensures does { Checkpoints result.status
-        (console_of C.left C.sent C.faults console.old) (console_of C.left C.sent C.faults console.new)
-        (disk_of D.seen D.moment D.left_at D.faults disk) (disk_of D.seen D.moment D.left_at D.faults result.disk) }
+        (C.state console.old) (C.state console.new) (D.state disk) (D.state result.disk) }
     ensures statuses { Contains (statuses_of (Some CommandLine.Checkpoint)) result.status }
-    ensures past { Passes (D.moment disk) (D.left_at disk) (D.moment result.disk) (D.left_at result.disk) }
-    ensures later { D.faults disk ≤ D.faults result.disk }
+    ensures later { IsLater (D.state disk) (D.state result.disk) }
 {
     have_one_list();
     payloads_replay_to_one_state();
@@ -106,10 +103,7 @@ pub(crate) fn checkpoint<S: Store + Drop, C: Link, D: Disk>(
                 disk: journal.into_disk(),
             }
         }
-        Err(NotOpened { fault, disk }) => Ran {
-            status: say_why(alloc, console, fault).exit_code(),
-            disk,
-        },
+        Err(it) => end_early(alloc, console, it),
     }
 }
 
@@ -141,22 +135,16 @@ fn make<D: Disk>(
     prepared: Result<Prepared, EncodeFault>,
 ) -> Result<Vec<u8>, Unmade>
     ensures made { (d : Documents) (payloads : List (List ℕ)) → IsPrepared d prepared →
-        ⟦<Journal<D> as Keeper>⟧.kept journal.old payloads →
+        (journal_state journal.old).kept payloads →
         MatchResult result (λ line. (line.items ≡ size_line (checkpoint_size d)) × IsOneRecord (whole_payload d)
-        (disk_of D.seen D.moment D.left_at D.faults (disk_in journal.old))
-        (disk_of D.seen D.moment D.left_at D.faults (disk_in journal.new)))
-        (IsUnmadeBy (λ it. D.faults (disk_in it)) d journal.old journal.new) }
+        (D.state (disk_of journal.old)) (D.state (disk_of journal.new)))
+        (IsUnmadeBy (λ it. D.state (disk_of it)) d journal.old journal.new) }
     ensures stays { (d : Documents) (payloads : List (List ℕ)) → IsPrepared d prepared → Replays payloads d →
-        IsSettled IsBankImage (⟦<Journal<D> as Keeper>⟧.kept journal.old)
-        (⟦<Journal<D> as Keeper>⟧.moment journal.old) (⟦<Journal<D> as Keeper>⟧.left_at journal.old) payloads →
-        OpensMeanwhile d (⟦<Journal<D> as Keeper>⟧.moment journal.old)
-        (disk_of D.seen D.moment D.left_at D.faults (disk_in journal.new)) }
+        IsSettledKeeper IsBankImage (journal_state journal.old) payloads →
+        OpensMeanwhile d (journal_state journal.old).moment (D.state (disk_of journal.new)) }
     ensures forgone { result ≡ Err Unmade.NoMemory → journal.new ≡ journal.old }
-    ensures failed { result ≡ Err Unmade.Failed →
-        Rose (D.faults (disk_in journal.old)) (D.faults (disk_in journal.new)) }
-    ensures later { D.faults (disk_in journal.old) ≤ D.faults (disk_in journal.new) }
-    ensures past { Passes (D.moment (disk_in journal.old)) (D.left_at (disk_in journal.old))
-        (D.moment (disk_in journal.new)) (D.left_at (disk_in journal.new)) }
+    ensures calls { AreDiskCalls (result ≡ Err Unmade.Failed)
+        (D.state (disk_of journal.old)) (D.state (disk_of journal.new)) }
 {
     let Prepared { record, line } = prepared?;
     journal.checkpoint(&record)?;
@@ -166,9 +154,8 @@ fn make<D: Disk>(
 /// Says what came of it. For want of memory nothing is said.
 fn say<C: Link>(console: &mut C, made: Result<Vec<u8>, Unmade>) -> Status
     ensures says { Says (λ answer. MatchResult made (λ line. answer ≡ done line.items) (λ why. IsSaidThen why answer))
-        (exit_code result)
-        (console_of C.left C.sent C.faults console.old) (console_of C.left C.sent C.faults console.new) }
-    ensures unread { C.left console.new ≡ C.left console.old }
+        (exit_code result) (C.state console.old) (C.state console.new) }
+    ensures unread { (C.state console.new).left ≡ (C.state console.old).left }
     ensures silent { made ≡ Err Unmade.NoMemory → (exit_code result ≡ 10) × (console.new ≡ console.old) }
     ensures forgone { exit_code result ≡ 10 → made ≡ Err Unmade.NoMemory }
     ensures failed { exit_code result ≡ 4 → made ≡ Err Unmade.Failed }
@@ -182,9 +169,8 @@ fn say<C: Link>(console: &mut C, made: Result<Vec<u8>, Unmade>) -> Status
 
 /// Says why no checkpoint was made.
 fn say_unmade<C: Link>(console: &mut C, unmade: Unmade) -> Status
-    ensures says { Says (IsSaidThen unmade) (exit_code result)
-        (console_of C.left C.sent C.faults console.old) (console_of C.left C.sent C.faults console.new) }
-    ensures unread { C.left console.new ≡ C.left console.old }
+    ensures says { Says (IsSaidThen unmade) (exit_code result) (C.state console.old) (C.state console.new) }
+    ensures unread { (C.state console.new).left ≡ (C.state console.old).left }
     ensures silent { unmade ≡ Unmade.NoMemory → (exit_code result ≡ 10) × (console.new ≡ console.old) }
     ensures forgone { exit_code result ≡ 10 → unmade ≡ Unmade.NoMemory }
     ensures failed { exit_code result ≡ 4 → unmade ≡ Unmade.Failed }

@@ -1,10 +1,9 @@
 // The commands of the program.
 ghost use Rattle.std.specs.Prelude.{◌≡◌, ◌≢◌, ◌<◌, ◌≤◌, length, IfSome, IfOk, IfErr, IsErrOf, Contains};
+ghost use Rattle.aas_outside_disk.specs.Disk.{IsLater};
 ghost use Rattle.aas_outside.specs.Faults.{Rose};
-ghost use Rattle.aas_outside.specs.Moments.{Passes};
 ghost use Rattle.aas_server.specs.Answer.{done, not_a_command, refused, Says};
-ghost use Rattle.aas_server.specs.CommandLine.{Does, ForAsked, statuses_of};
-ghost use Rattle.aas_server.specs.Ends.{console_of, disk_of, wire_of};
+ghost use Rattle.aas_server.specs.CommandLine.{IsRun, statuses_of};
 ghost use Rattle.aas_server.specs.Init.{Inits};
 ghost use Rattle.aas_server.specs.Status.{exit_code};
 ghost use Rattle.aas_server.specs.Stop.{IfRefused};
@@ -50,15 +49,8 @@ pub fn run<C: Link, W: Wire, D: Disk>(
     wire: &mut W,
     disk: D,
 ) -> Ran<D>
-    ensures does { ForAsked words.now (λ asked. Does (disk_of D.seen D.moment D.left_at D.faults) asked result.status
-        (console_of C.left C.sent C.faults console.old) (console_of C.left C.sent C.faults console.new)
-        (wire_of W.left W.sent W.faults W.surroundings wire.old)
-        (wire_of W.left W.sent W.faults W.surroundings wire.new)
-        disk result.disk) }
-    ensures statuses { ForAsked words.now (λ asked. Contains (statuses_of asked) result.status) }
-    // The disk's time goes on, what a stop may have left before stays, and its count of faults never falls.
-    ensures past { Passes (D.moment disk) (D.left_at disk) (D.moment result.disk) (D.left_at result.disk) }
-    ensures later { D.faults disk ≤ D.faults result.disk }
+    ensures { IsRun D.state words.now result.status (C.state console.old) (C.state console.new)
+        (W.state wire.old) (W.state wire.new) disk result.disk }
 {
     run_over(alloc, SheetStore::new(alloc), words, console, wire, disk)
 }
@@ -74,15 +66,8 @@ pub fn run_over<S: Store + Drop, C: Link, W: Wire, D: Disk>(
     mut disk: D,
 ) -> Ran<D>
     requires empty { S.documents store ≡ empty }
-    ensures does { ForAsked words.now (λ asked. Does (disk_of D.seen D.moment D.left_at D.faults) asked result.status
-        (console_of C.left C.sent C.faults console.old) (console_of C.left C.sent C.faults console.new)
-        (wire_of W.left W.sent W.faults W.surroundings wire.old)
-        (wire_of W.left W.sent W.faults W.surroundings wire.new)
-        disk result.disk) }
-    ensures statuses { ForAsked words.now (λ asked. Contains (statuses_of asked) result.status) }
-    // The disk's time goes on, what a stop may have left before stays, and its count of faults never falls.
-    ensures past { Passes (D.moment disk) (D.left_at disk) (D.moment result.disk) (D.left_at result.disk) }
-    ensures later { D.faults disk ≤ D.faults result.disk }
+    ensures { IsRun D.state words.now result.status (C.state console.old) (C.state console.new)
+        (W.state wire.old) (W.state wire.new) disk result.disk }
 {
     match command_of(words) {
         Some(CommandLine::Value) => Ran {
@@ -125,8 +110,8 @@ fn address(words: &Many<Text>) -> &str
 }
 
 fn no_command<C: Link>(console: &mut C) -> Status
-    ensures says { Says (λ answer. answer ≡ not_a_command) (exit_code result)
-        (console_of C.left C.sent C.faults console.old) (console_of C.left C.sent C.faults console.new) }
+    ensures says { Says (λ answer. answer ≡ not_a_command) (exit_code result) (C.state console.old)
+        (C.state console.new) }
     ensures statuses { Contains (statuses_of None) (exit_code result) }
 {
     end_with(console, b"aasd: not a command\n", Status::NotACommand)
@@ -135,11 +120,10 @@ fn no_command<C: Link>(console: &mut C) -> Status
 /// Makes a journal without payloads on the disk.
 fn init<C: Link, D: Disk>(console: &mut C, disk: &mut D) -> Status
     ensures does { Inits (exit_code result)
-        (console_of C.left C.sent C.faults console.old) (console_of C.left C.sent C.faults console.new)
-        (disk_of D.seen D.moment D.left_at D.faults disk.old) (disk_of D.seen D.moment D.left_at D.faults disk.new) }
+        (C.state console.old) (C.state console.new)
+        (D.state disk.old) (D.state disk.new) }
     ensures statuses { Contains (statuses_of (Some CommandLine.Init)) (exit_code result) }
-    ensures past { Passes (D.moment disk.old) (D.left_at disk.old) (D.moment disk.new) (D.left_at disk.new) }
-    ensures later { D.faults disk.old ≤ D.faults disk.new }
+    ensures later { IsLater (D.state disk.old) (D.state disk.new) }
 {
     match init_journal(disk) {
         Ok(()) => end_with(console, b"initialised\n", Status::Done),
@@ -153,8 +137,8 @@ fn init<C: Link, D: Disk>(console: &mut C, disk: &mut D) -> Status
 }
 
 fn value<C: Link>(alloc: Global, console: &mut C) -> Status
-    ensures says { Says (λ answer. IfSome (C.left console.old) (λ input. IsValueAnswer input answer)) (exit_code result)
-        (console_of C.left C.sent C.faults console.old) (console_of C.left C.sent C.faults console.new) }
+    ensures says { Says (λ answer. IfSome (C.state console.old).left (λ input. IsValueAnswer input answer))
+        (exit_code result) (C.state console.old) (C.state console.new) }
     ensures statuses { Contains (statuses_of (Some CommandLine.Value)) (exit_code result) }
 {
     match value_text(alloc, console) {
@@ -166,12 +150,13 @@ fn value<C: Link>(alloc: Global, console: &mut C) -> Status
 
 /// The text of the command `value` for all that the console has.
 fn value_text<C: Link>(alloc: Global, console: &mut C) -> Result<Vec<u8>, Stop>
-    ensures done { IfOk result (λ text. IfSome (C.left console.old) (λ input. IsValueAnswer input (done text.items))) }
+    ensures done { IfOk result
+        (λ text. IfSome (C.state console.old).left (λ input. IsValueAnswer input (done text.items))) }
     ensures refused { IfErr result (λ stop. IfRefused stop (λ refusal. refusal ≢ Refusal.NoMemory →
-        IfSome (C.left console.old) (λ input. IsValueAnswer input (refused refusal)))) }
-    ensures fault { IsErrOf result Stop.LinkFault → Rose (C.faults console.old) (C.faults console.new) }
-    ensures later { C.faults console.old ≤ C.faults console.new }
-    ensures sent { C.sent console.new ≡ C.sent console.old }
+        IfSome (C.state console.old).left (λ input. IsValueAnswer input (refused refusal)))) }
+    ensures fault { IsErrOf result Stop.LinkFault → Rose (C.state console.old).faults (C.state console.new).faults }
+    ensures later { (C.state console.old).faults ≤ (C.state console.new).faults }
+    ensures sent { (C.state console.new).sent ≡ (C.state console.old).sent }
 {
     let input = read_input(alloc, console, INPUT_LIMIT)?;
     Ok(answer_value(alloc, &input)?)

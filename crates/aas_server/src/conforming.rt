@@ -164,14 +164,14 @@ fn compared_text<S: Store>(
             return Err(Unfit::Refused(refusal));
         }
     };
-    let text = compared(alloc, &wanted, &given);
+    let text = comparison(alloc, &wanted, &given);
     drop(wanted);
     drop(given);
     text
 }
 
 /// In what a submodel differs from a template, as a line, or that it is compared with none.
-fn compared(alloc: Global, template: &Submodel, instance: &Submodel) -> Result<Vec<u8>, Unfit>
+fn comparison(alloc: Global, template: &Submodel, instance: &Submodel) -> Result<Vec<u8>, Unfit>
     requires { SiblingsDiffer template.now }
     ensures done { IfOk result (λ text. done text.items ≡ compared_answer (Some template.now) (Some instance.now)) }
     ensures unfit { IfErr result (λ unfit. unfit ≢ Unfit.Refused Refusal.NoMemory →

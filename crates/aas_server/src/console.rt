@@ -2,7 +2,7 @@
 ghost use Rattle.std.specs.Prelude.{◌≡◌, ◌≢◌, ◌<◌, ◌≤◌, ◌⊎◌, length, IfOk, IfErr, IfSome, OnOk, IsErrOf};
 ghost use Rattle.std.specs.Io.KnownBytes.{append_known, IsAtEnd};
 ghost use Rattle.aas_outside.specs.Faults.{Rose};
-ghost use Rattle.aas_outside.specs.Link.{GivesFront};
+ghost use Rattle.aas_outside.specs.Link.{AreGives, GivesFront};
 ghost use Rattle.aas_server.specs.Answer.{damage, refused};
 ghost use Rattle.aas_server.specs.Status.{exit_code};
 ghost use Rattle.aas_server.specs.Stop.{IfRefused};
@@ -17,14 +17,14 @@ use std::alloc::Global;
 
 /// Takes all that is left on the link, at most so many bytes, to the end of its input and in whatever pieces it comes.
 pub fn read_input<L: Link>(alloc: Global, link: &mut L, limit: usize) -> Result<Vec<u8>, Stop>
-    ensures whole { IfOk result (λ text. IfSome (L.left link.old) (λ input. text.items ≡ input)) }
+    ensures whole { IfOk result (λ text. IfSome (L.state link.old).left (λ input. text.items ≡ input)) }
     ensures within { IfOk result (λ text. length text.items ≤ limit) }
-    ensures ended { OnOk result (IsAtEnd (L.left link.new)) }
+    ensures ended { OnOk result (IsAtEnd (L.state link.new).left) }
     ensures refused { IfErr result (λ stop. IfRefused stop (λ refusal. refusal ≢ Refusal.NoMemory →
-        (refusal ≡ Refusal.TooLarge) × IfSome (L.left link.old) (λ input. limit < length input))) }
-    ensures fault { IsErrOf result Stop.LinkFault → Rose (L.faults link.old) (L.faults link.new) }
-    ensures later { L.faults link.old ≤ L.faults link.new }
-    ensures sent { L.sent link.new ≡ L.sent link.old }
+        (refusal ≡ Refusal.TooLarge) × IfSome (L.state link.old).left (λ input. limit < length input))) }
+    ensures fault { IsErrOf result Stop.LinkFault → Rose (L.state link.old).faults (L.state link.new).faults }
+    ensures later { (L.state link.old).faults ≤ (L.state link.new).faults }
+    ensures sent { (L.state link.new).sent ≡ (L.state link.old).sent }
 {
     let mut text = Vec::new(alloc);
     let mut buf = [0; 4096];
@@ -44,11 +44,9 @@ pub fn read_input<L: Link>(alloc: Global, link: &mut L, limit: usize) -> Result<
 pub fn end_with<L: Link>(link: &mut L, text: &[u8], status: Status) -> Status
     requires { exit_code status ≢ 3 }
     ensures given { exit_code result ≢ 3 → (exit_code result ≡ exit_code status)
-        × (L.sent link.new ≡ append_known (L.sent link.old) text.now) }
-    ensures front { exit_code result ≡ 3 → GivesFront (L.sent link.old) (L.sent link.new) text.now }
-    ensures fault { exit_code result ≡ 3 → Rose (L.faults link.old) (L.faults link.new) }
-    ensures later { L.faults link.old ≤ L.faults link.new }
-    ensures left { L.left link.new ≡ L.left link.old }
+        × ((L.state link.new).sent ≡ append_known (L.state link.old).sent text.now) }
+    ensures front { exit_code result ≡ 3 → GivesFront (L.state link.old).sent (L.state link.new).sent text.now }
+    ensures gives { AreGives (exit_code result ≡ 3) (L.state link.old) (L.state link.new) }
     ensures statuses { (exit_code result ≡ 3) ⊎ (exit_code result ≡ exit_code status) }
 {
     match give_all(link, text) {
@@ -76,13 +74,11 @@ fn refused_line(alloc: Global, refusal: &Refusal) -> Result<Vec<u8>, NoMemory>
 /// Gives the line of the refusal and answers its status, or that of a fault where the link fails.
 pub fn end_refused<L: Link>(alloc: Global, link: &mut L, refusal: &Refusal) -> Status
     ensures given { exit_code result ≡ 7 → (refusal.now ≢ Refusal.NoMemory)
-        × (L.sent link.new ≡ append_known (L.sent link.old) (refused refusal.now).text) }
+        × ((L.state link.new).sent ≡ append_known (L.state link.old).sent (refused refusal.now).text) }
     ensures front { exit_code result ≡ 3 → (refusal.now ≢ Refusal.NoMemory)
-        × GivesFront (L.sent link.old) (L.sent link.new) (refused refusal.now).text }
+        × GivesFront (L.state link.old).sent (L.state link.new).sent (refused refusal.now).text }
     ensures memory { exit_code result ≡ 10 → link.new ≡ link.old }
-    ensures fault { exit_code result ≡ 3 → Rose (L.faults link.old) (L.faults link.new) }
-    ensures later { L.faults link.old ≤ L.faults link.new }
-    ensures left { L.left link.new ≡ L.left link.old }
+    ensures gives { AreGives (exit_code result ≡ 3) (L.state link.old) (L.state link.new) }
     ensures statuses { (exit_code result ≡ 3) ⊎ (exit_code result ≡ 7) ⊎ (exit_code result ≡ 10) }
 {
     match refused_line(alloc, refusal) {
@@ -103,11 +99,11 @@ fn damaged_line(alloc: Global, at: u64) -> Result<Vec<u8>, NoMemory>
 
 /// Gives the line of a damaged journal and answers its status, or that of a fault where the link fails.
 pub fn end_damaged<L: Link>(alloc: Global, link: &mut L, at: u64) -> Status
-    ensures given { exit_code result ≡ 6 → L.sent link.new ≡ append_known (L.sent link.old) (damage at).text }
-    ensures front { exit_code result ≡ 3 → GivesFront (L.sent link.old) (L.sent link.new) (damage at).text }
+    ensures given { exit_code result ≡ 6 →
+        (L.state link.new).sent ≡ append_known (L.state link.old).sent (damage at).text }
+    ensures front { exit_code result ≡ 3 → GivesFront (L.state link.old).sent (L.state link.new).sent (damage at).text }
     ensures memory { exit_code result ≡ 10 → link.new ≡ link.old }
-    ensures fault { exit_code result ≡ 3 → Rose (L.faults link.old) (L.faults link.new) }
-    ensures left { L.left link.new ≡ L.left link.old }
+    ensures gives { AreGives (exit_code result ≡ 3) (L.state link.old) (L.state link.new) }
     ensures statuses { (exit_code result ≡ 3) ⊎ (exit_code result ≡ 6) ⊎ (exit_code result ≡ 10) }
 {
     match damaged_line(alloc, at) {

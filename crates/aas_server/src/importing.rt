@@ -1,34 +1,32 @@
 // The commands that put the documents of one environment into those on a disk.
-ghost use Rattle.std.specs.Prelude.{◌≡◌, ◌≢◌, ◌⊎◌, ◌<◌, ◌≤◌, ◌^◌, ℕ, List, false, Contains, IfOk, IfSome, OnOk};
+ghost use Rattle.std.specs.Prelude.{◌≡◌, ◌≢◌, ◌⊎◌, ◌<◌, ◌^◌, false, Contains, IfOk, OnOk};
 ghost use Rattle.std.specs.Prelude.{Some, length};
+ghost use Rattle.aas_outside_disk.specs.Disk.{AreDiskCalls, IsLater};
 ghost use Rattle.aas_demo.specs.Demo.{environment_of};
 ghost use Rattle.aas_environment.specs.Imports.{Spell};
 ghost use Rattle.aas_environment.specs.declared.import_fault.ImportFault.TheVariants.{Storage};
-ghost use Rattle.aas_journal.specs.Bank.{IsBankImage};
-ghost use Rattle.aas_journal.specs.Shown.{disk_of as disk_in};
+ghost use Rattle.aas_journal.specs.Shown.{disk_of, journal_state};
 ghost use Rattle.aas_outside.specs.Faults.{Rose};
-ghost use Rattle.aas_outside.specs.Moments.{Passes};
-ghost use Rattle.aas_repo.specs.Held.{state_of};
-ghost use Rattle.aas_rule.specs.State.{IsSettledState, repository_of};
+ghost use Rattle.aas_repo.specs.Held.{machine_state};
 ghost use Rattle.aas_server.specs.Answer.{Says};
 ghost use Rattle.aas_server.specs.CommandLine.{IsCount, most_properties, statuses_of};
-ghost use Rattle.aas_server.specs.Ends.{console_of, disk_of};
-ghost use Rattle.aas_server.specs.Importing.{ImportsDemo, ImportsInput, IsFaultAnswer, IsPutIn, IsRefusal, IsTooLong};
-ghost use Rattle.aas_server.specs.Importing.{counts_text, demo_input, demo_text, import_limit, refused_at};
+ghost use Rattle.aas_server.specs.Importing.{ImportsDemo, ImportsInput, IsFaultAnswer};
+ghost use Rattle.aas_server.specs.Importing.{IsRefusal, IsTooLong, PutsDemoIn, PutsInputIn};
+ghost use Rattle.aas_server.specs.Importing.{counts_text, demo_input, demo_text, refused_at};
 ghost use Rattle.aas_server.specs.Status.{exit_code};
 ghost use Rattle.aas_store.specs.Documents.{empty};
 
 use crate::command_line::CommandLine;
 use crate::commands::Ran;
 use crate::console::{end_refused, end_with, read_input};
+use crate::not_begun::end_early;
 use crate::opening::open;
-use crate::serving::say_why;
 use crate::status::Status;
 use crate::stop::Stop;
 use aas_command::Refusal;
 use aas_demo::{demos_are_valid, demos_have_so_many, environment_of, sum_of};
 use aas_environment::{ImportFault, import as import_bytes};
-use aas_journal::{Journal, NotOpened, have_one_list};
+use aas_journal::{Journal, have_one_list};
 use aas_json_mapping::environments_are_mapped;
 use aas_json_write::environment_text;
 use aas_model::{NoMemory, Text};
@@ -59,11 +57,9 @@ pub(crate) fn import<S: Store + Drop, C: Link, D: Disk>(
 ) -> Ran<D>
     requires empty { S.documents store ≡ empty }
     ensures does { ImportsInput result.status
-        (console_of C.left C.sent C.faults console.old) (console_of C.left C.sent C.faults console.new)
-        (disk_of D.seen D.moment D.left_at D.faults disk) (disk_of D.seen D.moment D.left_at D.faults result.disk) }
+        (C.state console.old) (C.state console.new) (D.state disk) (D.state result.disk) }
     ensures statuses { Contains (statuses_of (Some CommandLine.Import)) result.status }
-    ensures past { Passes (D.moment disk) (D.left_at disk) (D.moment result.disk) (D.left_at result.disk) }
-    ensures later { D.faults disk ≤ D.faults result.disk }
+    ensures later { IsLater (D.state disk) (D.state result.disk) }
 {
     have_one_list();
     payloads_replay_to_one_state();
@@ -76,10 +72,7 @@ pub(crate) fn import<S: Store + Drop, C: Link, D: Disk>(
                 disk: repo.into_keeper().into_disk(),
             }
         }
-        Err(NotOpened { fault, disk }) => Ran {
-            status: say_why(alloc, console, fault).exit_code(),
-            disk,
-        },
+        Err(it) => end_early(alloc, console, it),
     }
 }
 
@@ -94,11 +87,9 @@ pub(crate) fn demo<S: Store + Drop, C: Link, D: Disk>(
     requires empty { S.documents store ≡ empty }
     requires few { IsCount most_properties count }
     ensures does { ImportsDemo count result.status
-        (console_of C.left C.sent C.faults console.old) (console_of C.left C.sent C.faults console.new)
-        (disk_of D.seen D.moment D.left_at D.faults disk) (disk_of D.seen D.moment D.left_at D.faults result.disk) }
+        (C.state console.old) (C.state console.new) (D.state disk) (D.state result.disk) }
     ensures statuses { Contains (statuses_of (Some (CommandLine.Demo count))) result.status }
-    ensures past { Passes (D.moment disk) (D.left_at disk) (D.moment result.disk) (D.left_at result.disk) }
-    ensures later { D.faults disk ≤ D.faults result.disk }
+    ensures later { IsLater (D.state disk) (D.state result.disk) }
 {
     have_one_list();
     payloads_replay_to_one_state();
@@ -111,10 +102,7 @@ pub(crate) fn demo<S: Store + Drop, C: Link, D: Disk>(
                 disk: repo.into_keeper().into_disk(),
             }
         }
-        Err(NotOpened { fault, disk }) => Ran {
-            status: say_why(alloc, console, fault).exit_code(),
-            disk,
-        },
+        Err(it) => end_early(alloc, console, it),
     }
 }
 
@@ -125,26 +113,15 @@ fn import_input<S: Store, C: Link, D: Disk>(
     repo: &mut OnDisk<S, D>,
 ) -> Status
     requires { repo.old.stopped ≡ false }
-    ensures does { (Says (IsTooLong (C.left console.old)) (exit_code result)
-        (console_of C.left C.sent C.faults console.old) (console_of C.left C.sent C.faults console.new)
-        × (repo.new ≡ repo.old))
-        ⊎ (IfSome (C.left console.old) (λ input. length input ≤ import_limit)
-        × ((input : List ℕ) (records : List (List ℕ)) → C.left console.old ≡ Some input →
-        IsSettledState IsBankImage (state_of ⟦<Journal<D> as Keeper>⟧.kept ⟦<Journal<D> as Keeper>⟧.moment
-        ⟦<Journal<D> as Keeper>⟧.left_at repo.old) records →
-        IsPutIn counts_text IsBankImage (repository_of (state_of ⟦<Journal<D> as Keeper>⟧.kept
-        ⟦<Journal<D> as Keeper>⟧.moment ⟦<Journal<D> as Keeper>⟧.left_at repo.old) records) input
-        (⟦<Journal<D> as Keeper>⟧.moment repo.old.keeper) (state_of ⟦<Journal<D> as Keeper>⟧.kept
-        ⟦<Journal<D> as Keeper>⟧.moment ⟦<Journal<D> as Keeper>⟧.left_at repo.new) (exit_code result)
-        (console_of C.left C.sent C.faults console.old) (console_of C.left C.sent C.faults console.new))) }
+    ensures does { (Says (IsTooLong (C.state console.old).left) (exit_code result)
+        (C.state console.old) (C.state console.new) × (repo.new ≡ repo.old))
+        ⊎ PutsInputIn (machine_state journal_state repo.old).held (machine_state journal_state repo.new).held
+        (exit_code result) (C.state console.old) (C.state console.new) }
     ensures statuses { Contains (statuses_of (Some CommandLine.Import)) (exit_code result) }
     ensures refused { IsRefusal (exit_code result) → repo.new ≡ repo.old }
-    ensures console_fault { exit_code result ≡ 3 → Rose (C.faults console.old) (C.faults console.new) }
-    ensures disk_fault { exit_code result ≡ 4
-        → Rose (D.faults (disk_in repo.old.keeper)) (D.faults (disk_in repo.new.keeper)) }
-    ensures past { Passes (D.moment (disk_in repo.old.keeper)) (D.left_at (disk_in repo.old.keeper))
-        (D.moment (disk_in repo.new.keeper)) (D.left_at (disk_in repo.new.keeper)) }
-    ensures later { D.faults (disk_in repo.old.keeper) ≤ D.faults (disk_in repo.new.keeper) }
+    ensures console_fault { exit_code result ≡ 3 → Rose (C.state console.old).faults (C.state console.new).faults }
+    ensures calls { AreDiskCalls (exit_code result ≡ 4)
+        (D.state (disk_of repo.old.keeper)) (D.state (disk_of repo.new.keeper)) }
 {
     match read_input(alloc, console, IMPORT_LIMIT) {
         Ok(input) => {
@@ -174,25 +151,15 @@ fn import_demo<S: Store, C: Link, D: Disk>(
 ) -> Status
     requires going { repo.old.stopped ≡ false }
     requires few { IsCount most_properties count }
-    ensures does { ((exit_code result ≡ 10) × (console_of C.left C.sent C.faults console.new ≡
-        console_of C.left C.sent C.faults console.old) × (repo.new ≡ repo.old))
-        ⊎ ((records : List (List ℕ)) →
-        IsSettledState IsBankImage (state_of ⟦<Journal<D> as Keeper>⟧.kept ⟦<Journal<D> as Keeper>⟧.moment
-        ⟦<Journal<D> as Keeper>⟧.left_at repo.old) records →
-        IsPutIn (λ counts. demo_text count) IsBankImage (repository_of (state_of ⟦<Journal<D> as Keeper>⟧.kept
-        ⟦<Journal<D> as Keeper>⟧.moment ⟦<Journal<D> as Keeper>⟧.left_at repo.old) records) (demo_input count)
-        (⟦<Journal<D> as Keeper>⟧.moment repo.old.keeper) (state_of ⟦<Journal<D> as Keeper>⟧.kept
-        ⟦<Journal<D> as Keeper>⟧.moment ⟦<Journal<D> as Keeper>⟧.left_at repo.new) (exit_code result)
-        (console_of C.left C.sent C.faults console.old) (console_of C.left C.sent C.faults console.new)) }
-    ensures unread { C.left console.new ≡ C.left console.old }
+    ensures does { ((exit_code result ≡ 10) × (C.state console.new ≡ C.state console.old) × (repo.new ≡ repo.old))
+        ⊎ PutsDemoIn count (machine_state journal_state repo.old).held (machine_state journal_state repo.new).held
+        (exit_code result) (C.state console.old) (C.state console.new) }
+    ensures unread { (C.state console.new).left ≡ (C.state console.old).left }
     ensures statuses { Contains (statuses_of (Some (CommandLine.Demo count))) (exit_code result) }
     ensures refused { IsRefusal (exit_code result) → repo.new ≡ repo.old }
-    ensures console_fault { exit_code result ≡ 3 → Rose (C.faults console.old) (C.faults console.new) }
-    ensures disk_fault { exit_code result ≡ 4
-        → Rose (D.faults (disk_in repo.old.keeper)) (D.faults (disk_in repo.new.keeper)) }
-    ensures past { Passes (D.moment (disk_in repo.old.keeper)) (D.left_at (disk_in repo.old.keeper))
-        (D.moment (disk_in repo.new.keeper)) (D.left_at (disk_in repo.new.keeper)) }
-    ensures later { D.faults (disk_in repo.old.keeper) ≤ D.faults (disk_in repo.new.keeper) }
+    ensures console_fault { exit_code result ≡ 3 → Rose (C.state console.old).faults (C.state console.new).faults }
+    ensures calls { AreDiskCalls (exit_code result ≡ 4)
+        (D.state (disk_of repo.old.keeper)) (D.state (disk_of repo.new.keeper)) }
 {
     demos_are_valid();
     demos_have_so_many();
@@ -254,9 +221,8 @@ fn demo_line(count: u32, size: u64) -> Success
 
 /// Says why nothing was imported. Memory is needed only where nothing was written.
 fn say_fault<C: Link>(alloc: Global, console: &mut C, fault: ImportFault) -> Status
-    ensures says { Says (IsFaultAnswer fault) (exit_code result)
-        (console_of C.left C.sent C.faults console.old) (console_of C.left C.sent C.faults console.new) }
-    ensures unread { C.left console.new ≡ C.left console.old }
+    ensures says { Says (IsFaultAnswer fault) (exit_code result) (C.state console.old) (C.state console.new) }
+    ensures unread { (C.state console.new).left ≡ (C.state console.old).left }
     ensures refused { IsRefusal (exit_code result) → fault ≢ Storage }
     ensures storage { exit_code result ≡ 4 → fault ≡ Storage }
     ensures statuses { Contains (statuses_of (Some CommandLine.Import)) (exit_code result) }
@@ -281,8 +247,8 @@ fn say_fault<C: Link>(alloc: Global, console: &mut C, fault: ImportFault) -> Sta
 /// Gives the line of a refusal for the document to which a pointer leads, unless there was no memory for it.
 fn refuse_at<C: Link>(alloc: Global, console: &mut C, pointer: &Text, refusal: &Refusal) -> Status
     ensures says { Says (λ answer. answer ≡ refused_at pointer.now refusal.now) (exit_code result)
-        (console_of C.left C.sent C.faults console.old) (console_of C.left C.sent C.faults console.new) }
-    ensures unread { C.left console.new ≡ C.left console.old }
+        (C.state console.old) (C.state console.new) }
+    ensures unread { (C.state console.new).left ≡ (C.state console.old).left }
     ensures statuses { (exit_code result ≡ 3) ⊎ (exit_code result ≡ 7) ⊎ (exit_code result ≡ 10) }
 {
     match refused_line(alloc, pointer, refusal) {

@@ -48,6 +48,7 @@ mod conforming;
 mod console;
 mod importing;
 mod laws;
+mod not_begun;
 mod opening;
 mod server;
 mod serving;

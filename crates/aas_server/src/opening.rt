@@ -1,16 +1,15 @@
 // How the repository on a disk is opened.
-ghost use Rattle.std.specs.Prelude.{◌≡◌, ◌≤◌, ℕ, List, false, IfErr, IfOk, IfSome, MatchResult};
+ghost use Rattle.std.specs.Prelude.{◌≡◌, ℕ, List, false, IfErr, IfOk, IfSome, MatchResult};
+ghost use Rattle.aas_outside.specs.Keeper.{IsSettledKeeper};
+ghost use Rattle.aas_outside_disk.specs.Disk.{AreReads};
 ghost use Rattle.aas_journal.specs.Bank.{IsBankImage};
-ghost use Rattle.aas_journal.specs.Reads.{OnlyReads};
-ghost use Rattle.aas_journal.specs.Shown.{disk_of};
+ghost use Rattle.aas_journal.specs.Shown.{disk_of, journal_state};
 ghost use Rattle.aas_journal.specs.declared.fault.OpenFault.TheVariants.{Failed as DiskFailed};
-ghost use Rattle.aas_outside.specs.Faults.{Rose};
-ghost use Rattle.aas_outside.specs.Moments.{IsSettled};
-ghost use Rattle.aas_repo.specs.Held.{state_of};
+ghost use Rattle.aas_repo.specs.Held.{machine_state};
 ghost use Rattle.aas_repo_replay.specs.Replay.{Replays};
-ghost use Rattle.aas_rule.specs.State.{IsSettledState, repository_of};
+ghost use Rattle.aas_rule.specs.State.{IsSettledState};
 ghost use Rattle.aas_server.specs.Causes.{IsCause, IsCauseIn};
-ghost use Rattle.aas_server.specs.Opening.{Opens, begun};
+ghost use Rattle.aas_server.specs.Opening.{begun, HasOpened};
 ghost use Rattle.aas_store.specs.Documents.{empty};
 
 use aas_journal::{Journal, NotOpened, open_journal};
@@ -29,51 +28,39 @@ pub fn open<S: Store + Drop, D: Disk>(
     disk: D,
 ) -> Result<Repo<S, Journal<D>>, NotOpened<D>>
     requires empty { S.documents store ≡ empty }
-    ensures begun { IfOk result (λ repo. IfSome (D.seen disk) (λ files. (payloads : List (List ℕ)) ×
-        Opens files (begun (repository_of (state_of ⟦<Journal<D> as Keeper>⟧.kept ⟦<Journal<D> as Keeper>⟧.moment
-        ⟦<Journal<D> as Keeper>⟧.left_at repo) payloads)) ×
-        IsSettledState IsBankImage (state_of ⟦<Journal<D> as Keeper>⟧.kept ⟦<Journal<D> as Keeper>⟧.moment
-        ⟦<Journal<D> as Keeper>⟧.left_at repo) payloads)) }
+    ensures begun { IfOk result (λ repo. HasOpened (D.state disk) (machine_state journal_state repo).held) }
     ensures going { IfOk result (λ repo. repo.stopped ≡ false) }
-    ensures cause { IfErr result (λ it. IfSome (D.seen disk) (λ files. IsCause files it.fault)) }
-    ensures failed { IfErr result (λ it. it.fault ≡ DiskFailed → Rose (D.faults disk) (D.faults it.disk)) }
-    ensures later { MatchResult result (λ repo. D.faults disk ≤ D.faults (disk_of repo.keeper))
-        (λ it. D.faults disk ≤ D.faults it.disk) }
-    ensures calm { IfOk result (λ repo. D.faults (disk_of repo.keeper) ≡ D.faults disk) }
-    ensures reads { MatchResult result
-        (λ repo. OnlyReads D.seen D.moment D.left_at disk (disk_of repo.keeper))
-        (λ it. OnlyReads D.seen D.moment D.left_at disk it.disk) }
+    ensures cause { IfErr result (λ it. IfSome (D.state disk).seen (λ files. IsCause files it.fault)) }
+    ensures reads { MatchResult result (λ repo. AreReads ⊥ (D.state disk) (D.state (disk_of repo.keeper)))
+        (λ it. AreReads (it.fault ≡ DiskFailed) (D.state disk) (D.state it.disk)) }
+    ensures calm { IfOk result (λ repo. (D.state (disk_of repo.keeper)).faults ≡ (D.state disk).faults) }
 {
     match open_journal(disk) {
-        Ok(journal) => replayed(alloc, store, journal),
+        Ok(journal) => replay_journal(alloc, store, journal),
         Err(it) => Err(it),
     }
 }
 
 /// The repository that a journal replays to, or why there is none.
-fn replayed<S: Store + Drop, D: Disk>(
+fn replay_journal<S: Store + Drop, D: Disk>(
     alloc: Global,
     mut store: S,
     mut journal: Journal<D>,
 ) -> Result<Repo<S, Journal<D>>, NotOpened<D>>
     requires empty { S.documents store ≡ empty }
-    requires told { IfSome (D.seen (disk_of journal)) (λ _. (payloads : List (List ℕ)) ×
-        ⟦<Journal<D> as Keeper>⟧.kept journal payloads) }
+    requires told { IfSome (D.state (disk_of journal)).seen (λ _. (payloads : List (List ℕ)) ×
+        (journal_state journal).kept payloads) }
     ensures replays { IfOk result (λ repo. (payloads : List (List ℕ)) →
-        IsSettled IsBankImage (⟦<Journal<D> as Keeper>⟧.kept journal) (⟦<Journal<D> as Keeper>⟧.moment journal)
-        (⟦<Journal<D> as Keeper>⟧.left_at journal) payloads →
-        Replays payloads repo.documents × IsSettledState IsBankImage (state_of ⟦<Journal<D> as Keeper>⟧.kept
-        ⟦<Journal<D> as Keeper>⟧.moment ⟦<Journal<D> as Keeper>⟧.left_at repo) payloads) }
+        IsSettledKeeper IsBankImage (journal_state journal) payloads →
+        Replays payloads repo.documents × IsSettledState IsBankImage (machine_state journal_state repo).held payloads) }
     ensures going { IfOk result (λ repo. repo.stopped ≡ false) }
-    ensures cause { IfErr result (λ it. (payloads : List (List ℕ)) → ⟦<Journal<D> as Keeper>⟧.kept journal payloads →
+    ensures cause { IfErr result (λ it. (payloads : List (List ℕ)) → (journal_state journal).kept payloads →
         IsCauseIn payloads it.fault) }
-    ensures failed { IfErr result (λ it. it.fault ≡ DiskFailed → Rose (D.faults (disk_of journal)) (D.faults it.disk)) }
-    ensures later { MatchResult result (λ repo. D.faults (disk_of journal) ≤ D.faults (disk_of repo.keeper))
-        (λ it. D.faults (disk_of journal) ≤ D.faults it.disk) }
-    ensures calm { IfOk result (λ repo. D.faults (disk_of repo.keeper) ≡ D.faults (disk_of journal)) }
     ensures reads { MatchResult result
-        (λ repo. OnlyReads D.seen D.moment D.left_at (disk_of journal) (disk_of repo.keeper))
-        (λ it. OnlyReads D.seen D.moment D.left_at (disk_of journal) it.disk) }
+        (λ repo. AreReads ⊥ (D.state (disk_of journal)) (D.state (disk_of repo.keeper)))
+        (λ it. AreReads (it.fault ≡ DiskFailed) (D.state (disk_of journal)) (D.state it.disk)) }
+    ensures calm { IfOk result (λ repo.
+        (D.state (disk_of repo.keeper)).faults ≡ (D.state (disk_of journal)).faults) }
 {
     match replay(alloc, &mut store, &mut journal) {
         Ok(()) => Ok(Repo::new(alloc, store, journal)),

@@ -1,15 +1,12 @@
 // The repository on a disk, and what it is served with.
-ghost use Rattle.std.specs.Prelude.{◌≡◌, ◌≤◌, ℕ, List, false, IfErr, IfOk, IfSome, MatchResult};
-ghost use Rattle.aas_journal.specs.Bank.{IsBankImage};
-ghost use Rattle.aas_journal.specs.Reads.{OnlyReads};
-ghost use Rattle.aas_journal.specs.Shown.{disk_of};
+ghost use Rattle.std.specs.Prelude.{◌≡◌, false, IfErr, IfOk, IfSome, MatchResult};
+ghost use Rattle.aas_outside_disk.specs.Disk.{AreReads};
+ghost use Rattle.aas_journal.specs.Shown.{disk_of, journal_state};
 ghost use Rattle.aas_journal.specs.declared.fault.OpenFault.TheVariants.{Failed as DiskFailed};
-ghost use Rattle.aas_outside.specs.Faults.{Rose};
-ghost use Rattle.aas_repo.specs.Held.{state_of};
-ghost use Rattle.aas_rule.specs.State.{IsSettledState, repository_of};
+ghost use Rattle.aas_repo.specs.Held.{machine_state};
 ghost use Rattle.aas_step.specs.Valid.{AreValid};
 ghost use Rattle.aas_server.specs.Causes.{IsCause};
-ghost use Rattle.aas_server.specs.Opening.{Opens, begun};
+ghost use Rattle.aas_server.specs.Opening.{begun, HasOpened};
 ghost use Rattle.aas_store.specs.Documents.{empty};
 
 use crate::opening::open;
@@ -34,20 +31,15 @@ impl<S: Store + Drop, D: Disk> Server<S, D> {
     /// is only read.
     pub fn open(alloc: Global, store: S, disk: D) -> Result<Server<S, D>, NotOpened<D>>
         requires empty { S.documents store ≡ empty }
-        ensures begun { IfOk result (λ server. IfSome (D.seen disk) (λ files. (payloads : List (List ℕ)) ×
-            Opens files (begun (repository_of (state_of ⟦<Journal<D> as Keeper>⟧.kept ⟦<Journal<D> as Keeper>⟧.moment
-            ⟦<Journal<D> as Keeper>⟧.left_at server.service.repo) payloads)) ×
-            IsSettledState IsBankImage (state_of ⟦<Journal<D> as Keeper>⟧.kept ⟦<Journal<D> as Keeper>⟧.moment
-            ⟦<Journal<D> as Keeper>⟧.left_at server.service.repo) payloads)) }
+        ensures begun { IfOk result
+            (λ server. HasOpened (D.state disk) (machine_state journal_state server.service.repo).held) }
         ensures going { IfOk result (λ server. server.service.repo.stopped ≡ false) }
-        ensures cause { IfErr result (λ it. IfSome (D.seen disk) (λ files. IsCause files it.fault)) }
-        ensures failed { IfErr result (λ it. it.fault ≡ DiskFailed → Rose (D.faults disk) (D.faults it.disk)) }
-        ensures later { MatchResult result (λ server. D.faults disk ≤ D.faults (disk_of server.service.repo.keeper))
-            (λ it. D.faults disk ≤ D.faults it.disk) }
-        ensures calm { IfOk result (λ server. D.faults (disk_of server.service.repo.keeper) ≡ D.faults disk) }
+        ensures cause { IfErr result (λ it. IfSome (D.state disk).seen (λ files. IsCause files it.fault)) }
         ensures reads { MatchResult result
-            (λ server. OnlyReads D.seen D.moment D.left_at disk (disk_of server.service.repo.keeper))
-            (λ it. OnlyReads D.seen D.moment D.left_at disk it.disk) }
+            (λ server. AreReads ⊥ (D.state disk) (D.state (disk_of server.service.repo.keeper)))
+            (λ it. AreReads (it.fault ≡ DiskFailed) (D.state disk) (D.state it.disk)) }
+        ensures calm { IfOk result (λ server. (D.state (disk_of server.service.repo.keeper)).faults ≡
+            (D.state disk).faults) }
     {
         match Intake::new(alloc) {
             Ok(intake) => match open(alloc, store, disk) {

@@ -1,22 +1,18 @@
 // The commands that serve the repository on a disk.
-ghost use Rattle.std.specs.Prelude.{◌≡◌, ◌≤◌, Contains};
-ghost use Rattle.aas_outside.specs.Moments.{Passes};
-ghost use Rattle.aas_server.specs.Answer.{Says};
-ghost use Rattle.aas_server.specs.Causes.{IsAnswerTo};
+ghost use Rattle.std.specs.Prelude.{◌≡◌, Contains};
+ghost use Rattle.aas_outside_disk.specs.Disk.{IsLater};
 ghost use Rattle.aas_server.specs.CommandLine.{statuses_of};
-ghost use Rattle.aas_server.specs.Ends.{console_of, disk_of, wire_of};
 ghost use Rattle.aas_server.specs.Pipe.{Pipes};
 ghost use Rattle.aas_server.specs.Serve.{Serves};
-ghost use Rattle.aas_server.specs.Status.{exit_code};
 ghost use Rattle.aas_store.specs.Documents.{empty};
 
 use crate::command_line::CommandLine;
 use crate::commands::Ran;
-use crate::console::{end_damaged, end_with};
+use crate::not_begun::end_early;
 use crate::server::Server;
 use crate::status::Status;
 use aas_discovery::Lookup;
-use aas_journal::{NotOpened, OpenFault, have_one_list};
+use aas_journal::have_one_list;
 use aas_outside::{Failed, Link, Wire};
 use aas_outside_disk::Disk;
 use aas_repo_replay::{accepted_commands_replay, payloads_replay_to_one_state};
@@ -32,11 +28,9 @@ pub fn pipe<S: Lookup + Drop, C: Link, D: Disk>(
 ) -> Ran<D>
     requires empty { S.documents store ≡ empty }
     ensures does { Pipes result.status
-        (console_of C.left C.sent C.faults console.old) (console_of C.left C.sent C.faults console.new)
-        (disk_of D.seen D.moment D.left_at D.faults disk) (disk_of D.seen D.moment D.left_at D.faults result.disk) }
+        (C.state console.old) (C.state console.new) (D.state disk) (D.state result.disk) }
     ensures statuses { Contains (statuses_of (Some CommandLine.Pipe)) result.status }
-    ensures past { Passes (D.moment disk) (D.left_at disk) (D.moment result.disk) (D.left_at result.disk) }
-    ensures later { D.faults disk ≤ D.faults result.disk }
+    ensures later { IsLater (D.state disk) (D.state result.disk) }
 {
     have_one_list();
     payloads_replay_to_one_state();
@@ -49,10 +43,7 @@ pub fn pipe<S: Lookup + Drop, C: Link, D: Disk>(
                 disk: server.into_disk(),
             }
         }
-        Err(NotOpened { fault, disk }) => Ran {
-            status: say_why(alloc, console, fault).exit_code(),
-            disk,
-        },
+        Err(it) => end_early(alloc, console, it),
     }
 }
 
@@ -68,13 +59,11 @@ pub fn serve<S: Lookup + Drop, C: Link, W: Wire, D: Disk>(
 ) -> Ran<D>
     requires empty { S.documents store ≡ empty }
     ensures does { Serves count result.status
-        (console_of C.left C.sent C.faults console.old) (console_of C.left C.sent C.faults console.new)
-        (wire_of W.left W.sent W.faults W.surroundings wire.old)
-        (wire_of W.left W.sent W.faults W.surroundings wire.new)
-        (disk_of D.seen D.moment D.left_at D.faults disk) (disk_of D.seen D.moment D.left_at D.faults result.disk) }
+        (C.state console.old) (C.state console.new)
+        (W.state wire.old) (W.state wire.new)
+        (D.state disk) (D.state result.disk) }
     ensures statuses { Contains (statuses_of (Some (CommandLine.Serve count))) result.status }
-    ensures past { Passes (D.moment disk) (D.left_at disk) (D.moment result.disk) (D.left_at result.disk) }
-    ensures later { D.faults disk ≤ D.faults result.disk }
+    ensures later { IsLater (D.state disk) (D.state result.disk) }
 {
     have_one_list();
     payloads_replay_to_one_state();
@@ -93,30 +82,6 @@ pub fn serve<S: Lookup + Drop, C: Link, W: Wire, D: Disk>(
                 disk: server.into_disk(),
             },
         },
-        Err(NotOpened { fault, disk }) => Ran {
-            status: say_why(alloc, console, fault).exit_code(),
-            disk,
-        },
-    }
-}
-
-/// Says on the console why no repository is begun. For want of memory nothing is said.
-pub fn say_why<C: Link>(alloc: Global, console: &mut C, fault: OpenFault) -> Status
-    ensures says { Says (IsAnswerTo fault) (exit_code result)
-        (console_of C.left C.sent C.faults console.old) (console_of C.left C.sent C.faults console.new) }
-    ensures unread { C.left console.new ≡ C.left console.old }
-    ensures silent { exit_code result ≡ 10 →
-        console_of C.left C.sent C.faults console.new ≡ console_of C.left C.sent C.faults console.old }
-    ensures statuses { Contains (statuses_of (Some CommandLine.Pipe)) (exit_code result) }
-{
-    match fault {
-        OpenFault::NotInitialised => end_with(
-            console,
-            b"aasd: not initialised\n",
-            Status::NotInitialised,
-        ),
-        OpenFault::Damaged { at } => end_damaged(alloc, console, at),
-        OpenFault::Failed => end_with(console, b"aasd: disk fault\n", Status::DiskFault),
-        OpenFault::NoMemory => Status::NoMemory,
+        Err(it) => end_early(alloc, console, it),
     }
 }

@@ -1,22 +1,21 @@
 // The commands that tell something of the documents on a disk.
-ghost use Rattle.std.specs.Prelude.{◌≡◌, ◌≢◌, ◌≤◌, List, ℕ, [], ◌∷◌, Contains};
-ghost use Rattle.aas_outside.specs.Moments.{Passes};
+ghost use Rattle.std.specs.Prelude.{◌≡◌, ◌≢◌, List, ℕ, [], ◌∷◌, Contains};
+ghost use Rattle.aas_outside_disk.specs.Disk.{IsLater};
 ghost use Rattle.aas_store.specs.Documents.{Documents, empty};
 ghost use Rattle.aas_environment.specs.Environments.{export_text};
 ghost use Rattle.aas_server.specs.Answer.{Answer, Says, done, exported};
 ghost use Rattle.aas_server.specs.CheckText.{check_text};
-ghost use Rattle.aas_server.specs.Ends.{console_of, disk_of};
 ghost use Rattle.aas_server.specs.Status.{exit_code};
 ghost use Rattle.aas_server.specs.Telling.{Tells, statuses_with};
 
 use crate::check_text::check_text;
 use crate::commands::Ran;
 use crate::console::end_with;
+use crate::not_begun::end_early;
 use crate::opening::open;
-use crate::serving::say_why;
 use crate::status::Status;
 use aas_environment::{ExportFault, export};
-use aas_journal::{NotOpened, have_one_list};
+use aas_journal::have_one_list;
 use aas_model::NoMemory;
 use aas_outside::{Keeper, Link};
 use aas_outside_disk::Disk;
@@ -40,11 +39,10 @@ pub(crate) trait Report {
         repo: &Repo<S, K>,
         console: &mut C,
     ) -> Status
-        ensures says { Says (answers self.now repo.now.documents) (exit_code result)
-            (console_of C.left C.sent C.faults console.old) (console_of C.left C.sent C.faults console.new) }
-        ensures unread { C.left console.new ≡ C.left console.old }
-        ensures silent { exit_code result ≡ 10 →
-            console_of C.left C.sent C.faults console.new ≡ console_of C.left C.sent C.faults console.old }
+        ensures says { Says (answers self.now repo.now.documents) (exit_code result) (C.state console.old)
+            (C.state console.new) }
+        ensures unread { (C.state console.new).left ≡ (C.state console.old).left }
+        ensures silent { exit_code result ≡ 10 → C.state console.new ≡ C.state console.old }
         ensures statuses { Contains (statuses_with others) (exit_code result) }
         ensures no_disk_fault { exit_code result ≢ 4 };
 }
@@ -104,11 +102,9 @@ pub(crate) fn tell<R: Report, S: Store + Drop, C: Link, D: Disk>(
 ) -> Ran<D>
     requires empty { S.documents store ≡ empty }
     ensures does { Tells (R.answers report.now) result.status
-        (console_of C.left C.sent C.faults console.old) (console_of C.left C.sent C.faults console.new)
-        (disk_of D.seen D.moment D.left_at D.faults disk) (disk_of D.seen D.moment D.left_at D.faults result.disk) }
+        (C.state console.old) (C.state console.new) (D.state disk) (D.state result.disk) }
     ensures statuses { Contains (statuses_with R.others) result.status }
-    ensures past { Passes (D.moment disk) (D.left_at disk) (D.moment result.disk) (D.left_at result.disk) }
-    ensures later { D.faults disk ≤ D.faults result.disk }
+    ensures later { IsLater (D.state disk) (D.state result.disk) }
 {
     have_one_list();
     payloads_replay_to_one_state();
@@ -120,9 +116,6 @@ pub(crate) fn tell<R: Report, S: Store + Drop, C: Link, D: Disk>(
                 disk: repo.into_keeper().into_disk(),
             }
         }
-        Err(NotOpened { fault, disk }) => Ran {
-            status: say_why(alloc, console, fault).exit_code(),
-            disk,
-        },
+        Err(it) => end_early(alloc, console, it),
     }
 }

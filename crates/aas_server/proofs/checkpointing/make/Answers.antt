@@ -1,8 +1,7 @@
 use Rattle.std.proofs.Common.{ℕ, List, [], ◌∷◌, sym, subst}
-use Rattle.aas_journal.specs.Shown.{disk_of as disk_in}
+use Rattle.aas_journal.specs.Shown.{disk_of}
 use Rattle.aas_repo_replay.specs.Replay.{Replays}
 use Rattle.aas_server.specs.Checkpointing.{IsOneRecord}
-use Rattle.aas_server.specs.Ends.{disk_of}
 use Rattle.aas_server.proofs.Checkpointed.{either_opens}
 use Rattle.aas_server.proofs.checkpointing.make.Goals as goal
 
@@ -19,12 +18,12 @@ returns-clause-made g c = λ d payloads prepared keeps.
     let whole = rw c.in_ok-record.was at prepared in (
       whole.line_is,
       subst (λ (payload : List ℕ).
-          IsOneRecord payload (disk_of D.seen D.moment D.left_at D.faults (disk_in c.args.journal.now))
-          (disk_of D.seen D.moment D.left_at D.faults (disk_in c.checkpoint.new.self)))
+          IsOneRecord payload (D.state (disk_of c.args.journal.now))
+          (D.state (disk_of c.checkpoint.new.self)))
           whole.record_is
           (record {
-            seen = c.in_ok-checkpoint.ensures.bytes payloads keeps;
-            images = (c.in_ok-checkpoint.ensures.settled payloads keeps).alone;
+            seen = (c.in_ok-checkpoint.ensures.puts payloads keeps).bytes;
+            images = (c.in_ok-checkpoint.ensures.puts payloads keeps).settled.alone;
           }),
     )
 

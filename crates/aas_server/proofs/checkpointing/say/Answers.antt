@@ -1,6 +1,5 @@
 use Rattle.std.proofs.Common.{sym, subst, ap, ◌∙◌}
 use Rattle.aas_server.specs.Answer.{done}
-use Rattle.aas_server.specs.Ends.{console_of}
 use Rattle.aas_server.specs.Status.{exit_code}
 use Rattle.aas_server.proofs.Checkpointed.{IsSaid}
 use Rattle.aas_server.proofs.Given.{says_line, says_weaker}
@@ -12,8 +11,8 @@ returns-in-Ok-clause-says g c = let C = g.C.Link in
     (λ answer is.
     subst (λ made. IsSaid (λ line. line.items) made answer) (sym c.in-Ok.is) (is ∙ ap done c.deref.ensures.value))
     (says_line (done c.deref.result.now) (exit_code c.end_with.result)
-    (console_of C.left C.sent C.faults c.args.console.now) (console_of C.left C.sent C.faults c.end_with.new.link)
-    (λ e. cc) c.end_with.ensures.given c.end_with.ensures.front c.end_with.ensures.fault c.end_with.ensures.statuses)
+    (C.state c.args.console.now) (C.state c.end_with.new.link)
+    (λ e. cc) c.end_with.ensures.given c.end_with.ensures.front c.end_with.ensures.gives.calls.rose c.end_with.ensures.statuses)
 
 pub returns-in-Err-clause-says : goal.returns-in-Err-clause-says
 returns-in-Err-clause-says g c = let C = g.C.Link in

@@ -18,8 +18,8 @@ of_another_kind (Err (Refused r)) template instance d answers is = λ some.
     let same = (is (λ none. let no : r ≡ NoMemory = cc in some no)).0 in absurd (cc)
 of_another_kind (Err NotTemplate) template instance d answers is = answers (is (λ none. cc)).1
 
-pub compared-text-requires : goal.compared-text-requires
-compared-text-requires g c =
+pub comparison-text-requires : goal.comparison-text-requires
+comparison-text-requires g c =
     c.valid_siblings_differ.ensures c.in_ok-wanted.wanted
     (c.requires.submodels (encode_utf8_all c.in_ok-template_id.template_id)
     c.in_ok-wanted.wanted c.in_ok-wanted.ensures.ok).valid.faultless
@@ -27,8 +27,8 @@ compared-text-requires g c =
 pub returns-clause-unfit : goal.returns-clause-unfit
 returns-clause-unfit g c =
     let d = g.S.Store.documents c.args.store.now in
-    of_another_kind c.compared-text.result c.args.template.now c.args.instance.now d
+    of_another_kind c.comparison-text.result c.args.template.now c.args.instance.now d
     (λ is. compared c.args.template.now c.args.instance.now d c.in_ok-template_id.template_id
     c.in_ok-instance_id.instance_id c.in_ok-template_id.ensures.ok c.in_ok-instance_id.ensures.ok
     not_a_template (is ∙ sym (ap₂ compared_answer c.in_ok-wanted.ensures.ok c.in-Ok.ensures.ok)))
-    c.compared-text.ensures.unfit
+    c.comparison-text.ensures.unfit

@@ -4,10 +4,10 @@ use Rattle.aas_server.proofs.console.read_input.Given as goal
 
 abbrev pub invariant-loop-text : goal.invariant-loop-text
 invariant-loop-text g l = record {
-  kept : g.L.Link.left l.fn.link ≡ prepend_known l.text.items (g.L.Link.left l.link);
+  kept : (g.L.Link.state l.fn.link).left ≡ prepend_known l.text.items (g.L.Link.state l.link).left;
   within : length l.text.items ≤ l.fn.limit;
-  sent : g.L.Link.sent l.link ≡ g.L.Link.sent l.fn.link;
-  later : g.L.Link.faults l.fn.link ≤ g.L.Link.faults l.link;
+  sent : (g.L.Link.state l.link).sent ≡ (g.L.Link.state l.fn.link).sent;
+  later : (g.L.Link.state l.fn.link).faults ≤ (g.L.Link.state l.link).faults;
 }
 
 abbrev pub decreases-loop-text : goal.decreases-loop-text

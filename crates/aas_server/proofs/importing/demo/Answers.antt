@@ -1,9 +1,9 @@
 use Rattle.std.proofs.Common.{◌≡◌, inl, sym, subst, arith}
-use Rattle.aas_journal.specs.Shown.{disk_of as disk_in, kept_by}
-use Rattle.aas_outside.proofs.Turns.{passes_on}
-use Rattle.aas_server.specs.Ends.{IsUnwritten, console_of, disk_of}
+use Rattle.aas_repo.specs.Held.{machine_state}
+use Rattle.aas_outside_disk.specs.Disk.{OnlyReads}
+use Rattle.aas_journal.specs.Shown.{disk_of, journal_state, kept_by}
+use Rattle.aas_outside_disk.proofs.Later.{later_called, later_read, later_then}
 use Rattle.aas_server.specs.Status.{exit_code}
-use Rattle.aas_server.proofs.Early.{early}
 use Rattle.aas_server.proofs.Given.{early_status}
 use Rattle.aas_server.proofs.PutIn.{demo_imported}
 use Rattle.aas_server.proofs.importing.demo.Goals as goal
@@ -18,54 +18,32 @@ returns-in-Ok-clause-does g c =
     (rw c.into_keeper.ensures
     (rw c.exit_code.ensures
     (demo_imported c.have_one_list.ensures c.payloads_replay_to_one_state.ensures c.accepted_commands_replay.ensures
-    (disk_of D.seen D.moment D.left_at D.faults c.args.disk)
-    (disk_of D.seen D.moment D.left_at D.faults (disk_in after.keeper))
-    (record {
-      documents = opened.documents;
-      kept = kept_by opened.keeper;
-      moment = D.moment opened.keeper.disk;
-      left_at = D.left_at opened.keeper.disk;
-    })
+    (D.state c.args.disk)
+    (D.state (disk_of after.keeper))
+    (machine_state journal_state opened).held
     after.documents (kept_by after.keeper) (λ payloads keeps. (keeps.files, keeps.told, keeps.image))
-    c.in-Ok.ensures.begun c.in-Ok.ensures.reads.past c.in-Ok.ensures.reads.images c.import_demo-status.ensures.past
+    c.in-Ok.ensures.begun c.in-Ok.ensures.reads.only.past c.in-Ok.ensures.reads.only.images c.import_demo-status.ensures.calls.past
     (after ≡ opened) c.args.count (exit_code c.import_demo-status.result)
-    (console_of C.left C.sent C.faults c.args.console.now)
-    (console_of C.left C.sent C.faults c.import_demo-status.new.console)
+    (C.state c.args.console.now)
+    (C.state c.import_demo-status.new.console)
     c.import_demo-status.ensures.does c.import_demo-status.ensures.refused
-    (λ unchanged. subst (λ repo. IsUnwritten (disk_of D.seen D.moment D.left_at D.faults c.args.disk)
-    (disk_of D.seen D.moment D.left_at D.faults (disk_in repo.keeper))) (sym unchanged)
-    (record {
-      seen = c.in-Ok.ensures.reads.same;
-      images = c.in-Ok.ensures.reads.images;
-      past = c.in-Ok.ensures.reads.past;
-    }))
+    (λ unchanged. subst (λ repo. OnlyReads (D.state c.args.disk)
+    (D.state (disk_of repo.keeper))) (sym unchanged)
+    c.in-Ok.ensures.reads.only)
     c.import_demo-status.ensures.unread
     (record {
       console = c.import_demo-status.ensures.console_fault;
-      disk = λ four. omega (arith, c.in-Ok.ensures.later, c.import_demo-status.ensures.disk_fault four);
+      disk = λ four. omega (arith, c.in-Ok.ensures.reads.later, c.import_demo-status.ensures.calls.rose four);
     }))))
 
-pub returns-in-Ok-clause-past : goal.returns-in-Ok-clause-past
-returns-in-Ok-clause-past g c = rw c.into_disk.ensures
-    (rw c.into_keeper.ensures (passes_on _ _ _ _ _ _ c.in-Ok.ensures.reads.past c.import_demo-status.ensures.past))
+pub returns-in-Ok-clause-later : goal.returns-in-Ok-clause-later
+returns-in-Ok-clause-later g c = rw c.into_disk.ensures
+    (rw c.into_keeper.ensures (later_then _ _ _ (later_read _ _ _ c.in-Ok.ensures.reads)
+    (later_called _ _ _ c.import_demo-status.ensures.calls)))
 
 pub returns-in-Err-clause-does : goal.returns-in-Err-clause-does
-returns-in-Err-clause-does g c =
-    let C = g.C.Link in
-    let D = g.D.Disk in
-    rw c.exit_code-in-Err.ensures
-    (inl (early c.in-Err.field-0.fault (exit_code c.say_why.result)
-    (console_of C.left C.sent C.faults c.args.console.now) (console_of C.left C.sent C.faults c.say_why.new.console)
-    (disk_of D.seen D.moment D.left_at D.faults c.args.disk)
-    (disk_of D.seen D.moment D.left_at D.faults c.in-Err.field-0.disk)
-    c.in-Err.ensures.cause c.in-Err.ensures.failed c.say_why.ensures.says
-    c.say_why.ensures.unread c.say_why.ensures.silent
-    (record {
-      seen = c.in-Err.ensures.reads.same;
-      images = c.in-Err.ensures.reads.images;
-      past = c.in-Err.ensures.reads.past;
-    })))
+returns-in-Err-clause-does g c = inl (c.end_early.ensures.early c.args.disk c.in-Err.ensures.cause c.in-Err.ensures.reads)
 
 pub returns-in-Err-clause-statuses : goal.returns-in-Err-clause-statuses
 returns-in-Err-clause-statuses g c =
-    rw c.exit_code-in-Err.ensures (early_status (exit_code c.say_why.result) c.say_why.ensures.statuses)
+    early_status c.end_early.result.status c.end_early.ensures.statuses

@@ -1,7 +1,6 @@
 use Rattle.std.proofs.Common.{◌∙◌, ap, sym, subst}
 use Rattle.aas_environment.specs.declared.import_fault.ImportFault.{ImportFault}
 use Rattle.aas_server.specs.Answer.{disk_failed, journal_full, refused}
-use Rattle.aas_server.specs.Ends.{console_of}
 use Rattle.aas_server.specs.Importing.{IsFaultAnswer}
 use Rattle.aas_server.specs.Status.{exit_code}
 use Rattle.aas_server.proofs.Given.{refused_import_status, says_line, says_refused, says_weaker}
@@ -13,27 +12,27 @@ returns-in-Read-clause-says g c = let C = g.C.Link in
     (λ answer is.
     subst (λ (f : ImportFault). IsFaultAnswer f answer) (sym c.in-Read.is) (is ∙ ap refused c.from.ensures))
     (says_refused c.from.result (exit_code c.end_refused.result)
-    (console_of C.left C.sent C.faults c.args.console.now) (console_of C.left C.sent C.faults c.end_refused.new.link)
-    c.end_refused.ensures.given c.end_refused.ensures.front c.end_refused.ensures.fault
-    (λ ten. ap C.sent (c.end_refused.ensures.memory ten)) c.end_refused.ensures.statuses)
+    (C.state c.args.console.now) (C.state c.end_refused.new.link)
+    c.end_refused.ensures.given c.end_refused.ensures.front c.end_refused.ensures.gives.calls.rose
+    (λ ten. ap (λ (l : g.row.C.Denot). (C.state l).sent) (c.end_refused.ensures.memory ten)) c.end_refused.ensures.statuses)
 
 pub returns-in-Full-clause-says : goal.returns-in-Full-clause-says
 returns-in-Full-clause-says g c = let C = g.C.Link in
     says_weaker _ (IsFaultAnswer c.args.fault) _ _ _
     (λ answer is. subst (λ (f : ImportFault). IsFaultAnswer f answer) (sym c.in-Full.is) is)
     (says_line journal_full (exit_code c.end_with.result)
-    (console_of C.left C.sent C.faults c.args.console.now) (console_of C.left C.sent C.faults c.end_with.new.link)
-    (λ e. cc) c.end_with.ensures.given c.end_with.ensures.front c.end_with.ensures.fault c.end_with.ensures.statuses)
+    (C.state c.args.console.now) (C.state c.end_with.new.link)
+    (λ e. cc) c.end_with.ensures.given c.end_with.ensures.front c.end_with.ensures.gives.calls.rose c.end_with.ensures.statuses)
 
 pub returns-in-Storage-clause-says : goal.returns-in-Storage-clause-says
 returns-in-Storage-clause-says g c = let C = g.C.Link in
     says_weaker _ (IsFaultAnswer c.args.fault) _ _ _
     (λ answer is. subst (λ (f : ImportFault). IsFaultAnswer f answer) (sym c.in-Storage.is) is)
     (says_line disk_failed (exit_code c.end_with-in-Storage.result)
-    (console_of C.left C.sent C.faults c.args.console.now)
-    (console_of C.left C.sent C.faults c.end_with-in-Storage.new.link)
+    (C.state c.args.console.now)
+    (C.state c.end_with-in-Storage.new.link)
     (λ e. cc) c.end_with-in-Storage.ensures.given
-    c.end_with-in-Storage.ensures.front c.end_with-in-Storage.ensures.fault
+    c.end_with-in-Storage.ensures.front c.end_with-in-Storage.ensures.gives.calls.rose
     c.end_with-in-Storage.ensures.statuses)
 
 pub returns-in-Read-clause-statuses : goal.returns-in-Read-clause-statuses

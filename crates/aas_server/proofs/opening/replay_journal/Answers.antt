@@ -1,5 +1,5 @@
 use Rattle.aas_server.proofs.Early.{replay_cause}
-use Rattle.aas_server.proofs.opening.replayed.Goals as goal
+use Rattle.aas_server.proofs.opening.replay_journal.Goals as goal
 
 pub returns-in-Err-clause-cause : goal.returns-in-Err-clause-cause
 returns-in-Err-clause-cause g c = λ payloads kept.
