@@ -1,7 +1,8 @@
 -- The environment of some chosen documents (IDTA-01002-3-0, Serialization Interface, GenerateSerializationByIds): each document that is asked
 -- for, once, in the byte order of identifiers, and with them the concept descriptions that they take along, or none. The order, which document
 -- is missing first, and what is taken along, are this profile's own rules.
-use Rattle.std.specs.Prelude.{ℕ, Bool, not, List, ◌++◌, flat_map, if◌then◌else◌, Option, Some, None, option_map, Result, Ok, Err}
+use Rattle.std.specs.Prelude.{ℕ, Bool, not, List, ◌++◌, flat_map, if◌then◌else◌, Option, Some, None, option_map}
+use Rattle.std.specs.Prelude.{Result, Ok, Err}
 use Rattle.std.specs.FinMap as map
 use Rattle.std.specs.List.{filter_map, find, fold}
 use Rattle.std.specs.Option.{option_or}
@@ -35,10 +36,12 @@ documents_of m s = filter_map (map.get m) (map.keys s)
 
 -- the references that name concept descriptions, of all documents that are chosen
 abbrev pub roots_of : Documents → Set → Set → List Reference
-roots_of m shells submodels = flat_map (shell_roots_at m) (map.keys shells) ++ flat_map (submodel_roots_at m) (map.keys submodels)
+roots_of m shells submodels = flat_map (shell_roots_at m) (map.keys shells)
+    ++ flat_map (submodel_roots_at m) (map.keys submodels)
 
 abbrev pub concepts_along : Documents → Bool → Set → Set → Set
-concepts_along m concepts shells submodels = if concepts then concept_closure m (roots_of m shells submodels) else map.empty
+concepts_along m concepts shells submodels = if concepts then concept_closure m (roots_of m shells submodels)
+    else map.empty
 
 abbrev pub choice_of : Documents → List (List ℕ) → List (List ℕ) → Bool → Chosen
 choice_of m shells submodels concepts = record {
@@ -62,7 +65,8 @@ first_absent m c ids = find (λ id. not (has c (encode_utf8_all id) m)) ids
 
 abbrev pub fault_of : Documents → List (List ℕ) → List (List ℕ) → Option GatherFault
 fault_of m shells submodels =
-    option_or (option_map (λ id. NoShell id) (first_absent m Shells shells)) (option_map (λ id. NoSubmodel id) (first_absent m Submodels submodels))
+    option_or (option_map (λ id. NoShell id) (first_absent m Shells shells))
+    (option_map (λ id. NoSubmodel id) (first_absent m Submodels submodels))
 
 abbrev pub unless : {A : Type 0} → Option GatherFault → A → Result A GatherFault
 unless None a = Ok a
@@ -74,4 +78,5 @@ abbrev pub chosen : Documents → List (List ℕ) → List (List ℕ) → Bool �
 chosen m shells submodels concepts = unless (fault_of m shells submodels) (choice_of m shells submodels concepts)
 
 abbrev pub gathered : Documents → List (List ℕ) → List (List ℕ) → Bool → Result Environment GatherFault
-gathered m shells submodels concepts = unless (fault_of m shells submodels) (chosen_environment m (choice_of m shells submodels concepts))
+gathered m shells submodels concepts =
+    unless (fault_of m shells submodels) (chosen_environment m (choice_of m shells submodels concepts))

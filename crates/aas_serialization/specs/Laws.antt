@@ -7,4 +7,5 @@ use Rattle.aas_serialization.specs.Reaches.{Set}
 
 -- there is exactly one set of what is taken along
 abbrev pub ClosuresAreOne : Type 0
-ClosuresAreOne = (m : Documents) (roots : List Reference) → IsClosure m roots (concept_closure m roots) × ((s : Set) → IsClosure m roots s → s ≡ concept_closure m roots)
+ClosuresAreOne = (m : Documents) (roots : List Reference) → IsClosure m roots (concept_closure m roots)
+    × ((s : Set) → IsClosure m roots s → s ≡ concept_closure m roots)

@@ -43,7 +43,8 @@ own_roots _ = []
 -- an element without those below it
 abbrev pub element_roots : Common → Payload → List Reference
 element_roots c payload =
-    semantics_roots c.semantics ++ flat_map qualifier_roots c.qualifiers ++ flat_map extension_roots c.extensions ++ own_roots payload
+    semantics_roots c.semantics ++ flat_map qualifier_roots c.qualifiers ++ flat_map extension_roots c.extensions
+    ++ own_roots payload
 
 abbrev pub line_roots : Line → List Reference
 line_roots l = element_roots l.common l.payload
@@ -55,7 +56,8 @@ shell_roots s = flat_map extension_roots s.head.extensions ++ flat_map asset_id_
 
 -- a submodel without its elements
 abbrev pub head_roots : Submodel → List Reference
-head_roots d = semantics_roots d.semantics ++ flat_map qualifier_roots d.qualifiers ++ flat_map extension_roots d.head.extensions
+head_roots d = semantics_roots d.semantics ++ flat_map qualifier_roots d.qualifiers
+    ++ flat_map extension_roots d.head.extensions
 
 -- a submodel with its elements at every level
 abbrev pub submodel_roots : Submodel → List Reference

@@ -1,5 +1,6 @@
 -- Which child of a template a child of an instance belongs to: that with the longest of the idShorts that admit it. This profile's own rule.
-use Rattle.std.specs.Prelude.{ℕ, ◌==◌, nat_le, nat_lt, Bool, true, false, not, ◌&&◌, ◌||◌, List, [], ◌∷◌, length, bytes_eq, unwrap_or}
+use Rattle.std.specs.Prelude.{ℕ, ◌==◌, nat_le, nat_lt, Bool, true, false, not, ◌&&◌, ◌||◌, List, [], ◌∷◌, length}
+use Rattle.std.specs.Prelude.{bytes_eq, unwrap_or}
 use Rattle.std.specs.List.{list_all, list_any}
 use Rattle.aas_model.specs.declared.element.Role.{Role}
 use Rattle.aas_model.specs.declared.element.Role.TheVariants.{Member, Annotation, Statement, Input, Output, Inoutput}
@@ -36,7 +37,9 @@ may_repeat t = is_many (cardinality One t.common.qualifiers)
 
 -- t, of a template, admits the child k of an instance: k has the idShort of t, or where t may repeat that idShort with a number
 abbrev pub admits : Own → Own → Bool
-admits t k = same_role t.role k.role && (bytes_eq (id_short t) (id_short k) || (may_repeat t && is_numbered (id_short t) (id_short k)))
+admits t k =
+    same_role t.role k.role &&
+    (bytes_eq (id_short t) (id_short k) || (may_repeat t && is_numbered (id_short t) (id_short k)))
 
 -- u admits k too, by a longer idShort
 abbrev pub admits_closer : Own → Own → Own → Bool

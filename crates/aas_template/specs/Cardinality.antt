@@ -1,6 +1,7 @@
 -- How many elements of an instance may belong to an element of its template: the qualifier SMT/Cardinality of the submodel templates of the IDTA, which
 -- older ones call Cardinality or Multiplicity. This profile's own rule where a template says nothing of it.
-use Rattle.std.specs.Prelude.{ℕ, ◌==◌, nat_le, Bool, true, false, ◌||◌, if◌then◌else◌, List, codes, bytes_eq, Option, Some, None, option_and_then, unwrap_or}
+use Rattle.std.specs.Prelude.{ℕ, ◌==◌, nat_le, Bool, true, false, ◌||◌, if◌then◌else◌, List, codes, bytes_eq, Option}
+use Rattle.std.specs.Prelude.{Some, None, option_and_then, unwrap_or}
 use Rattle.std.specs.List.{find}
 use Rattle.std.specs.Str.{encode_utf8_all}
 use Rattle.aas_model.specs.declared.parts.Qualifier.{Qualifier}

@@ -1,5 +1,6 @@
 -- What is told of an instance beside its template, a submodel of kind Template. Its paths are those of the instance. This profile's own rule.
-use Rattle.std.specs.Prelude.{ℕ, ◌+◌, Bool, true, false, ◌&&◌, if◌then◌else◌, List, [], ◌∷◌, ◌++◌, length, map, filter, flat_map, bytes_eq, Option, Some, None}
+use Rattle.std.specs.Prelude.{ℕ, ◌+◌, Bool, true, false, ◌&&◌, if◌then◌else◌, List, [], ◌∷◌, ◌++◌, length, map}
+use Rattle.std.specs.Prelude.{filter, flat_map, bytes_eq, Option, Some, None}
 use Rattle.aas_model_names.specs.ElementNameNames as element_name
 use Rattle.aas_model_names.specs.declared.element_name.ElementName.{ElementName}
 use Rattle.aas_model_names.specs.declared.value_type.ValueType.{ValueType}
@@ -22,7 +23,8 @@ use Rattle.aas_template.specs.Cardinality.{allows, cardinality}
 use Rattle.aas_template.specs.declared.cardinality.Cardinality.TheVariants.{One, ZeroToMany}
 use Rattle.aas_template.specs.declared.difference.Difference.{Difference}
 use Rattle.aas_template.specs.declared.difference.Reason.{Reason}
-use Rattle.aas_template.specs.declared.difference.Reason.TheVariants.{KindDiffers, TypeDiffers, SemanticDiffers, CountDiffers}
+use Rattle.aas_template.specs.declared.difference.Reason.TheVariants.{KindDiffers, TypeDiffers, SemanticDiffers}
+use Rattle.aas_template.specs.declared.difference.Reason.TheVariants.{CountDiffers}
 
 -- ---- words
 
@@ -83,7 +85,8 @@ list_differences t n (k ∷ ks) = map (under (Place n)) (t.differences_of k) ++ 
 -- of the children of a list, of which each is to be as this one
 abbrev pub differences_from_one : Compared → List Element → List Difference
 differences_from_one t ks =
-    unless (allows (cardinality ZeroToMany t.own.common.qualifiers) (length ks)) (difference [] CountDiffers) ++ list_differences t 0 ks
+    unless (allows (cardinality ZeroToMany t.own.common.qualifiers) (length ks)) (difference [] CountDiffers)
+    ++ list_differences t 0 ks
 
 -- the first child of the list in the template tells what each child in the instance is to be
 abbrev pub differences_in_list : List Compared → List Element → List Difference
@@ -97,7 +100,8 @@ named_differences t k = map (under (Name (id_short (own_of k)))) (t.differences_
 -- of those that belong to t
 abbrev pub group_differences : Compared → List Element → List Difference
 group_differences t ks =
-    unless (allows (cardinality One t.own.common.qualifiers) (length ks)) (difference (Name (id_short t.own) ∷ []) CountDiffers)
+    unless (allows (cardinality One t.own.common.qualifiers) (length ks))
+    (difference (Name (id_short t.own) ∷ []) CountDiffers)
     ++ flat_map (named_differences t) ks
 
 -- those of ks that belong to t, one of the children ts of the template
@@ -116,7 +120,8 @@ abbrev pub differences_beside : Own → List Compared → Element → List Diffe
 differences_beside o ts k =
     if same_kind o.payload (own_of k).payload
     then unless (same_types o.payload (own_of k).payload) (difference [] TypeDiffers)
-    ++ unless (means_the_same o.common.semantics.semantic_id (own_of k).common.semantics.semantic_id) (difference [] SemanticDiffers)
+    ++ unless (means_the_same o.common.semantics.semantic_id (own_of k).common.semantics.semantic_id)
+    (difference [] SemanticDiffers)
     ++ differences_below o.payload ts (kids_of k)
     else difference [] KindDiffers ∷ []
 

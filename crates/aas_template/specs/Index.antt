@@ -1,5 +1,6 @@
 -- The children of a template by their idShorts.
-use Rattle.std.specs.Prelude.{◌≡◌, ℕ, ◌<◌, ◌==◌, Bool, true, false, List, [], ◌∷◌, ◌++◌, slice_get, bytes_eq, chars, Option, Some, None}
+use Rattle.std.specs.Prelude.{◌≡◌, ℕ, ◌<◌, ◌==◌, Bool, true, false, List, [], ◌∷◌, ◌++◌, slice_get, bytes_eq, chars}
+use Rattle.std.specs.Prelude.{Option, Some, None}
 use Rattle.std.specs.BTreeMap.{BTreeMap, get_by}
 use Rattle.std.specs.Cmp.Lexicographic.{slice_cmp}
 use Rattle.std.specs.List.{list_all}
@@ -31,7 +32,8 @@ pub record Stands (ts : List Element) (n j : ℕ) (name : List ℕ) : Type 0 whe
 -- the places of the first n of ts are known by their idShorts, and nothing else
 pub record IsIndex (ts : List Element) (n : ℕ) (m : Places) : Type 0 where
   pub found : (bytes : List ℕ) (j : ℕ) → place_at m bytes ≡ Some j → Stands ts n j (chars bytes)
-  pub known : (j : ℕ) (t : Element) → j < n → slice_get ts j ≡ Some t → place_at m (encode_utf8_all (name_of t)) ≡ Some j
+  pub known : (j : ℕ) (t : Element) → j < n → slice_get ts j ≡ Some t
+      → place_at m (encode_utf8_all (name_of t)) ≡ Some j
 
 abbrev pub is_at : ℕ → Option ℕ → Bool
 is_at j None = false

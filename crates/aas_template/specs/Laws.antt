@@ -12,7 +12,8 @@ abbrev pub DifferBelow : Element → Type 0
 DifferBelow e = (q : List ℕ) (k : Element) → element_in q e ≡ Some k → is_list k ≡ false → Differ (kids_of k)
 
 abbrev pub EachListHasOne : Submodel → Type 0
-EachListHasOne d = (q : List ℕ) (e : Element) → element_in_all q d.kids ≡ Some e → is_list e ≡ true → length (kids_of e) ≤ 1
+EachListHasOne d = (q : List ℕ) (e : Element) → element_in_all q d.kids ≡ Some e → is_list e ≡ true
+    → length (kids_of e) ≤ 1
 
 -- a submodel without faults, as each valid one is, conforms to itself where no list has two children
 abbrev pub ConformToThemselves : Type 0
