@@ -11,10 +11,10 @@ use Rattle.serde_json.specs.Data.{Data, no_items}
 use Rattle.serde_json.specs.Written.{comma_if, compact_text, items_text}
 use Rattle.aas_json_mapping.specs.Documents.{spell_concept, spell_shell, spell_submodel}
 use Rattle.aas_json_table.specs.Spelled.{list_of, onto}
-use Rattle.aas_members_text.specs.Members.{fields_text, later_after}
-use Rattle.aas_members_text.specs.Puts.{PutsFields}
-use Rattle.aas_members_text.specs.Script.{is_any}
-use Rattle.aas_members_text.specs.declared.members.Pen.{Pen}
+use Rattle.aas_json_write_members.specs.Members.{fields_text, later_after}
+use Rattle.aas_json_write_members.specs.Puts.{PutsFields}
+use Rattle.aas_json_write_members.specs.Script.{is_any}
+use Rattle.aas_json_write_members.specs.declared.members.Pen.{Pen}
 use Rattle.aas_model_names.specs.declared.collection.Collection.{Collection}
 use Rattle.aas_model_names.specs.declared.collection.Collection.TheVariants.{Concepts, Shells, Submodels}
 use Rattle.aas_out.specs.Adds.{Adds}

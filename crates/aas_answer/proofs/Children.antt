@@ -18,8 +18,8 @@ use Rattle.aas_out.specs.Told.{Told}
 use Rattle.aas_out.specs.declared.pouring.Pouring.{Pouring}
 use Rattle.aas_out.proofs.Adding.{adds_nothing, adds_same}
 use Rattle.aas_page.specs.declared.filter.Span.{Span}
-use Rattle.aas_pour.specs.Poured.{AreLow, HasRow, text_at}
-use Rattle.aas_pour.proofs.Looking.{past_end, row_there}
+use Rattle.aas_json_write_rows.specs.Poured.{AreLow, HasRow, text_at}
+use Rattle.aas_json_write_rows.proofs.Looking.{past_end, row_there}
 use Rattle.aas_rows.specs.Children.{is_at, nth_where}
 use Rattle.aas_rows.specs.Edits.{count}
 use Rattle.aas_rows.specs.Rows.{Line, line_at, rows_of_all}
@@ -32,7 +32,7 @@ use Rattle.aas_store.proofs.InPlace.{rank_in_place}
 use Rattle.aas_answer.specs.Answers.{Answer, element_shown, places_page, reference_text}
 use Rattle.aas_answer.specs.Children.{IsChildAt, child_from}
 use Rattle.aas_answer.specs.Listed.{child_text}
-use Rattle.aas_pour.specs.Shown.{show_at}
+use Rattle.aas_json_write_rows.specs.Shown.{show_at}
 use Rattle.aas_answer.specs.declared.forms.ChildForm.{ChildForm}
 use Rattle.aas_answer.specs.declared.forms.ChildForm.TheVariants as child
 use Rattle.aas_answer.proofs.Entries.{entry_added}

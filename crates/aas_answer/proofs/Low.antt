@@ -7,7 +7,7 @@ use Rattle.aas_path_trees.specs.Children.{kids_of}
 use Rattle.aas_path_trees.specs.Places.{element_in, element_in_all}
 use Rattle.aas_rows.specs.Rows.{Line, line_at, rows, rows_of_all}
 use Rattle.aas_rows.proofs.Trees.{Every, by_kids, every, rows_out}
-use Rattle.aas_pour.specs.Poured.{AreLow}
+use Rattle.aas_json_write_rows.specs.Poured.{AreLow}
 
 low_first : (x : Line) (xs : List Line) → x.level ≤ 30 → AreLow xs → AreLow (x ∷ xs)
 low_first x xs low more zero r is = let same : x ≡ r = cc in subst (λ (r : Line). r.level ≤ 30) same low

@@ -21,14 +21,14 @@ use Rattle.aas_path_trees.specs.Children.{kids_of}
 use Rattle.aas_rows.specs.Rows.{Line, line_at, rows, rows_of_all, BeginsRows}
 use Rattle.aas_rows.proofs.Ranked.{StandsAt}
 use Rattle.aas_rows.proofs.Trees.{begins_more, rows_out}
-use Rattle.aas_members_text.specs.Script.{Spoken, element_text}
-use Rattle.aas_members_text.specs.Texts.{shown, spoken}
-use Rattle.aas_members_text.specs.declared.members.Show.{Show}
-use Rattle.aas_members_text.proofs.Trees.{canonical}
-use Rattle.aas_pour.specs.Poured.{AreLow, HasRow, if_row, kids_at, text_at, voices}
-use Rattle.aas_pour.specs.Shown.{show_at}
-use Rattle.aas_pour.proofs.FromTrees.{rows_give_texts, spoken_out, no_more}
-use Rattle.aas_pour.proofs.Shown.{element_is_shown, low_left, low_right}
+use Rattle.aas_json_write_members.specs.Script.{Spoken, element_text}
+use Rattle.aas_json_write_members.specs.Texts.{shown, spoken}
+use Rattle.aas_json_write_members.specs.declared.members.Show.{Show}
+use Rattle.aas_json_write_members.proofs.Trees.{canonical}
+use Rattle.aas_json_write_rows.specs.Poured.{AreLow, HasRow, if_row, kids_at, text_at, voices}
+use Rattle.aas_json_write_rows.specs.Shown.{show_at}
+use Rattle.aas_json_write_rows.proofs.FromTrees.{rows_give_texts, spoken_out, no_more}
+use Rattle.aas_json_write_rows.proofs.Shown.{element_is_shown, low_left, low_right}
 use Rattle.aas_store.specs.Documents.{Documents}
 use Rattle.aas_store.specs.Edited.{Holds}
 use Rattle.aas_store.specs.Spots.{rank_at}

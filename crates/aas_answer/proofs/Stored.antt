@@ -9,8 +9,8 @@ use Rattle.aas_model.specs.declared.documents.Submodel.{Submodel}
 use Rattle.aas_model.specs.declared.element.Element.{Element, roll-Element}
 use Rattle.aas_model_names.specs.declared.modifiers.Extent.{Extent}
 use Rattle.aas_model_names.specs.declared.modifiers.Level.{Level}
-use Rattle.aas_pour.specs.Poured.{AreLow}
-use Rattle.aas_pour.specs.Submodels.{with_elements}
+use Rattle.aas_json_write_rows.specs.Poured.{AreLow}
+use Rattle.aas_json_write_rows.specs.Submodels.{with_elements}
 use Rattle.aas_rows.specs.Rows.{Line, line_at, rows_of_all}
 use Rattle.aas_step.specs.Laws.{ValidIsStorable}
 use Rattle.aas_step.specs.Valid.{AreValid}

@@ -9,8 +9,8 @@ use Rattle.aas_model_names.specs.declared.collection.Collection.{Collection}
 use Rattle.aas_model_names.specs.declared.collection.Collection.TheVariants.{Shells, Submodels, Concepts}
 use Rattle.aas_model_names.specs.declared.modifiers.Extent.{Extent}
 use Rattle.aas_model_names.specs.declared.modifiers.Level.{Level}
-use Rattle.aas_pour.specs.Poured.{if_row, text_at}
-use Rattle.aas_pour.specs.Shown.{show_at}
+use Rattle.aas_json_write_rows.specs.Poured.{if_row, text_at}
+use Rattle.aas_json_write_rows.specs.Shown.{show_at}
 use Rattle.aas_rows.specs.Rows.{Line}
 use Rattle.aas_store.specs.Documents.{Documents, Identifier}
 use Rattle.aas_answer.specs.Answers.{submodel_shown}

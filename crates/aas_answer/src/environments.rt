@@ -3,7 +3,7 @@ ghost use Rattle.std.specs.Prelude.{◌≡◌, ◌⊎◌, ◌∷◌, ◌||◌, [
 ghost use Rattle.aas_command.specs.declared.refusal.Refusal.TheVariants as refused;
 ghost use Rattle.aas_json_mapping.specs.Trees.{environments};
 ghost use Rattle.aas_json_spelling.specs.Spells.{canonical_text};
-ghost use Rattle.aas_members_text.specs.Puts.{PutsFields};
+ghost use Rattle.aas_json_write_members.specs.Puts.{PutsFields};
 ghost use Rattle.aas_out.specs.Adds.{Adds};
 ghost use Rattle.aas_serialization.specs.Chosen.{chosen_environment, gathered};
 ghost use Rattle.aas_step.specs.Valid.{AreValid};
@@ -14,7 +14,7 @@ ghost use Rattle.aas_answer.specs.Arrays.{array_end, before_entry, entry_text, l
 use crate::pouring::pour_document;
 use aas_command::{Absent, Refusal};
 use aas_json_table::name;
-use aas_members_text::{Pen, begin_object, comma_of, end_object};
+use aas_json_write_members::{Pen, begin_object, comma_of, end_object};
 use aas_model::{Collection, Extent, Level, Many, Text};
 use aas_out::{Out, Pouring, add_text};
 use aas_serialization::{Chosen, GatherFault, choose};

@@ -9,7 +9,7 @@ ghost use Rattle.aas_answer.specs.Answers.{ids_page};
 use crate::page_text::{after, document_cursor, end_page, pour_begin, pour_listed};
 use aas_command::Refusal;
 use aas_discovery::Lookup;
-use aas_members_text::Texts;
+use aas_json_write_members::Texts;
 use aas_model::{Many, NoMemory, SpecificAssetId, Text};
 use aas_out::{Pouring, TextOut};
 use aas_page::Page;

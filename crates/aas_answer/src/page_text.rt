@@ -11,7 +11,7 @@ ghost use Rattle.aas_out.specs.Adds.{Adds};
 ghost use Rattle.aas_out.specs.declared.pouring.Pouring.TheVariants.{Going};
 ghost use Rattle.aas_answer.specs.Answers.{cursor_text, page_begin};
 
-use aas_members_text::{Poured, comma_of};
+use aas_json_write_members::{Poured, comma_of};
 use aas_model::{Many, NoMemory, Text};
 use aas_out::{Out, Pouring, TextOut, add, add_text};
 use aas_page::{Page, Span, id_to_segment};

@@ -12,7 +12,7 @@ ghost use Rattle.aas_answer.specs.Plans.{entry_text, listing_text, plan_text};
 use crate::environments::pour_environment;
 use crate::page_text::{pour_begin, text_of};
 use crate::pouring::pour_document;
-use aas_members_text::comma_of;
+use aas_json_write_members::comma_of;
 use aas_model::{Collection, Extent, Level, Many, NoMemory, Text};
 use aas_out::{Failed, Out, Pour, Pouring, TextOut, add_text, measure};
 use aas_serialization::Chosen;

@@ -4,7 +4,7 @@ ghost use Rattle.aas_rows.specs.Children.{is_at, nth_where};
 ghost use Rattle.aas_rows.specs.Rows.{rows_of_all};
 ghost use Rattle.aas_answer.specs.Children.{child_from};
 
-use aas_pour::Rows;
+use aas_json_write_rows::Rows;
 use aas_rows::RowView;
 use aas_store::Table;
 use std::marker::Model;

@@ -23,7 +23,7 @@ pub(crate) fn front_of(bytes: &[u8], most: u32) -> Front
 {
     ends_by_itself();
     match next_request(bytes) {
-        Step::More => Front::Awaits(awaited(bytes)),
+        Step::More => Front::Awaits(awaited_size(bytes)),
         Step::Bad => Front::Refused,
         Step::TooLarge => Front::Refused,
         Step::NotImplemented => Front::Refused,
@@ -32,7 +32,7 @@ pub(crate) fn front_of(bytes: &[u8], most: u32) -> Front
 }
 
 /// Below how many bytes no whole request is there.
-fn awaited(bytes: &[u8]) -> usize
+fn awaited_size(bytes: &[u8]) -> usize
     requires { IsUnfinished bytes.now }
     ensures more { length bytes.now < result }
     ensures unfinished { IsUnfinishedBelow result bytes.now }

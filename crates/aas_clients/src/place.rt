@@ -183,7 +183,7 @@ impl<S: Socket> Place<S> {
     fn parts(&mut self, piece: &mut [u8], now: u64)
         ensures { is_open self.new ≡ false }
     {
-        *self = parted(mem::replace(self, Place::Free), piece, now);
+        *self = part(mem::replace(self, Place::Free), piece, now);
     }
 
     /// More of its client may lie here.
@@ -232,7 +232,7 @@ impl<S: Socket> Place<S> {
 }
 
 /// What lies at a place whose client is no longer answered: what it still does at once is done.
-fn parted<S: Socket>(place: Place<S>, piece: &mut [u8], now: u64) -> Place<S>
+fn part<S: Socket>(place: Place<S>, piece: &mut [u8], now: u64) -> Place<S>
     ensures { is_open result ≡ false }
 {
     match place {

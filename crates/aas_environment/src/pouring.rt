@@ -12,7 +12,7 @@ ghost use Rattle.aas_environment.specs.Members.{has_member, member_text, name_te
 
 use crate::members::name_of;
 use aas_answer::pour_document;
-use aas_members_text::{Pen, comma_of};
+use aas_json_write_members::{Pen, comma_of};
 use aas_model::{Collection, Extent, Level, NoMemory};
 use aas_out::{Pouring, StringOut, TextEnd, add_text};
 use aas_store::Store;

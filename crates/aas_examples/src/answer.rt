@@ -1,10 +1,10 @@
-use crate::changes::{Work, parsed, patched, worked};
-use crate::document::{read_at_level, written};
+use crate::changes::{Work, answer_work, patch_document, print_parsed};
+use crate::document::{read_at_level, write_document};
 use crate::faults::fault_of;
 use crate::forms::form_of;
-use crate::modifiers::{Modifier, paths_at, reference_at, shown};
+use crate::modifiers::{Modifier, form_text, paths_at, reference_at};
 use crate::parts::{part_of, sameness};
-use crate::poured::poured;
+use crate::poured::pour_document;
 use crate::text::{text, text_of};
 use aas_command::Refusal;
 use aas_model::{
@@ -15,14 +15,14 @@ use std::alloc::Global;
 
 /// What a call gives for an input, or the text of its refusal.
 pub(crate) fn answer(alloc: Global, call: &str, input: &str) -> Result<String, NoMemory> {
-    match called(alloc, call, input) {
+    match answer_call(alloc, call, input) {
         Ok(given) => Ok(given),
         Err(Refusal::NoMemory) => Err(NoMemory),
         Err(refusal) => text_of(alloc, refusal.text(alloc)?),
     }
 }
 
-fn called(alloc: Global, call: &str, input: &str) -> Result<String, Refusal> {
+fn answer_call(alloc: Global, call: &str, input: &str) -> Result<String, Refusal> {
     match call {
         "fault of element" => fault_of::<Element>(alloc, input),
         "fault of submodel" => fault_of::<Submodel>(alloc, input),
@@ -43,12 +43,12 @@ fn called(alloc: Global, call: &str, input: &str) -> Result<String, Refusal> {
         "value" => form_of::<Element>(alloc, input, Extent::WithBlobValue),
         "value without blobs" => form_of::<Element>(alloc, input, Extent::WithoutBlobValue),
         "value of submodel" => form_of::<Submodel>(alloc, input, Extent::WithBlobValue),
-        _ => modified(alloc, call, input),
+        _ => answer_modifier(alloc, call, input),
     }
 }
 
 /// The same of the calls of modifiers.
-fn modified(alloc: Global, call: &str, input: &str) -> Result<String, Refusal> {
+fn answer_modifier(alloc: Global, call: &str, input: &str) -> Result<String, Refusal> {
     match call {
         "metadata" => shown::<Element>(alloc, Modifier::Metadata, input),
         "core" => shown::<Element>(alloc, Modifier::Core, input),
@@ -65,14 +65,14 @@ fn called_at(alloc: Global, call: &str, input: &str) -> Result<String, Refusal> 
     let (place, json) = input.split_once('\t').unwrap_or((input, ""));
     match call {
         "read element" => read_at_level(alloc, place, json),
-        "path" => parsed(alloc, place),
+        "path" => print_parsed(alloc, place),
         "reference" => reference_at(alloc, place, json),
         "paths" => paths_at(alloc, place, json),
-        "find" => worked(alloc, Work::Find, place, json),
-        "insert" => worked(alloc, Work::Insert, place, json),
-        "replace" => worked(alloc, Work::Replace, place, json),
-        "remove" => worked(alloc, Work::Remove, place, json),
-        "lend" => worked(alloc, Work::Lend, place, json),
+        "find" => answer_work(alloc, Work::Find, place, json),
+        "insert" => answer_work(alloc, Work::Insert, place, json),
+        "replace" => answer_work(alloc, Work::Replace, place, json),
+        "remove" => answer_work(alloc, Work::Remove, place, json),
+        "lend" => answer_work(alloc, Work::Lend, place, json),
         "patch" => patched::<Submodel>(alloc, rank_of(place), json),
         "patch below" => patched::<Element>(alloc, rank_of(place), json),
         _ => of_texts(alloc, call, input),

@@ -26,41 +26,46 @@ pub(crate) enum Work {
 }
 
 /// The path that the text writes, printed.
-pub(crate) fn parsed(alloc: Global, path: &str) -> Result<String, Refusal> {
+pub(crate) fn print_parsed(alloc: Global, path: &str) -> Result<String, Refusal> {
     let path = parse_path(alloc, path.as_bytes())?;
-    Ok(printed(alloc, &path)?)
+    Ok(print_path(alloc, &path)?)
 }
 
-fn printed(alloc: Global, path: &Path) -> Result<String, NoMemory> {
+fn print_path(alloc: Global, path: &Path) -> Result<String, NoMemory> {
     let mut out = Vec::new(alloc);
     print_path(path, &mut out)?;
     text_of(alloc, out)
 }
 
 /// What the work at the path gives: what is found, or what the submodel is afterwards.
-pub(crate) fn worked(alloc: Global, work: Work, path: &str, json: &str) -> Result<String, Refusal> {
+pub(crate) fn answer_work(
+    alloc: Global,
+    work: Work,
+    path: &str,
+    json: &str,
+) -> Result<String, Refusal> {
     let path = parse_path(alloc, path.as_bytes())?;
-    worked_at(alloc, work, &path, json)
+    answer_work_at(alloc, work, &path, json)
 }
 
-fn worked_at(alloc: Global, work: Work, path: &Path, json: &str) -> Result<String, Refusal> {
+fn answer_work_at(alloc: Global, work: Work, path: &Path, json: &str) -> Result<String, Refusal> {
     let mut submodel = Submodel::read(alloc, json)?;
-    worked_in(alloc, work, &mut submodel, path)
+    answer_work_in(alloc, work, &mut submodel, path)
 }
 
-fn worked_in(
+fn answer_work_in(
     alloc: Global,
     work: Work,
     submodel: &mut Submodel,
     path: &Path,
 ) -> Result<String, Refusal> {
     match work {
-        Work::Insert => inserted(alloc, submodel, path),
+        Work::Insert => insert_demo(alloc, submodel, path),
         _ if path.steps.is_empty() => Ok(text(alloc, "empty path")?),
-        Work::Find => found(alloc, submodel, path),
-        Work::Replace => replaced(alloc, submodel, path),
-        Work::Remove => removed(alloc, submodel, path),
-        Work::Lend => lent(alloc, submodel, path),
+        Work::Find => element_found(alloc, submodel, path),
+        Work::Replace => replace_demo(alloc, submodel, path),
+        Work::Remove => remove_element(alloc, submodel, path),
+        Work::Lend => lend_element(alloc, submodel, path),
     }
 }
 
@@ -68,11 +73,11 @@ pub(crate) fn missing(alloc: Global, missing: &Missing) -> Result<String, Refusa
     Ok(format!(in alloc; "missing after {}", missing.steps)?)
 }
 
-fn changed(alloc: Global, submodel: &Submodel) -> Result<String, Refusal> {
+fn submodel_after(alloc: Global, submodel: &Submodel) -> Result<String, Refusal> {
     submodel.form(alloc, Extent::WithBlobValue)
 }
 
-fn found(alloc: Global, submodel: &Submodel, path: &Path) -> Result<String, Refusal>
+fn element_found(alloc: Global, submodel: &Submodel, path: &Path) -> Result<String, Refusal>
     requires { 0 < length path.now.steps }
 {
     match at(submodel, path) {
@@ -81,42 +86,42 @@ fn found(alloc: Global, submodel: &Submodel, path: &Path) -> Result<String, Refu
     }
 }
 
-fn inserted(alloc: Global, submodel: &mut Submodel, path: &Path) -> Result<String, Refusal> {
+fn insert_demo(alloc: Global, submodel: &mut Submodel, path: &Path) -> Result<String, Refusal> {
     match insert(submodel, path, new_element(alloc)?) {
-        Ok(()) => changed(alloc, submodel),
+        Ok(()) => submodel_after(alloc, submodel),
         Err(InsertFault::Missing(lack)) => missing(alloc, &lack),
         Err(InsertFault::NotAContainer) => Err(Refusal::NotAContainer),
         Err(InsertFault::NoMemory) => Err(Refusal::NoMemory),
     }
 }
 
-fn replaced(alloc: Global, submodel: &mut Submodel, path: &Path) -> Result<String, Refusal>
+fn replace_demo(alloc: Global, submodel: &mut Submodel, path: &Path) -> Result<String, Refusal>
     requires { 0 < length path.now.steps }
 {
     match done(replace(submodel, path, new_element(alloc)?)) {
-        Ok(()) => changed(alloc, submodel),
+        Ok(()) => submodel_after(alloc, submodel),
         Err(ReplaceFault::Missing(lack)) => missing(alloc, &lack),
         Err(ReplaceFault::NotAContainer) => Err(Refusal::NotAContainer),
     }
 }
 
-fn removed(alloc: Global, submodel: &mut Submodel, path: &Path) -> Result<String, Refusal>
+fn remove_element(alloc: Global, submodel: &mut Submodel, path: &Path) -> Result<String, Refusal>
     requires { 0 < length path.now.steps }
 {
     match done(remove(submodel, path)) {
-        Ok(()) => changed(alloc, submodel),
+        Ok(()) => submodel_after(alloc, submodel),
         Err(lack) => missing(alloc, &lack),
     }
 }
 
-fn lent(alloc: Global, submodel: &mut Submodel, path: &Path) -> Result<String, Refusal>
+fn lend_element(alloc: Global, submodel: &mut Submodel, path: &Path) -> Result<String, Refusal>
     requires { 0 < length path.now.steps }
 {
     match at_mut(submodel, path) {
         Ok(element) => put(&mut element.payload, new_payload(alloc)?),
         Err(lack) => return missing(alloc, &lack),
     }
-    changed(alloc, submodel)
+    submodel_after(alloc, submodel)
 }
 
 // Generic, so that no proof looks into what is let go.
@@ -186,7 +191,7 @@ impl Patchable for Element {
 }
 
 /// The value form with a new payload for the element of a rank.
-pub(crate) fn patched<D: Patchable>(
+pub(crate) fn patch_document<D: Patchable>(
     alloc: Global,
     rank: u64,
     json: &str,

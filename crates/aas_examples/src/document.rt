@@ -87,7 +87,7 @@ impl Document for AssetInformation {
 
 /// What a copy of the document is written as: `as sent` where that is
 /// the JSON value that was sent, with its members in byte order.
-pub(crate) fn written<D: Document>(alloc: Global, json: &str) -> Result<String, Refusal> {
+pub(crate) fn write_document<D: Document>(alloc: Global, json: &str) -> Result<String, Refusal> {
     let document = D::read(alloc, json)?;
     as_sent(alloc, json, copy_written(alloc, &document)?)
 }

@@ -57,20 +57,20 @@ impl Formed for Submodel {
 }
 
 /// What is shown of the document in a JSON text.
-pub(crate) fn shown<D: Formed>(
+pub(crate) fn form_text<D: Formed>(
     alloc: Global,
     modifier: Modifier,
     json: &str,
 ) -> Result<String, Refusal> {
     let document = D::read(alloc, json)?;
     match modifier {
-        Modifier::Metadata => told(alloc, &document.metadata(alloc)?),
-        Modifier::Core => told(alloc, &document.core()),
-        Modifier::WithoutBlobs => told(alloc, &document.without_blobs()),
+        Modifier::Metadata => document_text(alloc, &document.metadata(alloc)?),
+        Modifier::Core => document_text(alloc, &document.core()),
+        Modifier::WithoutBlobs => document_text(alloc, &document.without_blobs()),
     }
 }
 
-fn told<D: Document>(alloc: Global, document: &D) -> Result<String, Refusal> {
+fn document_text<D: Document>(alloc: Global, document: &D) -> Result<String, Refusal> {
     let mut out = Vec::new(alloc);
     document.write(alloc, &mut out)?;
     Ok(text_of(alloc, out)?)
@@ -89,10 +89,10 @@ fn path_of(alloc: Global, path: &str) -> Result<Path, Refusal> {
 /// The reference to what a path leads to, as it is written.
 pub(crate) fn reference_at(alloc: Global, path: &str, json: &str) -> Result<String, Refusal> {
     let path = path_of(alloc, path)?;
-    referred(alloc, &Submodel::read(alloc, json)?, &path)
+    reference_text_at(alloc, &Submodel::read(alloc, json)?, &path)
 }
 
-fn referred(alloc: Global, submodel: &Submodel, path: &Path) -> Result<String, Refusal> {
+fn reference_text_at(alloc: Global, submodel: &Submodel, path: &Path) -> Result<String, Refusal> {
     match reference_of(alloc, submodel, path) {
         Ok(reference) => written_reference(alloc, &reference),
         Err(FormFault::Missing(lack)) => missing(alloc, &lack),
@@ -109,18 +109,18 @@ fn written_reference(alloc: Global, reference: &Reference) -> Result<String, Ref
 /// The paths from where a path leads, with blanks between them.
 pub(crate) fn paths_at(alloc: Global, path: &str, json: &str) -> Result<String, Refusal> {
     let path = path_of(alloc, path)?;
-    listed(alloc, &Submodel::read(alloc, json)?, &path)
+    path_list(alloc, &Submodel::read(alloc, json)?, &path)
 }
 
-fn listed(alloc: Global, submodel: &Submodel, path: &Path) -> Result<String, Refusal> {
+fn path_list(alloc: Global, submodel: &Submodel, path: &Path) -> Result<String, Refusal> {
     match paths(alloc, submodel, path) {
-        Ok(paths) => Ok(joined(alloc, &paths)?),
+        Ok(paths) => Ok(join_paths(alloc, &paths)?),
         Err(FormFault::Missing(lack)) => missing(alloc, &lack),
         Err(FormFault::NoMemory) => Err(Refusal::NoMemory),
     }
 }
 
-fn joined(alloc: Global, paths: &Many<Path>) -> Result<String, NoMemory> {
+fn join_paths(alloc: Global, paths: &Many<Path>) -> Result<String, NoMemory> {
     let mut out = Vec::new(alloc);
     for path in paths.as_slice() {
         if !out.is_empty() {

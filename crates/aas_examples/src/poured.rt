@@ -3,7 +3,7 @@
 use crate::document::as_sent;
 use aas_command::Refusal;
 use aas_json_read::{read_concept, read_element, read_shell};
-use aas_members_text::{CanonicalMembers, Members, Pen, Show, pour_concept, pour_shell};
+use aas_json_write_members::{CanonicalMembers, Members, Pen, Show, pour_concept, pour_shell};
 use aas_model::{Concept, Element, ReadFault, Shell};
 use aas_out::{LinkOut, Out, Pouring, add};
 use aas_outside::MemLink;
@@ -66,7 +66,7 @@ impl Pours for Element {
 }
 
 /// What is poured of what is read, into a link on which each call moves 7 bytes at most.
-pub(crate) fn poured<D: Pours>(alloc: Global, json: &str) -> Result<String, Refusal> {
+pub(crate) fn pour_document<D: Pours>(alloc: Global, json: &str) -> Result<String, Refusal> {
     let document = D::read(alloc, json)?;
     let mut link = MemLink::new(alloc, b"", 7, json.len(), &[])?;
     let mut out = LinkOut { link: &mut link };

@@ -19,17 +19,17 @@ use std::alloc::Global;
 const ROOM: u64 = 65_536;
 
 /// A disk with what `init` leaves.
-pub(crate) fn initialised(alloc: Global) -> Result<MemDisk, NoMemory> {
-    holding(alloc, b"AASJ0002\0")
+pub(crate) fn initialised_disk(alloc: Global) -> Result<MemDisk, NoMemory> {
+    disk_with(alloc, b"AASJ0002\0")
 }
 
 /// A disk with this main file alone.
-fn holding(alloc: Global, main: &[u8]) -> Result<MemDisk, NoMemory> {
+fn disk_with(alloc: Global, main: &[u8]) -> Result<MemDisk, NoMemory> {
     MemDisk::new(alloc, main, b"", b"", ROOM as usize, &[], 0)
 }
 
 /// The disk with which the run begins, behind an example that left another.
-pub(crate) fn beginning(alloc: Global, columns: &str, left: &MemDisk) -> Result<MemDisk, NotRun> {
+pub(crate) fn first_disk(alloc: Global, columns: &str, left: &MemDisk) -> Result<MemDisk, NotRun> {
     let files = files(alloc, columns, left)?;
     disk_over(alloc, columns, &files)
 }
@@ -72,8 +72,8 @@ pub(crate) fn unexpected(
 /// The files, without those that other columns give.
 fn files(alloc: Global, columns: &str, left: &MemDisk) -> Result<MemDisk, NotRun> {
     match column(columns, "files") {
-        None => Ok(initialised(alloc)?),
-        Some("empty") => Ok(holding(alloc, b"")?),
+        None => Ok(initialised_disk(alloc)?),
+        Some("empty") => Ok(disk_with(alloc, b"")?),
         Some("old") => Ok(left.crash(alloc, Crash::Old)?),
         Some("new" | "left") => Ok(left.crash(alloc, Crash::New)?),
         Some("ones") => Ok(left.crash(alloc, Crash::Ones)?),

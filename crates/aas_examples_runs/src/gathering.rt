@@ -2,7 +2,7 @@
 // identifiers of the shells, those of the submodels, with commas between them or `-` for none, and `true` where concept
 // descriptions are asked for. The console gets the environment's text, or what is missing.
 use crate::example::Example;
-use crate::keepers::{console, served};
+use crate::keepers::{console, serve_console};
 use crate::not_run::NotRun;
 use aas_json_write::environment_text;
 use aas_model::{Environment, Many, Text};
@@ -56,7 +56,7 @@ fn answer(
     concepts: bool,
 ) -> Result<String, NotRun> {
     let mut console = console(alloc, requests)?;
-    let service = served(alloc, TreeStore::new(alloc), ROOM, &mut console)?;
+    let service = serve_console(alloc, TreeStore::new(alloc), ROOM, &mut console)?;
     match gather(service.repo.store(), shells, submodels, concepts) {
         Ok(environment) => text_of(alloc, &environment),
         Err(GatherFault::NoMemory) => Err(NotRun::NoMemory),

@@ -79,12 +79,12 @@ fn serve_from<S: Store + Drop>(
 ) -> Result<(), NotRun>
     requires { S.documents store ≡ empty }
 {
-    let _served = served(alloc, store, room, console)?;
+    let _served = serve_console(alloc, store, room, console)?;
     Ok(())
 }
 
 /// The repository behind its interface, over the store with an index beside it, after it has served the console.
-pub(crate) fn served<S: Store + Drop>(
+pub(crate) fn serve_console<S: Store + Drop>(
     alloc: Global,
     store: S,
     room: usize,

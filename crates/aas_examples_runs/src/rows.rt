@@ -5,7 +5,7 @@ ghost use Rattle.aas_store.specs.Storable.{IsStorable};
 
 use crate::columns::number_of;
 use crate::example::Example;
-use crate::keepers::{console, served};
+use crate::keepers::{console, serve_console};
 use crate::not_run::NotRun;
 use aas_model::{NoMemory, Path, Payload, Submodel, Text, ValueType};
 use aas_path::parse_path;
@@ -39,7 +39,7 @@ pub(crate) fn failure(
 }
 
 fn keep(alloc: Global, store: &mut SheetStore, requests: &[u8]) -> Result<(), NotRun> {
-    let submodel = stored(alloc, requests)?;
+    let submodel = stored_submodel(alloc, requests)?;
     Ok(store.put_submodel(submodel)?)
 }
 
@@ -51,12 +51,12 @@ fn lend(alloc: Global, store: &mut SheetStore, rank: u64) -> Result<(), NotRun> 
 }
 
 /// The submodel that these requests leave.
-fn stored(alloc: Global, requests: &[u8]) -> Result<Submodel, NotRun>
+fn stored_submodel(alloc: Global, requests: &[u8]) -> Result<Submodel, NotRun>
     ensures { IfOk result (λ submodel. IsStorable submodel) }
 {
     valid_submodels_are_storable();
     let mut console = console(alloc, requests)?;
-    let service = served(alloc, SheetStore::new(alloc), ROOM, &mut console)?;
+    let service = serve_console(alloc, SheetStore::new(alloc), ROOM, &mut console)?;
     match service.repo.store().submodel(ID)? {
         Some(submodel) => Ok(submodel),
         None => Err(NotRun::Unreadable),

@@ -7,7 +7,7 @@
 ghost use Rattle.std.specs.Prelude.{◌≤◌};
 
 use crate::columns::{column, number, number_of, numbers};
-use crate::disk::{initialised, is_after_crash};
+use crate::disk::{initialised_disk, is_after_crash};
 use crate::example::Example;
 use crate::fronts::{Front, fronts};
 use crate::not_run::NotRun;
@@ -64,7 +64,7 @@ impl Runs {
         Ok(Runs {
             kind,
             piece,
-            left: initialised(alloc)?,
+            left: initialised_disk(alloc)?,
         })
     }
 
@@ -136,8 +136,8 @@ impl Runs {
     fn run(&self, alloc: Global, example: &Example<'_>, input: &[u8]) -> Result<Ended, NotRun> {
         let piece = number(example.columns, "piece", self.piece)? as usize;
         let console = console(alloc, example, input, piece.max(1))?;
-        let wire = wire::beginning(alloc, example.columns, piece.max(1))?;
-        let disk = disk::beginning(alloc, example.columns, &self.left)?;
+        let wire = wire::first_wire(alloc, example.columns, piece.max(1))?;
+        let disk = disk::first_disk(alloc, example.columns, &self.left)?;
         Ok(run_on(alloc, self.kind, &example.words, console, wire, disk))
     }
 

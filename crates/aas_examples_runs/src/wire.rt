@@ -16,7 +16,7 @@ use std::alloc::Global;
 const ROOM: usize = 4096;
 
 /// A wire with these visits to come, of which each call moves so many bytes at most.
-pub(crate) fn beginning(alloc: Global, columns: &str, piece: usize) -> Result<MemWire, NotRun>
+pub(crate) fn first_wire(alloc: Global, columns: &str, piece: usize) -> Result<MemWire, NotRun>
     requires { 1 ≤ piece }
 {
     let broken = numbers(alloc, columns, "broken")?;

@@ -8,7 +8,7 @@ mod natives;
 mod passed;
 
 use crate::natives::natives;
-use crate::passed::{Test, passed};
+use crate::passed::{Test, count_word};
 use aas_model_names::{Named, ValueType};
 use aas_model_text::NoMemory;
 use serde_json::Value;
@@ -33,7 +33,7 @@ fn answer_of(alloc: Global, call: &str, texts: &[Value]) -> Result<Option<String
         };
     }
     match Test::from_call(call) {
-        Some(test) => Ok(Some(String::from_str(alloc, passed(test, texts))?)),
+        Some(test) => Ok(Some(String::from_str(alloc, count_word(test, texts))?)),
         None => Ok(None),
     }
 }

@@ -104,7 +104,7 @@ fn is_name_of<V: Named>(text: &str) -> bool {
 }
 
 /// How many of the texts pass: `each`, `none` or `some`.
-pub(crate) fn passed(test: Test, texts: &[Value]) -> &'static str {
+pub(crate) fn count_word(test: Test, texts: &[Value]) -> &'static str {
     let mut has_passed = false;
     let mut has_failed = false;
     for value in texts {

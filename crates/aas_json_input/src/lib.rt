@@ -127,12 +127,12 @@ fn number_of(text: &str) -> Option<Number>
     ensures { IfSome result (λ n. number_of text.now ≡ Some (number_view n)) }
 {
     match text.as_bytes() {
-        [b'-', digits @ ..] => negative(&Numeral::scan(digits)),
-        digits => unsigned(&Numeral::scan(digits)),
+        [b'-', digits @ ..] => negative_number(&Numeral::scan(digits)),
+        digits => unsigned_number(&Numeral::scan(digits)),
     }
 }
 
-fn unsigned(numeral: &Numeral<'_>) -> Option<Number>
+fn unsigned_number(numeral: &Numeral<'_>) -> Option<Number>
     ensures { IfSome result (λ n. number_from false numeral.now ≡ Some (number_view n)) }
 {
     match numeral.to_u64() {
@@ -141,7 +141,7 @@ fn unsigned(numeral: &Numeral<'_>) -> Option<Number>
     }
 }
 
-fn negative(numeral: &Numeral<'_>) -> Option<Number>
+fn negative_number(numeral: &Numeral<'_>) -> Option<Number>
     ensures { IfSome result (λ n. number_from true numeral.now ≡ Some (number_view n)) }
 {
     match numeral.to_i64(true) {

@@ -1,6 +1,6 @@
 -- Metadata forms of elements: their rows, and the facts from which the laws of their mapping follow.
-use Rattle.std.proofs.Common.{◌≡◌, ℕ, List, [], ◌++◌, Bool, true, Option, Some, unwrap_or, codes, refl, sym, ap, ◌∙◌, subst}
-use Rattle.serde_json.specs.Data.{Data, string, Members}
+use Rattle.std.proofs.Common.{◌≡◌, List, [], ◌++◌, true, Some, unwrap_or, codes, refl, sym, ap, ◌∙◌, subst}
+use Rattle.serde_json.specs.Data.{string, Members}
 use Rattle.serde_json.specs.Find.{get_member}
 use Rattle.aas_model_names.specs.DirectionNames as direction
 use Rattle.aas_model_names.specs.ElementNameNames as element_name
@@ -12,7 +12,7 @@ use Rattle.aas_json_table.specs.TooDeep.{Levels}
 use Rattle.aas_json_table.specs.Canonical.{are_there, members_by}
 use Rattle.aas_json_table.specs.Spelled.{attribute, spelled}
 use Rattle.aas_model.specs.declared.common.Common.{Common}
-use Rattle.aas_model.specs.declared.element.Element.{Element, out-Element, out-roll-Element, roll-out-Element}
+use Rattle.aas_model.specs.declared.element.Element.{Element, out-Element, out-roll-Element}
 use Rattle.aas_model.specs.declared.element.Role.{Role}
 use Rattle.aas_model.specs.declared.payload.Payload.{Payload}
 use Rattle.aas_model.specs.declared.payload.Payload.TheVariants as p
@@ -21,13 +21,13 @@ use Rattle.aas_json_spelling.proofs.Rows.{rising}
 use Rattle.aas_json_spelling.proofs.Objects.{AreGood, Agree, same_object}
 use Rattle.aas_json_spelling.proofs.MemberTypes.{text_good, flag_good, named_good, named_if_good, same_texts_if, same_flags_if, same_words, same_words_if}
 use Rattle.aas_json_mapping.specs.Elements.{model_type_of, spell_element}
-use Rattle.aas_json_mapping.specs.Metadata.{without_values, metadata_form, IsMetadata, IsWholeMetadata, whole_shown}
+use Rattle.aas_json_mapping.specs.Metadata.{without_values, IsMetadata, IsWholeMetadata, whole_shown}
 use Rattle.aas_json_mapping.specs.Whole.{whole_common}
 use Rattle.aas_json_mapping.proofs.Rows.{good_with, object_made, object_within, same_rows, model_rows, model_rise, found_again}
 use Rattle.aas_json_mapping.proofs.Facts.{all_good, if_same, reference_facts, reference_if_good, reference_if_back}
 use Rattle.aas_json_mapping.proofs.Parts.{semantics_good, qualifier_facts}
 use Rattle.aas_json_mapping.proofs.Referable.{referable_good}
-use Rattle.aas_json_mapping.proofs.Elements.{made, role_of, attributes_at}
+use Rattle.aas_json_mapping.proofs.Elements.{made, attributes_at}
 use Rattle.aas_json_mapping.proofs.ElementRows.{own_rows, all_rows, spell_at}
 use Rattle.aas_json_mapping.proofs.ElementsGood.{referable_of, whole_parts}
 use Rattle.aas_json_mapping.proofs.ElementsBack.{common_back}

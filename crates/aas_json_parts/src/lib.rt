@@ -2,7 +2,7 @@
 //! identifier is written.
 //!
 //! References stand in `aas_reference`, documents and elements in `aas_json_read`; how the texts of all of them are put is said
-//! in `aas_members_text`.
+//! in `aas_json_write_members`.
 //!
 //! Proved: each part is read as what its value says; a specific asset id is written as its spelling, and read
 //! exactly where a value spells it, or why it isn't. By the contract of `tree` of each sort; `value` of

@@ -10,7 +10,7 @@ use Rattle.aas_json_table.specs.Canonical.{are_there, canonical, canonical_membe
 use Rattle.aas_json_table.specs.Spelled.{spelled}
 use Rattle.aas_json_table.proofs.Counted.{of_elements}
 use Rattle.aas_json_spelling.proofs.Rows.{rising}
-use Rattle.aas_json_mapping.specs.Elements.{model_type_of, own_attributes, element_attributes, rows_for, spell_element}
+use Rattle.aas_json_mapping.specs.Elements.{own_attributes, element_attributes, rows_for, spell_element}
 use Rattle.aas_json_mapping.specs.Metadata.{without_values}
 use Rattle.aas_json_mapping.proofs.Elements.{made, attributes_at}
 use Rattle.aas_json_mapping.proofs.Metadata as form

@@ -1,10 +1,10 @@
 -- The rows of an object are those of its class, or what the metadata form shows of them.
-use Rattle.std.proofs.Common.{◌≡◌, ℕ, List, [], ◌∷◌, map, filter, Option, Some, None, option_map, option_and_then, codes, bytes_eq, Bool, true, false, if◌then◌else◌, refl, sym, ap, ◌∙◌}
-use Rattle.serde_json.specs.Data.{Data, Members}
+use Rattle.std.proofs.Common.{◌≡◌, ℕ, List, [], ◌∷◌, map, filter, Option, Some, None, option_map, option_and_then, codes, bytes_eq, Bool, true, false, if◌then◌else◌, refl, sym, ap}
+use Rattle.serde_json.specs.Data.{Members}
 use Rattle.serde_json.specs.Find.{get_member, as_str}
-use Rattle.aas_json_table.specs.Rows.{find, sorted, choose, rows_of}
+use Rattle.aas_json_table.specs.Rows.{find, sorted, rows_of}
 use Rattle.aas_json_table.specs.Seen.{counts, class_sort, is_metadata}
-use Rattle.aas_json_table.specs.Table.{Sort, reference, key, lang_text, extension, qualifier, specific_asset_id, administration, asset_information, resource, operation_variable, environment, shell, submodel, concept, element, data_element, submodel_metadata, element_metadata, Row, metadata_of, shown, model_types}
+use Rattle.aas_json_table.specs.Table.{Sort, submodel, element, submodel_metadata, element_metadata, Row, metadata_of, shown, model_types}
 
 all_count : (rows : List Row) → filter (counts false) rows ≡ rows
 all_count [] = refl

@@ -59,7 +59,7 @@ fn misfit_object(
     };
     match misfit_members(alloc, rows, members)? {
         Some(trail) => Ok(Some(trail)),
-        None => missing(alloc, rows, members),
+        None => missing_member(alloc, rows, members),
     }
 }
 
@@ -90,7 +90,7 @@ fn misfit_members(
         ≡ misfit_members (members_view members.now.entries) (rows_in rows)) }
 {
     for (name, value) in members.iter() {
-        let Some(row) = rows.named(name.as_str()) else {
+        let Some(row) = rows.row_named(name.as_str()) else {
             return Ok(Some(at_member(alloc, name.as_str())?));
         };
         if let Some(trail) = misfit(alloc, row.member_type, value)? {
@@ -114,7 +114,7 @@ fn misfit_all(alloc: Global, members: &Map<String, Value>) -> Result<Option<Trai
 }
 
 // The first required member that is absent.
-fn missing(
+fn missing_member(
     alloc: Global,
     rows: Rows,
     members: &Map<String, Value>,

@@ -1,5 +1,5 @@
-// Each name of a member is spelled here, and once more as it stands in a text: in `key.rt` of `aas_members_text` and
-// `stops.rt` of `aas_pour`. The same word may be another name elsewhere: of a parameter, of a segment of a path, or of a
+// Each name of a member is spelled here, and once more as it stands in a text: in `key.rt` of `aas_json_write_members` and
+// `stops.rt` of `aas_json_write_rows`. The same word may be another name elsewhere: of a parameter, of a segment of a path, or of a
 // specific asset id.
 
 pub const ADMINISTRATION: &str = "administration";

@@ -142,7 +142,7 @@ impl Rows {
     }
 
     /// The row of a name, or `None` where no row has it.
-    pub fn named(&self, name: &str) -> Option<Row>
+    pub fn row_named(&self, name: &str) -> Option<Row>
         ensures { option_map row_of result ≡ row_named name.now (rows_in self.now) }
     {
         for row in self.all {

@@ -159,7 +159,7 @@ fn too_deep_members(
         if is_shallow(value, left) {
             continue;
         }
-        if let Some(row) = rows.named(name.as_str()) {
+        if let Some(row) = rows.row_named(name.as_str()) {
             if let Some(trail) = too_deep(alloc, row.member_type, value, left)? {
                 return Ok(Some(trail.below(Token::member(alloc, name.as_str())?)?));
             }

@@ -1,7 +1,7 @@
 //! Documents and elements as JSON (IDTA-01001-3-0, JSON mapping).
 //!
 //! What is written is the canonical text of a document or an element: the compact JSON text (RFC 8259) of its spelling,
-//! with the members of each object in byte order of their names and without empty lists. It is what `aas_pour` pours,
+//! with the members of each object in byte order of their names and without empty lists. It is what `aas_json_write_rows` pours,
 //! kept in memory.
 //!
 //! The value form stands in `aas_value`.

@@ -7,12 +7,12 @@ ghost use Rattle.aas_json_mapping.specs.Trees.{asset_informations, concepts, ele
 ghost use Rattle.aas_reference.specs.Trees.{references};
 
 use aas_json_parts::AssetInformations;
-use aas_members_text::{Concepts, Poured, Shells};
+use aas_json_write_members::{Concepts, Poured, Shells};
+use aas_json_write_rows::{Elements, Environments, Submodels};
 use aas_model::{
     AssetInformation, Concept, Element, Environment, NoMemory, Reference, Shell, Submodel,
 };
 use aas_out::{Pouring, StringOut};
-use aas_pour::{Elements, Environments, Submodels};
 use aas_reference::References;
 use std::alloc::Global;
 

@@ -1,5 +1,5 @@
 -- Attributes with the metadata of others that are alike: kind by kind.
-use Rattle.std.proofs.Common.{◌≡◌, List, [], Option, Some, None, refl}
+use Rattle.std.proofs.Common.{◌≡◌, List, [], Some, None, refl}
 use Rattle.aas_model.specs.Payload.{kind_of}
 use Rattle.aas_model.specs.declared.payload.Payload.{Payload}
 use Rattle.aas_model.specs.declared.payload.Payload.TheVariants as p

@@ -1,7 +1,7 @@
 -- Metadata that is put changes nothing else in a submodel.
 use Rattle.std.proofs.Common.{◌≡◌, List, [], ◌∷◌, ◌++◌, map, false, Some, option_and_then, refl, sym, ap, ◌∙◌, subst}
 use Rattle.aas_model.specs.declared.documents.Submodel.{Submodel}
-use Rattle.aas_model.specs.declared.element.Element.{Element, Element-F, out-Element, roll-Element, out-roll-Element, roll-out-Element}
+use Rattle.aas_model.specs.declared.element.Element.{Element, Element-F, out-Element, out-roll-Element, roll-out-Element}
 use Rattle.aas_model.specs.declared.path.PathStep.{PathStep}
 use Rattle.aas_model_names.specs.declared.modifiers.Extent.{Extent}
 use Rattle.aas_path_trees.specs.Children.{kids_of, id_short_of, is_list, is_list_payload}
@@ -11,7 +11,7 @@ use Rattle.aas_path_trees.proofs.Paths.{element_among-append, with_among-append}
 use Rattle.aas_edit_laws.proofs.Others.{changed_named, change_aside, there_among, there_below}
 use Rattle.aas_value.specs.ValueForm.{Child, child_of, value_over, named}
 use Rattle.aas_meta_update.specs.WithMetadata.{IsAlike, with_metadata, with_shown}
-use Rattle.aas_meta_update.specs.Laws.{own_of, IsAsBefore, OnlyThere, OnlyMetadataChanges}
+use Rattle.aas_meta_update.specs.Laws.{IsAsBefore, OnlyThere, OnlyMetadataChanges}
 use Rattle.aas_meta_update.proofs.Alike.{list_put, values_put}
 use Rattle.aas_meta_update.proofs.Paths.{own_stays, child_stays, there_at, below_at, value_at}
 use Rattle.aas_meta_update.proofs.ValueForms.{child_at}

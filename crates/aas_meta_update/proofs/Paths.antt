@@ -1,5 +1,5 @@
 -- What another element in the place of one changes, where it has the same idShort, the same children, and is the same as its parent's value form sees it.
-use Rattle.std.proofs.Common.{◌≡◌, ℕ, Bool, false, List, [], ◌∷◌, ◌++◌, map, Option, Some, None, option_and_then, slice_set, refl, sym, ap, ap₂, ◌∙◌, subst}
+use Rattle.std.proofs.Common.{◌≡◌, ℕ, Bool, false, List, [], ◌∷◌, ◌++◌, map, Option, Some, None, option_and_then, refl, sym, ap, ap₂, ◌∙◌}
 use Rattle.aas_model.specs.declared.documents.Submodel.{Submodel}
 use Rattle.aas_model.specs.declared.element.Element.{Element, Element-F, out-Element, roll-Element, out-roll-Element}
 use Rattle.aas_model.specs.declared.path.PathStep.{PathStep}

@@ -1,6 +1,5 @@
 -- The laws of putting metadata.
-use Rattle.std.proofs.Common.{◌≡◌, List, [], map, Option, refl, sym, ap, ◌∙◌}
-use Rattle.aas_model.specs.declared.documents.Submodel.{Submodel}
+use Rattle.std.proofs.Common.{◌≡◌, [], map, refl, sym, ap, ◌∙◌}
 use Rattle.aas_model.specs.declared.element.Element.{Element, Element-F, out-Element, roll-Element, out-roll-Element, roll-out-Element}
 use Rattle.aas_model_names.specs.declared.modifiers.Extent.{Extent}
 use Rattle.aas_json_mapping.specs.Metadata.{without_values, metadata_form}

@@ -1,7 +1,7 @@
 -- A whole element with whole metadata is whole.
-use Rattle.std.proofs.Common.{◌≡◌, ℕ, suc, ◌+◌, ◌-◌, ◌≤◌, ◌&&◌, nat_le, Bool, true, false, List, [], ◌∷◌, length, slice_get, Option, Some, None, option_and_then, refl, sym, ap, ◌∙◌, subst, arith}
+use Rattle.std.proofs.Common.{◌≡◌, ℕ, ◌+◌, ◌-◌, ◌≤◌, ◌&&◌, nat_le, Bool, true, false, List, [], ◌∷◌, length, slice_get, Option, Some, None, option_and_then, refl, sym, ap, subst, arith}
 use Rattle.std.specs.List.{list_all}
-use Rattle.std.proofs.lemmas.Bool.{and_from, leb-true, le-leb}
+use Rattle.std.proofs.lemmas.Bool.{and_from, le-leb}
 use Rattle.aas_lemmas.proofs.Truth.{and_left, and_right}
 use Rattle.aas_json_table.specs.TooDeep.{limits}
 use Rattle.aas_json_mapping.specs.Metadata.{IsWholeMetadata, whole_shown}
@@ -10,7 +10,6 @@ use Rattle.aas_json_mapping.proofs.Elements.{made, made_out, seen}
 use Rattle.aas_json_mapping.proofs.ElementsSame.{role_made}
 use Rattle.aas_reference.specs.Whole.{whole_if_there, whole_and_there}
 use Rattle.aas_model.specs.Payload.{kind_of}
-use Rattle.aas_model.specs.declared.common.Common.{Common}
 use Rattle.aas_model.specs.declared.documents.Submodel.{Submodel}
 use Rattle.aas_model.specs.declared.element.Element.{Element, Element-F, out-Element, roll-Element, out-roll-Element}
 use Rattle.aas_model.specs.declared.element.Role.TheVariants as role
@@ -21,7 +20,7 @@ use Rattle.aas_path_trees.specs.Children.{kids_of, is_list, with_role}
 use Rattle.aas_path_trees.specs.ElementAt.{child_by, element_below, element_at}
 use Rattle.aas_path_trees.proofs.Paths.{child_by-there}
 use Rattle.aas_edit_laws.specs.Laws.{at_level}
-use Rattle.aas_edit_laws.proofs.OneLevel.{Within, down, up, own}
+use Rattle.aas_edit_laws.proofs.OneLevel.{down, up, own}
 use Rattle.aas_edit_laws.proofs.Edits.{each_element}
 use Rattle.aas_edit_laws.proofs.Siblings.{IsWhole, IsWholeUnder, AreWhole, each_at, each_map}
 use Rattle.aas_meta_update.specs.WithMetadata.{AreAlike, IsAlike, with_metadata, with_shown}

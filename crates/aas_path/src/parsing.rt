@@ -96,7 +96,7 @@ fn name_of(alloc: Global, name: &[u8]) -> Result<Text, NoMemory>
 }
 
 // The step behind its dot, and what is behind it.
-fn named(alloc: Global, text: &[u8]) -> Result<(PathStep, &[u8]), PathFault>
+fn name_step(alloc: Global, text: &[u8]) -> Result<(PathStep, &[u8]), PathFault>
     ensures { MatchResult result (λ x. IsStep (46 ∷ text.now) x.0 x.1.now) (IsStepFault 46 text.now) }
 {
     match name_len(text) {
@@ -114,7 +114,7 @@ fn step(alloc: Global, lead: u8, text: &[u8]) -> Result<(PathStep, &[u8]), PathF
     ensures { MatchResult result (λ x. IsStep (lead ∷ text.now) x.0 x.1.now) (IsStepFault lead text.now) }
 {
     if lead == b'.' {
-        return named(alloc, text);
+        return name_step(alloc, text);
     }
     match place(text) {
         Ok((place, behind)) => Ok((PathStep::Place(place), behind)),

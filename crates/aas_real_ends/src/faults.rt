@@ -28,7 +28,7 @@ impl FaultCount {
     }
 
     /// What a call answered, which is counted where it failed.
-    pub fn counted<T: Drop>(&mut self, answer: io::Result<T>) -> Result<T, Failed>
+    pub fn count_failure<T: Drop>(&mut self, answer: io::Result<T>) -> Result<T, Failed>
         ensures ok { IfOk answer (λ value. result ≡ Ok value) }
         ensures err { OnErr answer (IsErr result) }
         ensures cause { HasCause self.old.count self.new.count result }

@@ -57,7 +57,7 @@ impl<O: FileOpener> Disk for FileDisk<O> {
             (λ file. HasLength (O.File.state file) count)) }
     {
         let length = self.folder.length(part);
-        self.faults.counted(length)
+        self.faults.count_failure(length)
     }
 
     fn read_at(&mut self, part: Part, at: u64, buf: &mut [u8]) -> Result<(), Failed>
@@ -69,7 +69,7 @@ impl<O: FileOpener> Disk for FileDisk<O> {
             (λ file. Gives (O.File.state file) at buf.new)) }
     {
         let read = self.folder.read_at(part, at, buf);
-        self.faults.counted(read)
+        self.faults.count_failure(read)
     }
 
     fn write_at(&mut self, part: Part, at: u64, bytes: &[u8]) -> Result<(), Failed>
@@ -82,7 +82,7 @@ impl<O: FileOpener> Disk for FileDisk<O> {
             (λ before after. IsWritten at bytes.now (O.File.state before) (O.File.state after))) }
     {
         let written = self.folder.write_at(part, at, bytes);
-        self.faults.counted(written)
+        self.faults.count_failure(written)
     }
 
     fn sync(&mut self, part: Part) -> Result<(), Failed>
@@ -94,7 +94,7 @@ impl<O: FileOpener> Disk for FileDisk<O> {
             (λ before after. IsSynced (O.File.state before) (O.File.state after))) }
     {
         let synced = self.folder.sync(part);
-        self.faults.counted(synced)
+        self.faults.count_failure(synced)
     }
 
     ghost seen_is_left = { λ _ _ _. tt };

@@ -96,7 +96,7 @@ impl<N: Net + Clock> Link for TcpWire<N> {
             Some(clients) => clients.give(&self.net, bytes),
             None => Err(io::Error::from(ErrorKind::NotConnected)),
         };
-        self.faults.counted(given)
+        self.faults.count_failure(given)
     }
 }
 
@@ -134,6 +134,6 @@ impl<N: Net + Clock> Wire for TcpWire<N> {
         if let Ok(NextVisit::New) = &next {
             self.begun = self.begun.saturating_add(1);
         }
-        self.wire_faults.counted(next)
+        self.wire_faults.count_failure(next)
     }
 }

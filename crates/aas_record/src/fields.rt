@@ -51,7 +51,7 @@ pub(crate) fn last_field<C: Content>(alloc: Global, bytes: &[u8], at: u64) -> Re
         (IsLastFault C.has_type at bytes.now) }
 {
     let (value, rest) = field(alloc, bytes, at)?;
-    ended(value, bytes, rest, at)
+    value_at_end(value, bytes, rest, at)
 }
 
 /// The tree at a level that the first field of some bytes holds, and what is behind it. The bytes stand at the place
@@ -92,11 +92,11 @@ pub(crate) fn last_tree<T: Tree>(
         (IsLastFault (IsCanonical T.trees (T.left level)) at bytes.now) }
 {
     let (tree, rest) = tree_field(alloc, bytes, at, level)?;
-    ended(tree, bytes, rest, at)
+    value_at_end(tree, bytes, rest, at)
 }
 
 /// The value, where nothing is left behind it of some bytes that stand at the place `at` of a payload.
-fn ended<V: Drop>(value: V, bytes: &[u8], rest: &[u8], at: u64) -> Result<V, RecordFault>
+fn value_at_end<V: Drop>(value: V, bytes: &[u8], rest: &[u8], at: u64) -> Result<V, RecordFault>
     requires within { length rest.now ≤ length bytes.now }
     requires place { at + length bytes.now < 2 ^ 64 }
     ensures { MatchResult result

@@ -56,7 +56,7 @@ pub(crate) fn drop_reference<S: Store>(
 }
 
 /// The shell of an identifier, which has a reference to a submodel; or why there is no way through it to the submodel.
-pub(crate) fn referring<'a, S: Store>(
+pub(crate) fn referring_shell<'a, S: Store>(
     store: &'a S,
     id: &Text,
     submodel: &Text,
@@ -104,7 +104,7 @@ fn without_references<S: Store>(
     ensures { IsChangedShell (S.documents store.now) id.now
         (lacks_reference submodel.now) (without_references submodel.now) result }
 {
-    let shell = referring(store, id, submodel)?;
+    let shell = referring_shell(store, id, submodel)?;
     let mut copy = shell.copy()?;
     copy.submodels = others(alloc, shell.submodels.as_slice(), submodel)?;
     Ok(copy)

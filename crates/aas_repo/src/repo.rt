@@ -9,7 +9,7 @@ ghost use Rattle.aas_repo.specs.Acts.{Acts, ComesOut, done_of};
 ghost use Rattle.aas_repo.specs.Decisions.{has_room_for};
 ghost use Rattle.aas_repo.specs.Held.{machine_state};
 
-use crate::references::referring;
+use crate::references::referring_shell;
 use crate::taking::{Taken, take};
 use aas_command::{Command, Refusal};
 use aas_model::Text;
@@ -137,7 +137,7 @@ impl<S: Store, K: Keeper> Repo<S, K> {
             (λ _. first_of (reference_causes self.now.documents shell.now submodel.now) ≡ None)
             (λ refusal. first_of (reference_causes self.now.documents shell.now submodel.now) ≡ Some refusal) }
     {
-        referring(&self.store, shell, submodel)?;
+        referring_shell(&self.store, shell, submodel)?;
         Ok(())
     }
 }

@@ -157,7 +157,7 @@ fn patch_for_parent<S: Store>(
     ensures refusal { IfErr result (λ refusal. refusal ≢ NoMemoryLeft →
         IsRefused (S.documents store.now) (UpdateValue id.now path.now value.now) refusal) }
 {
-    let mut element = stored(alloc, store, id, path)?;
+    let mut element = stored_element(alloc, store, id, path)?;
     let prepared = prepare(alloc, &mut element, value.as_value());
     drop(element);
     match prepared {
@@ -188,7 +188,12 @@ fn stored_row<'s, S: Store>(
 }
 
 /// A copy of the element to which the path leads.
-fn stored<S: Store>(alloc: Global, store: &S, id: &Text, path: &Path) -> Result<Element, Refusal>
+fn stored_element<S: Store>(
+    alloc: Global,
+    store: &S,
+    id: &Text,
+    path: &Path,
+) -> Result<Element, Refusal>
     requires { path.now.steps ≢ [] }
     ensures found { IfOk result (λ e.
         Holds (S.documents store.now) (encode_utf8_all id.now) (λ s. element_at s path.now.steps ≡ Some e)) }
@@ -255,15 +260,15 @@ fn with_path(path: &Path, fault: ValueFault) -> Result<Refusal, NoMemory>
     match fault {
         ValueFault::NoValueForm => Ok(Refusal::NoValueForm),
         ValueFault::Shape { path: below } => Ok(Refusal::Shape {
-            path: joined(path, &below)?,
+            path: join_paths(path, &below)?,
         }),
         ValueFault::Lexical { path: below } => Ok(Refusal::Lexical {
-            path: joined(path, &below)?,
+            path: join_paths(path, &below)?,
         }),
         ValueFault::Constraint(fault) => Ok(Refusal::Constraint {
             fault: Fault {
                 number: fault.number,
-                path: joined(path, &fault.path)?,
+                path: join_paths(path, &fault.path)?,
             },
         }),
         ValueFault::NoMemory => Err(NoMemory),
@@ -271,7 +276,7 @@ fn with_path(path: &Path, fault: ValueFault) -> Result<Refusal, NoMemory>
 }
 
 /// The steps of a path, and then those of another.
-fn joined(path: &Path, below: &Path) -> Result<Path, NoMemory>
+fn join_paths(path: &Path, below: &Path) -> Result<Path, NoMemory>
     ensures { IfOk result (λ joined. joined.steps ≡ path.now.steps ++ below.now.steps) }
 {
     let mut steps = path.steps.copy()?;

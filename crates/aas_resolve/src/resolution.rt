@@ -136,7 +136,7 @@ fn target_at(collection: Collection, at: Option<Spot>) -> Target
 }
 
 /// To what the later keys of a reference lead in the document that its first key names.
-fn along<S: Store>(
+fn target_along<S: Store>(
     store: &S,
     collection: Collection,
     id: &str,
@@ -170,7 +170,7 @@ pub fn resolve<S: Store>(store: &S, reference: &Reference) -> Result<Target, Unr
         return Err(Unresolved { key: 0 });
     };
     match collection_named(store, first) {
-        Some(collection) => along(store, collection, first.value.as_str(), later),
+        Some(collection) => target_along(store, collection, first.value.as_str(), later),
         None => Err(Unresolved { key: 0 }),
     }
 }

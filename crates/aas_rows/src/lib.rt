@@ -1,7 +1,7 @@
 //! Trees of elements as lists of rows: what a list of rows in preorder stands for, and what an edit of a tree makes of
 //! its rows. A law stands on a function that does nothing; of what runs there is the view of a row alone.
 //!
-//! Rows in memory are kept by `aas_sheet_rows`, and their texts are put by `aas_pour`.
+//! Rows in memory are kept by `aas_sheet_rows`, and their texts are put by `aas_json_write_rows`.
 //!
 //! Proved: the rows of trees stand for these trees, and rows in preorder are the rows of what they stand for; an
 //! edit at a path changes one part of the rows alone, and a patch the payloads at its ranks; a step leads to the

@@ -49,7 +49,7 @@ pub fn command_of(words: &Many<Text>) -> Option<CommandLine<'_>>
 {
     match words.as_slice() {
         [word] => lone(word),
-        [word, count] => showing(word, count),
+        [word, count] => demo_with_count(word, count),
         [word, first, second] => with_two(word, first, second),
         _ => None,
     }
@@ -72,7 +72,7 @@ fn lone<'a>(word: &Text) -> Option<CommandLine<'a>>
 }
 
 /// The command of `demo` and a count.
-fn showing<'a>(word: &Text, count: &Text) -> Option<CommandLine<'a>>
+fn demo_with_count<'a>(word: &Text, count: &Text) -> Option<CommandLine<'a>>
     ensures { IsAsked (word.now ∷ count.now ∷ []) result }
 {
     if word.as_str() != "demo" {

@@ -11,7 +11,7 @@ use crate::side::Side;
 /// fifteenth of the time of a pass that looks at each rank.
 const FEW: usize = 12;
 
-fn moved(rank: u32, first: usize, end: usize, count: usize, total: usize) -> u32
+fn moved_rank(rank: u32, first: usize, end: usize, count: usize, total: usize) -> u32
     requires ordered { first ≤ end }
     requires within { end ≤ count }
     requires more { count ≤ total }
@@ -31,7 +31,7 @@ fn moved(rank: u32, first: usize, end: usize, count: usize, total: usize) -> u32
 
 /// How many of the first ranks needn't be moved. Where nothing stands behind the place, or as many sides come as go,
 /// only the last `added` ranks move, those of the sides that come.
-fn unmoved(
+fn unmoved_count(
     ranks: &[u32],
     first: usize,
     end: usize,
@@ -65,7 +65,7 @@ fn move_all(ranks: &mut [u32], from: usize, first: usize, end: usize, count: usi
     ensures { ranks.new ≡ map (moved first end count total) ranks.old }
 {
     for i in from..ranks.len() {
-        ranks[i] = moved(ranks[i], first, end, count, total);
+        ranks[i] = moved_rank(ranks[i], first, end, count, total);
     }
 }
 
@@ -148,6 +148,6 @@ pub(crate) fn renumber(
 {
     let total = sides.len();
     drop_between(sides, ranks, first, end, count, added);
-    let from = unmoved(ranks.as_slice(), first, end, count, total, added);
+    let from = unmoved_count(ranks.as_slice(), first, end, count, total, added);
     move_all(ranks.as_mut_slice(), from, first, end, count, total);
 }

@@ -43,8 +43,8 @@ pub(crate) fn short_key(level: u64, name: &str) -> u64
 {
     let bytes = name.as_bytes();
     u64::from_be_bytes([
-        capped(level),
-        capped(bytes.len() as u64),
+        capped_number(level),
+        capped_number(bytes.len() as u64),
         byte_at(bytes, 0),
         byte_at(bytes, 1),
         byte_at(bytes, 2),
@@ -55,7 +55,7 @@ pub(crate) fn short_key(level: u64, name: &str) -> u64
 }
 
 /// The number, or 255 for each that is greater.
-fn capped(number: u64) -> u8
+fn capped_number(number: u64) -> u8
     ensures { result ≡ capped number }
 {
     number.min(255) as u8

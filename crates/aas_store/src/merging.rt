@@ -36,7 +36,7 @@ fn compare_last<D>(older: &Many<Entry<D>>, newer: &Many<Entry<D>>) -> Ordering
 }
 
 /// The entries of both lists in the order of their identifiers, in `room`; of two with the same the newer one.
-pub(crate) fn merged<D: Drop>(
+pub(crate) fn merge<D: Drop>(
     older: Many<Entry<D>>,
     newer: Many<Entry<D>>,
     room: Vec<Entry<D>>,

@@ -6,7 +6,7 @@ ghost use Rattle.aas_store.specs.Documents.{Identifier};
 ghost use Rattle.aas_store.specs.Merged.{IsGathered, IsOverlaid, IsRoomFor, with_each};
 ghost use Rattle.aas_store.specs.Overlay.{HasRoomOver, newer_of};
 
-use crate::merging::{merged, take_last};
+use crate::merging::{merge, take_last};
 use crate::shelf::{Entry, Shelf};
 use aas_model::{Concept, Duplicate, Many, NoMemory, Shell, Submodel, Text};
 use std::alloc::Global;
@@ -53,7 +53,7 @@ pub struct Overlay<D> {
 }
 
 /// A shelf of documents that are taken from the end of a list.
-fn gathered<D: Identified>(
+fn gather<D: Identified>(
     alloc: Global,
     documents: &mut Many<D>,
     count: usize,
@@ -62,8 +62,8 @@ fn gathered<D: Identified>(
     ensures { IfOk result (λ shelf. IsGathered D.id_of documents.old documents.new count shelf) }
 {
     if count > 1 {
-        let later = gathered(alloc, documents, count / 2)?;
-        let mut shelf = gathered(alloc, documents, count - count / 2)?;
+        let later = gather(alloc, documents, count / 2)?;
+        let mut shelf = gather(alloc, documents, count - count / 2)?;
         let room = shelf.room_with(&later)?;
         shelf.take_in(later, room);
         return Ok(shelf);
@@ -97,7 +97,7 @@ impl<D: Drop> Shelf<D> {
     {
         let none = Many::new(self.entries.alloc());
         let older = mem::replace(&mut self.entries, none);
-        self.entries = merged(older, newer.entries, room);
+        self.entries = merge(older, newer.entries, room);
     }
 }
 
@@ -109,7 +109,7 @@ impl<D: Identified> Shelf<D> {
     {
         let mut documents = documents;
         let count = documents.len();
-        let newer = gathered(self.entries.alloc(), &mut documents, count)?;
+        let newer = gather(self.entries.alloc(), &mut documents, count)?;
         let room = self.room_with(&newer)?;
         Ok(Overlay { newer, room })
     }

@@ -49,7 +49,7 @@ fn document_mut<D>(entries: &mut Many<Entry<D>>, place: usize) -> Option<&mut D>
     }
 }
 
-fn boxed<D: Drop>(alloc: Global, document: D) -> Result<Box<D>, NoMemory>
+fn box_document<D: Drop>(alloc: Global, document: D) -> Result<Box<D>, NoMemory>
     ensures { IfOk result (λ boxed. boxed.value ≡ document) }
 {
     match Box::new(alloc, document) {
@@ -166,7 +166,7 @@ impl<D: Drop> Shelf<D> {
         ensures ok { OnOk result (self.new ≡ map.insert self.old (encode_utf8_all id) document) }
         ensures err { OnErr result (self.new ≡ self.old) }
     {
-        let document = boxed(self.entries.alloc(), document)?;
+        let document = box_document(self.entries.alloc(), document)?;
         match self.place(id.as_str()) {
             Ok(place) => {
                 if let Some(entry) = self.entries.get_mut(place) {

@@ -78,7 +78,7 @@ fn first_stating(qualifiers: &[Qualifier]) -> Option<&Qualifier>
 }
 
 /// The cardinality that it names.
-fn stated(qualifiers: &[Qualifier]) -> Option<Cardinality>
+fn stated_cardinality(qualifiers: &[Qualifier]) -> Option<Cardinality>
     ensures { result ≡ stated qualifiers.now }
 {
     let qualifier = first_stating(qualifiers)?;
@@ -92,7 +92,7 @@ fn stated(qualifiers: &[Qualifier]) -> Option<Cardinality>
 pub(crate) fn cardinality_of(without: Cardinality, qualifiers: &[Qualifier]) -> Cardinality
     ensures { result ≡ cardinality without qualifiers.now }
 {
-    match stated(qualifiers) {
+    match stated_cardinality(qualifiers) {
         Some(cardinality) => cardinality,
         None => without,
     }

@@ -44,7 +44,7 @@ fn add<'a>(
 }
 
 /// Of each of the children of a template the elements of an instance that belong to it.
-pub(crate) fn grouped<'a>(
+pub(crate) fn group_by_template<'a>(
     alloc: Global,
     templates: &[Element],
     instances: &'a [Element],

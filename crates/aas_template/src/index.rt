@@ -48,7 +48,7 @@ fn is_admitted(template: &Element, instance: &Element, rest: &str) -> bool
 }
 
 /// The place of the child of a template whose idShort is this beginning of that of the instance, if it admits that.
-fn admitted(
+fn admitted_place(
     templates: &[Element],
     places: &BTreeMap<&str, usize>,
     instance: &Element,
@@ -85,7 +85,7 @@ pub(crate) fn place_of(
 {
     let mut rest = name(instance);
     'cuts: loop {
-        let found = admitted(templates, places, instance, rest);
+        let found = admitted_place(templates, places, instance, rest);
         if found.is_some() {
             return found;
         }

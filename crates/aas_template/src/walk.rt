@@ -11,7 +11,7 @@ ghost use Rattle.aas_model.specs.declared.path.PathStep.TheVariants.{Name};
 use crate::belonging::name;
 use crate::cardinality::{Cardinality, cardinality_of};
 use crate::difference::{Difference, Reason, here, under};
-use crate::groups::grouped;
+use crate::groups::group_by_template;
 use crate::laws::{children_differ, siblings_differ_below};
 use crate::own::{is_list, means_the_same, same_kind, same_types};
 use aas_model::{Element, Many, NoMemory, PathStep, Submodel, Text};
@@ -106,7 +106,7 @@ fn difference_among(
     ensures { IfOk result (λ found. found ≡ first (differences_among (map compared template_kids.now) instance_kids.now)) }
 {
     let templates = template_kids.as_slice();
-    let groups = grouped(alloc, templates, instance_kids.as_slice())?;
+    let groups = group_by_template(alloc, templates, instance_kids.as_slice())?;
     for (place, template) in templates.iter().enumerate() {
         if let Some(found) = difference_of_group(alloc, template, &groups[place])? {
             return Ok(Some(found));

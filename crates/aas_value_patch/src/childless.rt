@@ -36,7 +36,7 @@ pub fn prepare_leaf(alloc: Global, payload: &Payload, value: &Value) -> Result<P
     if !has_value_form(payload.kind()) {
         return Err(ValueFault::NoValueForm);
     }
-    let patch = laid(alloc, payload, value)?;
+    let patch = lay_value(alloc, payload, value)?;
     match fault_in(&patch) {
         None => Ok(patch),
         Some(number) => Err(fault_by(Fault {
@@ -47,7 +47,7 @@ pub fn prepare_leaf(alloc: Global, payload: &Payload, value: &Value) -> Result<P
 }
 
 /// The patch, whatever the element breaks with it.
-fn laid(alloc: Global, payload: &Payload, value: &Value) -> Result<Patch, PatchFault>
+fn lay_value(alloc: Global, payload: &Payload, value: &Value) -> Result<Patch, PatchFault>
     requires leaf { shows_children payload.now ≡ false }
     requires ordered { IsOrdered (view value.now) }
     ensures patch { IfOk result (λ patch. IsLaid payload.now (view value.now) patch.rows) }

@@ -2,7 +2,7 @@ use Rattle.std.proofs.Common.{[], ◌∷◌, codes}
 use Rattle.aas_json_table.specs.Spelled.{list_of}
 use Rattle.aas_json_table.specs.Table.{environment, parts}
 use Rattle.aas_json_mapping.specs.Documents.{spell_concept, spell_shell, spell_submodel}
-use Rattle.aas_members_text.proofs.Putting.{object_more, object_ended}
+use Rattle.aas_json_write_members.proofs.Putting.{object_more, object_ended}
 use Rattle.aas_serialization.specs.Chosen.{chosen_environment}
 use Rattle.aas_answer.proofs.environments.pour_environment.Goals as goal
 

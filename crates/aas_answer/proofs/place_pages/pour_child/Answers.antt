@@ -1,6 +1,6 @@
 use Rattle.std.proofs.Common.{sym, ap, ◌∙◌}
 use Rattle.aas_out.proofs.Adding.{adds_same}
-use Rattle.aas_pour.specs.Poured.{text_at}
+use Rattle.aas_json_write_rows.specs.Poured.{text_at}
 use Rattle.aas_answer.specs.Listed.{child_text}
 use Rattle.aas_answer.proofs.Children.{child_shown}
 use Rattle.aas_answer.proofs.place_pages.pour_child.Goals as goal

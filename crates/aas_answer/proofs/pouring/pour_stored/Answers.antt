@@ -1,7 +1,7 @@
 use Rattle.std.proofs.Common.{sym}
 use Rattle.std.specs.FinMap as map
 use Rattle.aas_out.proofs.Adding.{adds_same}
-use Rattle.aas_pour.specs.Submodels.{with_elements}
+use Rattle.aas_json_write_rows.specs.Submodels.{with_elements}
 use Rattle.aas_answer.specs.Answers.{submodel_shown}
 use Rattle.aas_answer.proofs.Entries.{adds_none}
 use Rattle.aas_answer.proofs.Stored.{has_lines, low_lines, shown_by_head, storable}

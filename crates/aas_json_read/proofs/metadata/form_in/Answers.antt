@@ -1,4 +1,4 @@
-use Rattle.std.proofs.Common.{◌≡◌, List, Some, IfSome, codes, option_map, ap, sym, ◌∙◌, subst}
+use Rattle.std.proofs.Common.{◌≡◌, List, Some, IfSome, option_map, ap, sym, ◌∙◌, subst}
 use Rattle.serde_json.specs.View.{members_view}
 use Rattle.aas_model_names.specs.KindNames.{name_of}
 use Rattle.aas_json_table.specs.Canonical.{canonical_member, canonical_object}

@@ -11,6 +11,6 @@ loop-i-preserved c =
     let x : ℕ = get_or l.ranks l.i 0 in
     let long = c.loop-i.auto.ranks in
     let inside = c.loop-i-test.true in
-    ap (slice_set l.ranks l.i) c.moved.ensures
+    ap (slice_set l.ranks l.i) c.moved_rank.ensures
     ∙ map_over_more (moved c.args.first c.args.end c.args.count c.args.total) xs l.ranks l.i x
     (omega arith) l.invariant (get_or_default l.ranks l.i 0 x (omega arith))

@@ -14,11 +14,11 @@ here c =
     (length c.as_slice.result.now - a.added) a.ranks.now.items c.as_slice.result.now c.requires.waiting
     c.requires.before c.requires.within (c.as_slice.ensures.value ∙ c.drop_between.ensures) refl
 
-pub unmoved-from-requires-clause-inside : goal.unmoved-from-requires-clause-inside
-unmoved-from-requires-clause-inside c = (here (goal.at.unmoved-from-requires-clause-inside c).After-as_slice).room
+pub unmoved_count-from-requires-clause-inside : goal.unmoved_count-from-requires-clause-inside
+unmoved_count-from-requires-clause-inside c = (here (goal.at.unmoved_count-from-requires-clause-inside c).After-as_slice).room
 
-pub unmoved-from-requires-clause-low : goal.unmoved-from-requires-clause-low
-unmoved-from-requires-clause-low c =
+pub unmoved_count-from-requires-clause-low : goal.unmoved_count-from-requires-clause-low
+unmoved_count-from-requires-clause-low c =
     All-from_recursion (λ r. r < c.args.count)
     (take (length c.as_slice.result.now - c.args.added) c.as_slice.result.now)
-    (here (goal.at.unmoved-from-requires-clause-low c).After-as_slice).low
+    (here (goal.at.unmoved_count-from-requires-clause-low c).After-as_slice).low

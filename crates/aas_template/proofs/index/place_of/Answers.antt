@@ -25,7 +25,7 @@ cuts-preserved c =
     let k = own_of c.args.instance.now in
     let n = name_of c.args.instance.now in
     let r = chars c.cuts.rest.now in
-    let refused : Refused ts k r = refused_by c.admitted-found.result (Refused ts k r) (Admitted ts k r) (sym c.is_some.ensures ∙ c.if-is_some.false) c.admitted-found.ensures in
+    let refused : Refused ts k r = refused_by c.admitted_place-found.result (Refused ts k r) (Admitted ts k r) (sym c.is_some.ensures ∙ c.if-is_some.false) c.admitted_place-found.ensures in
     record {
       utf8 = c.in-Some.ensures.text;
       cut = shorter n r (chars c.in-Some.text.now) c.cuts.invariant.cut c.in-Some.ensures.cut;
@@ -40,25 +40,25 @@ returns-then-is_some-clause-belongs c =
     let ts = c.args.templates.now in
     let k = own_of c.args.instance.now in
     let r = chars c.cuts.rest.now in
-    place_by ts k r c.admitted-found.result c.requires.differ c.cuts.invariant.cut c.cuts.invariant.longest (sym c.is_some.ensures ∙ c.if-is_some.true) c.admitted-found.ensures
+    place_by ts k r c.admitted_place-found.result c.requires.differ c.cuts.invariant.cut c.cuts.invariant.longest (sym c.is_some.ensures ∙ c.if-is_some.true) c.admitted_place-found.ensures
 
 pub returns-then-is_some-clause-within : goal.returns-then-is_some-clause-within
 returns-then-is_some-clause-within c =
     let ts = c.args.templates.now in
     let k = own_of c.args.instance.now in
     let r = chars c.cuts.rest.now in
-    place_within ts k r c.admitted-found.result c.admitted-found.ensures
+    place_within ts k r c.admitted_place-found.result c.admitted_place-found.ensures
 
 pub returns-in-None-clause-belongs : goal.returns-in-None-clause-belongs
 returns-in-None-clause-belongs c =
     let ts = c.args.templates.now in
     let k = own_of c.args.instance.now in
     let r = chars c.cuts.rest.now in
-    let refused : Refused ts k r = refused_by c.admitted-found.result (Refused ts k r) (Admitted ts k r) (sym c.is_some.ensures ∙ c.if-is_some.false) c.admitted-found.ensures in
+    let refused : Refused ts k r = refused_by c.admitted_place-found.result (Refused ts k r) (Admitted ts k r) (sym c.is_some.ensures ∙ c.if-is_some.false) c.admitted_place-found.ensures in
     belongs_nowhere ts k (none_at_all ts k r c.cuts.invariant.cut c.cuts.invariant.longest refused c.in-None.ensures.cut)
 
-pub admitted-found-requires-text-rest : goal.admitted-found-requires-text-rest
-admitted-found-requires-text-rest c κs = c.cuts.invariant.utf8
+pub admitted_place-found-requires-text-rest : goal.admitted_place-found-requires-text-rest
+admitted_place-found-requires-text-rest c κs = c.cuts.invariant.utf8
 
 pub shorter-requires-text-text : goal.shorter-requires-text-text
 shorter-requires-text-text c κs = c.cuts.invariant.utf8

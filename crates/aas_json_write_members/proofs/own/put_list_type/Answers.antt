@@ -1,0 +1,15 @@
+use Rattle.std.proofs.Common.{◌∷◌, [], codes}
+use Rattle.aas_json_write_members.specs.Puts.{own_fields}
+use Rattle.aas_json_write_members.proofs.Lacking.{no_list_type}
+use Rattle.aas_json_write_members.proofs.Putting.{put_lacking, put_own}
+use Rattle.aas_json_write_members.proofs.own.put_list_type.Goals as goal
+
+pub returns-in-SubmodelElementList : goal.returns-in-SubmodelElementList
+returns-in-SubmodelElementList g c =
+    put_own c.args.payload.now (codes "typeValueListElement" ∷ []) c.in-SubmodelElementList.is c.put_word.ensures
+
+pub returns-in_default : goal.returns-in_default
+returns-in_default g c =
+    put_lacking c.args.pen (g.O.TextEnd.told c.args.out.now)
+    (own_fields c.args.payload.now (codes "typeValueListElement" ∷ [])) (codes "typeValueListElement" ∷ [])
+    (no_list_type c.args.payload.now c.in_default.not-SubmodelElementList)

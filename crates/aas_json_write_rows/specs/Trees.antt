@@ -1,0 +1,19 @@
+-- Elements in memory, of which all is put: what stands at their stops.
+use Rattle.std.specs.Prelude.{ℕ, true, List, ◌++◌, map, filter}
+use Rattle.serde_json.specs.Written.{compact_text}
+use Rattle.aas_json_mapping.specs.Elements.{spell_element}
+use Rattle.aas_model.specs.declared.element.Element.{Element, out-Element}
+use Rattle.aas_json_write_members.specs.Members.{opening, closing, role_fits}
+use Rattle.aas_json_write_members.specs.declared.members.Show.{Show}
+
+-- all of an element that stands at the level 0 is shown
+abbrev pub all_shown : Show
+all_shown = record { cut = 1; blobs = true }
+
+-- a child as it stands at a stop
+abbrev pub child_text : ℕ → Element → List ℕ
+child_text j e = opening j ++ (compact_text (spell_element e) ++ closing j)
+
+-- the children that stand at a stop
+abbrev pub texts_at : ℕ → List Element → List (List ℕ)
+texts_at j es = map (child_text j) (filter (λ e. role_fits j (out-Element e).role) es)

@@ -1,5 +1,0 @@
-use Rattle.aas_members_text.proofs.Putting.{fields_both}
-use Rattle.aas_members_text.proofs.elements.put_supplemental.Goals as goal
-
-pub returns : goal.returns
-returns g c = fields_both c.put_list-meant.ensures c.put_list_type.ensures

@@ -1,5 +1,0 @@
-use Rattle.aas_members_text.proofs.Heads.{shown_canonical}
-use Rattle.aas_members_text.proofs.laws.shown_submodels_have_the_canonical_text.Goals as goal
-
-pub returns : goal.returns
-returns c = shown_canonical

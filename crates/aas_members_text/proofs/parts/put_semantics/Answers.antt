@@ -1,5 +1,0 @@
-use Rattle.aas_members_text.proofs.Putting.{fields_both}
-use Rattle.aas_members_text.proofs.parts.put_semantics.Goals as goal
-
-pub returns : goal.returns
-returns g c = fields_both c.put_optional-meant.ensures c.put_list.ensures

@@ -1,6 +1,0 @@
-use Rattle.std.proofs.Common.{◌≡◌, take}
-use Rattle.json.specs.Print.{escape}
-use Rattle.aas_members_text.proofs.plain.count_plain.Given as goal
-
-abbrev pub invariant-loop-i : goal.invariant-loop-i
-invariant-loop-i l = escape (take l.i l.bytes) ≡ take l.i l.bytes

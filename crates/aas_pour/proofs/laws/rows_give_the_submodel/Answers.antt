@@ -1,5 +1,0 @@
-use Rattle.aas_pour.proofs.Documents.{rows_give_submodel}
-use Rattle.aas_pour.proofs.laws.rows_give_the_submodel.Goals as goal
-
-pub returns : goal.returns
-returns c = rows_give_submodel

@@ -1,5 +1,0 @@
-use Rattle.aas_pour.proofs.FromTrees.{rows_give_texts}
-use Rattle.aas_pour.proofs.laws.rows_give_the_texts.Goals as goal
-
-pub returns : goal.returns
-returns c = rows_give_texts

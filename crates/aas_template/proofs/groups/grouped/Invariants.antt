@@ -1,6 +1,0 @@
-use Rattle.std.proofs.Common.{◌≡◌, take}
-use Rattle.aas_template.specs.Walk.{gathered, groups_of}
-use Rattle.aas_template.proofs.groups.grouped.Given as goal
-
-abbrev pub invariant-loop-instance : goal.invariant-loop-instance
-invariant-loop-instance l = gathered l.groups.items ≡ groups_of l.templates (take l.instance-index l.instances)
