@@ -9,3 +9,4 @@ mod Pages
 mod Planned
 mod Ranked
 mod Stored
+mod Values

@@ -22,7 +22,8 @@ use Rattle.aas_model.specs.declared.element.Element.{Element}
 use Rattle.aas_model.specs.declared.path.Path.{Path}
 use Rattle.aas_model.specs.declared.path.PathStep.{PathStep}
 use Rattle.aas_model.specs.declared.reference.Reference.{Reference}
-use Rattle.aas_value.specs.ValueForm.{array_of, submodel_value, value_form}
+use Rattle.aas_value.specs.Attributes.{array_of}
+use Rattle.aas_value.specs.ValueForm.{submodel_value, value_form}
 use Rattle.aas_form.specs.CoreForm.{core_form, submodel_core}
 use Rattle.aas_form.specs.MetadataForm.{metadata_form, submodel_metadata}
 use Rattle.aas_form.specs.PathsFrom.{element_paths, submodel_paths}

@@ -1,5 +1,5 @@
 -- Attributes with the metadata of others that are alike: kind by kind.
-use Rattle.std.proofs.Common.{◌≡◌, List, [], Some, None, refl}
+use Rattle.std.proofs.Common.{◌≡◌, List, Some, None, refl}
 use Rattle.aas_model.specs.Payload.{kind_of}
 use Rattle.aas_model.specs.declared.payload.Payload.{Payload}
 use Rattle.aas_model.specs.declared.payload.Payload.TheVariants as p
@@ -7,7 +7,8 @@ use Rattle.aas_model_names.specs.declared.modifiers.Extent.{Extent}
 use Rattle.aas_model_names.specs.declared.value_type.ValueType.{ValueType}
 use Rattle.aas_json_mapping.specs.Metadata.{without_values}
 use Rattle.aas_path_trees.specs.Children.{is_list_payload}
-use Rattle.aas_value.specs.ValueForm.{Child, value_over}
+use Rattle.aas_value.specs.Kinds.{form_of}
+use Rattle.aas_value.specs.Parts.{Part}
 use Rattle.aas_meta_update.specs.WithMetadata.{AreAlike, with_shown}
 
 same_type : (t u : ValueType) → Some t ≡ Some u → t ≡ u
@@ -35,7 +36,8 @@ shown_put x y alike = absurd (other_kinds alike.kind)
     other_kinds e = cc
 
 -- The values are those of the element.
-pub values_put : (extent : Extent) (x y : Payload) (kids : List Child) → AreAlike x y → value_over extent (with_shown x y) kids ≡ value_over extent x kids
+pub values_put : (extent : Extent) (x y : Payload) (kids : List Part) → AreAlike x y
+    → form_of extent (with_shown x y) kids ≡ form_of extent x kids
 values_put extent (p.Property t v i) y kids alike = refl
 values_put extent (p.MultiLanguageProperty v i) y kids alike = refl
 values_put extent (p.Range t min max) y kids alike = refl

@@ -1,7 +1,7 @@
 -- Metadata that is put changes nothing else in a submodel.
 use Rattle.std.proofs.Common.{◌≡◌, List, [], ◌∷◌, ◌++◌, map, false, Some, option_and_then, refl, sym, ap, ◌∙◌, subst}
 use Rattle.aas_model.specs.declared.documents.Submodel.{Submodel}
-use Rattle.aas_model.specs.declared.element.Element.{Element, Element-F, out-Element, out-roll-Element, roll-out-Element}
+use Rattle.aas_model.specs.declared.element.Element.{Element, Element-F, out-Element, out-roll-Element}
 use Rattle.aas_model.specs.declared.path.PathStep.{PathStep}
 use Rattle.aas_model_names.specs.declared.modifiers.Extent.{Extent}
 use Rattle.aas_path_trees.specs.Children.{kids_of, id_short_of, is_list, is_list_payload}
@@ -9,12 +9,14 @@ use Rattle.aas_path_trees.specs.ElementAt.{child_by, element_below, element_amon
 use Rattle.aas_path_trees.specs.WithElement.{with_below, with_element}
 use Rattle.aas_path_trees.proofs.Paths.{element_among-append, with_among-append}
 use Rattle.aas_edit_laws.proofs.Others.{changed_named, change_aside, there_among, there_below}
-use Rattle.aas_value.specs.ValueForm.{Child, child_of, value_over, named}
+use Rattle.aas_value.specs.Children.{named}
+use Rattle.aas_value.specs.Parts.{Part, children}
+use Rattle.aas_value.specs.ValueForm.{child_part, part_of}
+use Rattle.aas_value.proofs.Forms.{part_out, part_rolled}
 use Rattle.aas_meta_update.specs.WithMetadata.{IsAlike, with_metadata, with_shown}
 use Rattle.aas_meta_update.specs.Laws.{IsAsBefore, OnlyThere, OnlyMetadataChanges}
 use Rattle.aas_meta_update.proofs.Alike.{list_put, values_put}
-use Rattle.aas_meta_update.proofs.Paths.{own_stays, child_stays, there_at, below_at, value_at}
-use Rattle.aas_meta_update.proofs.ValueForms.{child_at}
+use Rattle.aas_meta_update.proofs.Paths.{own_stays, part_stays, there_at, below_at, value_at}
 
 module _ (o m : Element) (alike : IsAlike o m) (name : id_short_of m ≡ id_short_of o) where
   w : Element
@@ -33,15 +35,14 @@ module _ (o m : Element) (alike : IsAlike o m) (name : id_short_of m ≡ id_shor
   w_list : is_list w ≡ is_list o
   w_list = ap (λ (y : Element-F Element). is_list_payload y.payload) out_w ∙ list_put (out-Element o).payload (out-Element m).payload alike
 
-  w_child : (x : Extent) → child_of x w ≡ child_of x o
+  w_part : (x : Extent) → part_of x w ≡ part_of x o
   unfolding w
-  w_child x =
+  w_part x =
       let y = out-Element o in
       let z = out-Element m in
-      let forms = values_put x y.payload z.payload (map (child_of x) y.kids) alike in
-      let same : ◌≡◌ {A = Child} (record { name = z.common.id_short; form = value_over x (with_shown y.payload z.payload) (map (child_of x) y.kids) })
-      (record { name = y.common.id_short; form = value_over x y.payload (map (child_of x) y.kids) }) = λ i. record { name = name i; form = forms i } in
-      child_at x (record y { common = z.common; payload = with_shown y.payload z.payload }) ∙ same ∙ sym (ap (child_of x) (sym (roll-out-Element o)) ∙ child_at x y)
+      let forms = values_put x y.payload z.payload (map (part_of x) y.kids) alike in
+      part_rolled x (record y { common = z.common; payload = with_shown y.payload z.payload })
+      ∙ (λ i. child_part (name i) (forms i)) ∙ sym (part_out x o)
 
   module _ (d : Submodel) where
     -- what a front of the path leads to
@@ -56,16 +57,20 @@ module _ (o m : Element) (alike : IsAlike o m) (name : id_short_of m ≡ id_shor
         let same = with_among-append false v a (s ∷ b) k w d.kids there in (
           new,
           ap (λ ks. element_among false v a ks) same ∙ leads,
-          record { own = own_stays w s b k; value = λ x. ap (λ (c : Child). c.form) (child_stays w o w_name w_kids w_list w_child x (s ∷ b) k ready) },
+          record {
+            own = own_stays w s b k;
+            value = λ x.
+                ap (λ (y : Part). y.child.form) (part_stays w o w_name w_kids w_list w_part x (s ∷ b) k ready);
+          },
         )
 
     only_there : (p : List PathStep) → element_at d p ≡ Some o → OnlyThere d (with_element d p w) p w
     only_there p is = record {
-      there = there_at w o w_name w_kids w_list w_child d p is;
+      there = there_at w o w_name w_kids w_list w_part d p is;
       above = λ a b s k e there. subst (λ q. (v : Element) × (element_at (with_element d q w) a ≡ Some v) × IsAsBefore k v) (sym e) (above_at a b s k (ap (element_at d) (sym e) ∙ is) there);
-      below = λ c t. below_at w o w_name w_kids w_list w_child d p c t is;
+      below = λ c t. below_at w o w_name w_kids w_list w_part d p c t is;
       aside = λ a b c s t e apart. ap (λ q. element_at (with_element d q w) (a ++ t ∷ c)) e ∙ change_aside w o w_name d a b c s t (ap (element_at d) (sym e) ∙ is) apart;
-      value = λ x. ap named (value_at w o w_name w_kids w_list w_child d x p is);
+      value = λ x. ap (λ xs. named (children xs)) (value_at w o w_name w_kids w_list w_part d x p is);
     }
 
 pub only_metadata_changes : OnlyMetadataChanges

@@ -9,9 +9,9 @@ use Rattle.aas_path_trees.specs.ElementAt.{child_by, element_below, element_amon
 use Rattle.aas_path_trees.specs.WithElement.{with_child, with_below, with_among, with_element}
 use Rattle.aas_path_trees.proofs.Paths.{child_by-there, element_among-append, element_below-cons, with_below-cons}
 use Rattle.aas_edit_laws.proofs.Others.{there_among, there_below}
-use Rattle.aas_value.specs.ValueForm.{child_of}
+use Rattle.aas_value.specs.ValueForm.{part_of}
 use Rattle.aas_meta_update.specs.Laws.{own_of}
-use Rattle.aas_meta_update.proofs.ValueForms.{kids_child, set_same}
+use Rattle.aas_meta_update.proofs.ValueForms.{kids_part, set_same}
 
 abbrev Place : Type 0
 Place = ℕ × Element
@@ -23,28 +23,34 @@ pub own_stays : (w : Element) (s : PathStep) (p : List PathStep) (e : Element) �
 own_stays w s p e = ap own_of (with_below-cons s p e w) ∙ own_kids e (with_among (is_list e) s p (kids_of e) w)
 
 module _ (w o : Element) (same_name : id_short_of w ≡ id_short_of o) (same_kids : kids_of w ≡ kids_of o) (same_list : is_list w ≡ is_list o)
-    (same_child : (x : Extent) → child_of x w ≡ child_of x o) where
+    (same_part : (x : Extent) → part_of x w ≡ part_of x o) where
   leads_on : (l : Bool) (s : PathStep) (p : List PathStep) (ks : List Element) (k : Place) → child_by l s ks ≡ Some k → element_among l s p ks ≡ Some o → element_below p k.1 ≡ Some o
   leads_on l s p ks k is there = sym (ap (option_and_then (λ (c : Place). element_below p c.1)) is) ∙ there
 
   -- ---- value forms
 
-  among_child : (x : Extent) (l : Bool) (s : PathStep) (ks : List Element) (f : Element → Element) (c : Option Place) → child_by l s ks ≡ c
-      → ((k : Place) → child_by l s ks ≡ Some k → child_of x (f k.1) ≡ child_of x k.1) → map (child_of x) (with_child f ks c) ≡ map (child_of x) ks
-  among_child x l s ks f None is same = refl
-  among_child x l s ks f (Some k) is same = set_same (child_of x) ks k.0 k.1 (f k.1) (child_by-there l s ks k is).1 (same k is)
+  among_part : (x : Extent) (l : Bool) (s : PathStep) (ks : List Element) (f : Element → Element) (c : Option Place)
+      → child_by l s ks ≡ c
+      → ((k : Place) → child_by l s ks ≡ Some k → part_of x (f k.1) ≡ part_of x k.1)
+      → map (part_of x) (with_child f ks c) ≡ map (part_of x) ks
+  among_part x l s ks f None is same = refl
+  among_part x l s ks f (Some k) is same =
+      set_same (part_of x) ks k.0 k.1 (f k.1) (child_by-there l s ks k is).1 (same k is)
 
-  pub child_stays : (x : Extent) (p : List PathStep) (e : Element) → element_below p e ≡ Some o → child_of x (with_below p e w) ≡ child_of x e
+  pub part_stays : (x : Extent) (p : List PathStep) (e : Element)
+      → element_below p e ≡ Some o → part_of x (with_below p e w) ≡ part_of x e
   unfolding element_below with_below
-  child_stays x [] e is = let same : o ≡ e = cc in same_child x ∙ ap (child_of x) same
-  child_stays x (s ∷ p) e is =
-      kids_child x e (with_among (is_list e) s p (kids_of e) w)
-      (among_child x (is_list e) s (kids_of e) (λ k. with_below p k w) (child_by (is_list e) s (kids_of e)) refl
-      (λ k found. child_stays x p k.1 (leads_on (is_list e) s p (kids_of e) k found is)))
+  part_stays x [] e is = let same : o ≡ e = cc in same_part x ∙ ap (part_of x) same
+  part_stays x (s ∷ p) e is =
+      kids_part x e (with_among (is_list e) s p (kids_of e) w)
+      (among_part x (is_list e) s (kids_of e) (λ k. with_below p k w) (child_by (is_list e) s (kids_of e)) refl
+      (λ k found. part_stays x p k.1 (leads_on (is_list e) s p (kids_of e) k found is)))
 
-  kids_stay : (x : Extent) (s : PathStep) (p : List PathStep) (ks : List Element) → element_among false s p ks ≡ Some o → map (child_of x) (with_among false s p ks w) ≡ map (child_of x) ks
+  kids_stay : (x : Extent) (s : PathStep) (p : List PathStep) (ks : List Element)
+      → element_among false s p ks ≡ Some o → map (part_of x) (with_among false s p ks w) ≡ map (part_of x) ks
   kids_stay x s p ks is =
-      among_child x false s ks (λ k. with_below p k w) (child_by false s ks) refl (λ k found. child_stays x p k.1 (leads_on false s p ks k found is))
+      among_part x false s ks (λ k. with_below p k w) (child_by false s ks) refl
+      (λ k found. part_stays x p k.1 (leads_on false s p ks k found is))
 
   -- ---- other paths
 
@@ -65,6 +71,7 @@ module _ (w o : Element) (same_name : id_short_of w ≡ id_short_of o) (same_kid
         ∙ below_here t c
         ∙ sym (element_among-append false s p (t ∷ c) d.kids ∙ ap (option_and_then (element_below (t ∷ c))) is)
 
-    pub value_at : (x : Extent) (p : List PathStep) → element_at d p ≡ Some o → map (child_of x) (with_element d p w).kids ≡ map (child_of x) d.kids
+    pub value_at : (x : Extent) (p : List PathStep)
+        → element_at d p ≡ Some o → map (part_of x) (with_element d p w).kids ≡ map (part_of x) d.kids
     value_at x [] is = absurd (cc)
     value_at x (s ∷ p) is = kids_stay x s p d.kids is

@@ -1,14 +1,15 @@
 -- The laws of putting metadata.
 use Rattle.std.proofs.Common.{◌≡◌, [], map, refl, sym, ap, ◌∙◌}
-use Rattle.aas_model.specs.declared.element.Element.{Element, Element-F, out-Element, roll-Element, out-roll-Element, roll-out-Element}
+use Rattle.aas_model.specs.declared.element.Element.{Element, Element-F, out-Element, roll-Element, out-roll-Element}
 use Rattle.aas_model_names.specs.declared.modifiers.Extent.{Extent}
 use Rattle.aas_json_mapping.specs.Metadata.{without_values, metadata_form}
 use Rattle.aas_path_trees.specs.Children.{role_of, with_role}
-use Rattle.aas_value.specs.ValueForm.{Child, child_of, value_form}
+use Rattle.aas_value.specs.Parts.{Part, value}
+use Rattle.aas_value.specs.ValueForm.{part_of, value_form}
+use Rattle.aas_value.proofs.Forms.{form_out, part_rolled}
 use Rattle.aas_meta_update.specs.WithMetadata.{IsAlike, with_metadata, with_shown}
 use Rattle.aas_meta_update.specs.Laws.{MetadataIsPut, ValuesStay}
 use Rattle.aas_meta_update.proofs.Alike.{shown_put, values_put}
-use Rattle.aas_meta_update.proofs.ValueForms.{child_at}
 
 -- a form, by what it has
 abbrev form_in : Element-F Element → Element
@@ -30,9 +31,10 @@ value_put : (x : Extent) (e m : Element) → IsAlike e m → value_form x (with_
 value_put x e m alike =
     let y = out-Element e in
     let z = out-Element m in
-    ap (λ (c : Child). c.form) (child_at x (record y { common = z.common; payload = with_shown y.payload z.payload }))
-    ∙ values_put x y.payload z.payload (map (child_of x) y.kids) alike
-    ∙ sym (ap (λ (c : Child). c.form) (ap (child_of x) (sym (roll-out-Element e)) ∙ child_at x y))
+    let new = part_rolled x (record y { common = z.common; payload = with_shown y.payload z.payload }) in
+    ap (λ (p : Part). p.child.form) new
+    ∙ ap value (values_put x y.payload z.payload (map (part_of x) y.kids) alike)
+    ∙ sym (form_out x e)
 
 pub values_stay : ValuesStay
 values_stay = record { element = value_put; submodel = λ x d m. refl }

@@ -20,7 +20,7 @@ use Rattle.aas_path_trees.specs.Children.{kids_of, is_list, with_role}
 use Rattle.aas_path_trees.specs.ElementAt.{child_by, element_below, element_at}
 use Rattle.aas_path_trees.proofs.Paths.{child_by-there}
 use Rattle.aas_edit_laws.specs.Laws.{at_level}
-use Rattle.aas_edit_laws.proofs.OneLevel.{down, up, own}
+use Rattle.aas_edit_laws.proofs.OneLevel.{down, up}
 use Rattle.aas_edit_laws.proofs.Edits.{each_element}
 use Rattle.aas_edit_laws.proofs.Siblings.{IsWhole, IsWholeUnder, AreWhole, each_at, each_map}
 use Rattle.aas_meta_update.specs.WithMetadata.{AreAlike, IsAlike, with_metadata, with_shown}

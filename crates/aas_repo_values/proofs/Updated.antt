@@ -22,14 +22,13 @@ use Rattle.aas_constraint_rules.specs.Faults.{faults, submodel}
 use Rattle.aas_json_spelling.specs.Values.{IsOrdered}
 use Rattle.aas_model.specs.declared.common.Head.{Head}
 use Rattle.aas_model.specs.declared.documents.Submodel.{Submodel}
-use Rattle.aas_model.specs.declared.element.Element.{Element, fold_out-Element}
+use Rattle.aas_model.specs.declared.element.Element.{Element}
 use Rattle.aas_model.specs.declared.patch.PatchRow.{PatchRow}
 use Rattle.aas_model.specs.declared.path.Fault.{Fault}
 use Rattle.aas_model.specs.declared.path.Missing.{Missing}
 use Rattle.aas_model.specs.declared.path.Path.{Path}
 use Rattle.aas_model.specs.declared.path.PathStep.{PathStep}
 use Rattle.aas_model.specs.declared.payload.Payload.{Payload}
-use Rattle.aas_model.specs.declared.payload.Payload.TheVariants as payload
 use Rattle.aas_model_names.specs.declared.collection.Collection.TheVariants.{Submodels}
 use Rattle.aas_model_names.specs.declared.modifiers.Extent.TheVariants as extent
 use Rattle.aas_path_trees.specs.Children.{kids_of}
@@ -51,20 +50,18 @@ use Rattle.aas_rows.specs.declared.view.RowView.{RowView}
 use Rattle.aas_step.specs.Lost.{IsRefusalOf}
 use Rattle.aas_lemmas.proofs.Lists.{no_map}
 use Rattle.aas_path_trees.proofs.Paths.{with_element-same}
-use Rattle.aas_value.specs.ValueForm.{Child, as_child, child_of, value_form, value_over}
+use Rattle.aas_value.specs.ValueForm.{value_form}
 use Rattle.aas_value_patch.specs.Prepared.{Bears, Breaks, IsValueFault}
 use Rattle.aas_value_patch.specs.declared.preparing.ValueFault.{ValueFault}
 use Rattle.aas_value_patch.specs.declared.preparing.ValueFault.TheVariants as fault
-use Rattle.aas_value_update.specs.Kinds.{form_of}
-use Rattle.aas_value_update.specs.Parts.{Part, children, fits_form}
-use Rattle.aas_value_update.specs.Shape.{HasShape, Sendable, among, first_misshapen, sendable, sendable_over, sent}
+use Rattle.aas_value_update.specs.Shape.{HasShape, first_misshapen}
 use Rattle.aas_value_update.specs.Update.{IsElementUpdate, IsSubmodelUpdate, IsValueUpdate, body, valued_at}
 use Rattle.aas_value_update.specs.Laws.{IsInOrder}
 use Rattle.aas_value_update.proofs.Judged.{shape_is_judged}
 use Rattle.aas_value_update.proofs.Place.{faults_after_update}
+use Rattle.aas_value_update.proofs.Sent.{form_there}
 use Rattle.aas_value_update.proofs.WholeSubmodel.{update_stays_whole}
 use Rattle.aas_value_update.proofs.Order.{body_order, order_at, body_kids}
-use Rattle.aas_constraint_rules.specs.Sites.{Own, own_of}
 use Rattle.aas_repo_values.proofs.Bodies.{as_many, is_body, kids_differ}
 use Rattle.aas_repo_documents.proofs.Decided.{makes, refused_by, refuses}
 use Rattle.aas_repo_documents.proofs.Reached.{found_there, is_missing_at}
@@ -72,28 +69,6 @@ use Rattle.aas_repo_documents.specs.Decisions.{IsDecision, Makes}
 use Rattle.aas_repo_values.specs.Patches.{IsPatchFor, IsRefused, refusal_behind}
 use Rattle.aas_repo_documents.proofs.Accepted.{some_steps}
 use Rattle.aas_repo_documents.specs.declared.decision.Decision.TheVariants as decision
-
--- ---- what has the shape of a value has a value form
-
-form_over : (x : Payload) (xs : List Part) (cs : List Child) (v : Data) (more : Option (List PathStep))
-    → (if fits_form (form_of x xs) v then more else Some []) ≡ None
-    → is_some (value_over extent.WithBlobValue x cs) ≡ true
-form_over payload.Capability xs cs v more e = absurd (cc)
-form_over payload.Operation xs cs v more e = absurd (cc)
-form_over x xs cs v more e = refl
-
-form_there : (e : Element) (v : Data) → HasShape e v → is_some (value_form extent.WithBlobValue e) ≡ true
-unfolding sendable
-form_there e v shape =
-    let o : Own = own_of e in
-    let ks : List Sendable = each sendable (kids_of e) in
-    let parts : List Part = each (λ (k : Sendable). k.part) ks in
-    let out : sendable e ≡ sendable_over (record { common = o.common; payload = o.payload; role = o.role; kids = ks }) =
-    fold_out-Element Sendable sendable_over e in
-    ap (λ (c : Child). is_some c.form) (fold_out-Element Child (as_child extent.WithBlobValue) e)
-    ∙ form_over o.payload parts (each (child_of extent.WithBlobValue) (kids_of e)) v
-    (among o 0 ks (sent o.payload (children parts) v))
-    (sym (ap (λ (k : Sendable). k.misshapen v) out) ∙ (shape_is_judged e v).0 shape)
 
 -- ---- causes, at what a path leads to
 

@@ -1,2 +1,2 @@
 pub mod Forms
-mod Formless
+pub mod Formless

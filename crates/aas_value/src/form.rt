@@ -4,7 +4,10 @@ ghost use Rattle.serde_json.specs.Written.{has_float};
 ghost use Rattle.aas_json_members.specs.Exact.{data_of};
 ghost use Rattle.aas_json_members.specs.Object.{members_of};
 ghost use Rattle.aas_model_names.specs.declared.modifiers.Extent.{Extent};
-ghost use Rattle.aas_value.specs.ValueForm.{child_of, value_form, value_over, shows_children, submodel_value, named, in_order, put_child, annotation_value};
+ghost use Rattle.aas_value.specs.Children.{named, in_order, put_child, annotation_value};
+ghost use Rattle.aas_value.specs.Kinds.{form_of};
+ghost use Rattle.aas_value.specs.Parts.{children, value};
+ghost use Rattle.aas_value.specs.ValueForm.{part_of, value_form, shows_children, submodel_value};
 
 use crate::kinds::{
     annotated_value, blob_value, entity_members, event_value, file_value, languages_value,
@@ -60,7 +63,8 @@ pub fn value_of_parts(
     kids: &[Element],
     extent: Extent,
 ) -> Result<Option<Exact>, NoMemory>
-    ensures { IfOk result (λ found. option_map data_of found ≡ value_over extent payload.now (map (child_of extent) kids.now)) }
+    ensures { IfOk result (λ found.
+        option_map data_of found ≡ value (form_of extent payload.now (map (part_of extent) kids.now))) }
 {
     match payload {
         Payload::AnnotatedRelationshipElement { first, second } => {
@@ -90,7 +94,7 @@ pub fn value_of_parts(
 /// The value form of an element of these attributes, where that shows no children.
 fn own_value(alloc: Global, payload: &Payload, extent: Extent) -> Result<Option<Exact>, NoMemory>
     requires { shows_children payload.now ≡ false }
-    ensures { IfOk result (λ found. option_map data_of found ≡ value_over extent payload.now []) }
+    ensures { IfOk result (λ found. option_map data_of found ≡ value (form_of extent payload.now [])) }
 {
     match payload {
         Payload::Property {
@@ -125,7 +129,7 @@ fn own_value(alloc: Global, payload: &Payload, extent: Extent) -> Result<Option<
 #[cycle(value)]
 #[tactic(auto, using(crate::proofs::Forms::name_out))]
 fn annotation(alloc: Global, kid: &Element, extent: Extent) -> Result<Option<Exact>, NoMemory>
-    ensures { IfOk result (λ found. option_map data_of found ≡ (annotation_value (child_of extent kid.now)).form) }
+    ensures { IfOk result (λ found. option_map data_of found ≡ (annotation_value (part_of extent kid.now).child).form) }
 {
     match value_form(alloc, kid, extent)? {
         Some(value) => {
@@ -139,9 +143,8 @@ fn annotation(alloc: Global, kid: &Element, extent: Extent) -> Result<Option<Exa
 
 /// The object of the children under their names.
 #[cycle(value)]
-#[tactic(auto, using(crate::proofs::Forms::name_out))]
 fn named_values(alloc: Global, kids: &[Element], extent: Extent) -> Result<Exact, NoMemory>
-    ensures { IfOk result (λ exact. data_of exact ≡ named (map (child_of extent) kids.now)) }
+    ensures { IfOk result (λ exact. data_of exact ≡ named (children (map (part_of extent) kids.now))) }
 {
     let mut object = Object::new(alloc);
     for kid in kids {
@@ -154,7 +157,7 @@ fn named_values(alloc: Global, kids: &[Element], extent: Extent) -> Result<Exact
 /// The array of the children in order.
 #[cycle(value)]
 fn ordered_values(alloc: Global, kids: &[Element], extent: Extent) -> Result<Exact, NoMemory>
-    ensures { IfOk result (λ exact. data_of exact ≡ in_order (map (child_of extent) kids.now)) }
+    ensures { IfOk result (λ exact. data_of exact ≡ in_order (children (map (part_of extent) kids.now))) }
 {
     let mut array = Array::new(alloc);
     for kid in kids {
@@ -166,7 +169,8 @@ fn ordered_values(alloc: Global, kids: &[Element], extent: Extent) -> Result<Exa
 /// The array of the annotations in order, each an object with its name.
 #[cycle(value)]
 fn annotation_values(alloc: Global, kids: &[Element], extent: Extent) -> Result<Exact, NoMemory>
-    ensures { IfOk result (λ exact. data_of exact ≡ in_order (map annotation_value (map (child_of extent) kids.now))) }
+    ensures { IfOk result (λ exact.
+        data_of exact ≡ in_order (map annotation_value (children (map (part_of extent) kids.now)))) }
 {
     let mut array = Array::new(alloc);
     for kid in kids {

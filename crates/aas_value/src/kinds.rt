@@ -1,10 +1,13 @@
-ghost use Rattle.std.specs.Prelude.{◌≡◌, codes, IfOk};
+ghost use Rattle.std.specs.Prelude.{◌≡◌, [], codes, IfOk, Some};
 ghost use Rattle.serde_json.specs.Data.{object, member, no_members};
 ghost use Rattle.aas_json_members.specs.Exact.{data_of};
 ghost use Rattle.aas_json_mapping.specs.Parts.{spell_specific_asset_id};
-ghost use Rattle.aas_model_names.specs.declared.modifiers.Extent.{Extent};
+ghost use Rattle.aas_model.specs.declared.payload.Payload.TheVariants as p;
 ghost use Rattle.aas_value.specs.Single.{single};
-ghost use Rattle.aas_value.specs.ValueForm.{array_of, text_or_null, reference_or_null, entity_type_or_null, language_value, blob_value};
+ghost use Rattle.aas_value.specs.Attributes.{array_of, text_or_null, reference_or_null, entity_type_or_null};
+ghost use Rattle.aas_value.specs.Attributes.{language_value};
+ghost use Rattle.aas_value.specs.Kinds.{form_of};
+ghost use Rattle.aas_value.specs.Parts as parts;
 
 use crate::single::single_value;
 use aas_json_members::{Array, Exact, Object, Written, text_value, word_value};
@@ -119,7 +122,8 @@ pub(crate) fn blob_value(
     content_type: &Option<Text>,
     value: &Option<Text>,
 ) -> Result<Exact, NoMemory>
-    ensures { IfOk result (λ exact. data_of exact ≡ blob_value extent content_type.now value.now) }
+    ensures { IfOk result (λ exact.
+        Some (data_of exact) ≡ parts.value (form_of extent (p.Blob content_type.now value.now) [])) }
 {
     match extent {
         Extent::WithBlobValue => Ok(file_value(alloc, content_type, value)?),

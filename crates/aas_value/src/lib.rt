@@ -1,5 +1,8 @@
 //! The value form of elements and submodels (IDTA-01002-3-0, serialization ValueOnly).
 //!
+//! The parts of each kind's form stand in one table (`form_of`), from which also follow which values may be sent and
+//! how they are laid over a form; what an update makes of an element by them stands in `aas_value_update`.
+//!
 //! The normal form is written by `aas_json_write`.
 //!
 //! Proved: the value form of every kind, by the attributes of the kind and the children, and of a submodel; which

@@ -17,18 +17,19 @@ use Rattle.aas_model.specs.declared.payload.Payload.{Payload}
 use Rattle.aas_model.specs.declared.payload.Payload.TheVariants as p
 use Rattle.aas_path_trees.specs.Children.{kids_of}
 use Rattle.aas_path_trees.specs.Places.{element_in}
-use Rattle.aas_value.specs.ValueForm.{Child, named, in_order, annotation_value}
-use Rattle.aas_value_update.specs.Kinds.{child_part, form_of, part_of, lay}
+use Rattle.aas_value.specs.Children.{Child, named, in_order, annotation_value}
+use Rattle.aas_value.specs.ValueForm.{child_part}
+use Rattle.aas_value_update.specs.Forms.{form_of, part_of, lay}
 use Rattle.aas_value_update.specs.Laws.{NamesDiffer}
-use Rattle.aas_value_update.specs.Parts.{Part, object_of, list_of, entries_of, is_called, name_is, by_name, children}
-use Rattle.aas_value_update.specs.Parts.{value, later, over, laid, laid_items, entry, put_entry, laid_entries, lay_form}
-use Rattle.aas_value_update.specs.Parts.{items_fit, entries_fit, fits_form}
+use Rattle.aas_value.specs.Parts.{Part, object_of, list_of, entries_of, is_called, name_is, by_name, children, value}
+use Rattle.aas_value.specs.Parts.{later, over, laid, laid_items, entry, put_entry, laid_entries, lay_form, items_fit}
+use Rattle.aas_value.specs.Parts.{entries_fit, fits_form}
 use Rattle.aas_value_update.specs.Shape.{HasShape, under_name, by_names, next_item, in_turn, by_entries}
 use Rattle.aas_value_update.specs.Shape.{items_in, if_sent, sent}
 use Rattle.aas_value_update.specs.Took.{AreNamed, NamedIn}
 use Rattle.aas_value_update.proofs.Alone.{kids_made}
 use Rattle.aas_value_update.proofs.Canonical.{order_rises}
-use Rattle.aas_value_update.proofs.Elements.{part_at, part_out, child_is}
+use Rattle.aas_value_update.proofs.Elements.{part_at, part_out}
 use Rattle.aas_value_update.proofs.Laid.{form, get_children, get_laid, sent_fits, children_rise, laid_rises, own_entry}
 use Rattle.aas_value_update.proofs.Laid.{form_members, form_items, items_with, form_entries, laid_first, fits_first}
 use Rattle.aas_value_update.proofs.Laid.{lay_named}
@@ -336,7 +337,6 @@ stays_all =
 pub whole_value_is_laid : WholeValueIsLaid
 unfolding StaysAll
 whole_value_is_laid e w v order old rises shape has =
-    let was : (part_of e).child.form ≡ Some w = ap (λ (c : Child). c.form) (child_is e) ∙ old in
     let laid : Some (lay e w v) ≡ Some v =
-    sym (ap (λ (o : Option Data). over (part_of e).lay o (Some v)) was) ∙ stays_all e v order.names rises shape has in
+    sym (ap (λ (o : Option Data). over (part_of e).lay o (Some v)) old) ∙ stays_all e v order.names rises shape has in
     cc

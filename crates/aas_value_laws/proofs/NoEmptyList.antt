@@ -12,7 +12,7 @@ use Rattle.aas_model.specs.declared.reference.Key.{Key}
 use Rattle.aas_model.specs.declared.reference.Reference.{Reference}
 use Rattle.aas_reference.specs.Spelling.{spell_key, key_attributes, spell_reference}
 use Rattle.aas_reference.proofs.Levels.{Within, by_levels, attributes_at, spell_at}
-use Rattle.aas_value_update.specs.Json.{has_empty_list, some_has_empty_list, member_has_empty_list}
+use Rattle.aas_value.specs.Json.{has_empty_list, some_has_empty_list, member_has_empty_list}
 
 -- what may be there has no empty list
 abbrev IsFull : Option Data → Type 0

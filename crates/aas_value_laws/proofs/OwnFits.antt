@@ -36,16 +36,15 @@ use Rattle.aas_model.specs.declared.reference.Reference.{Reference}
 use Rattle.aas_reference.specs.Spelling.{spell_reference}
 use Rattle.aas_reference.specs.Whole.{is_whole, whole_if_there, whole_and_there}
 use Rattle.aas_value.specs.Single.{native_or_text, single}
-use Rattle.aas_value.specs.ValueForm.{named, language_value, text_or_null, value_over, reference_or_null}
-use Rattle.aas_value.specs.ValueForm.{entity_type_or_null}
-use Rattle.aas_value_update.specs.Json.{is_single, is_string, is_string_or_null, is_language, all_items, has_empty_list}
-use Rattle.aas_value_update.specs.Json.{is_part, is_reference, is_reference_or_null, is_specific_asset_id}
-use Rattle.aas_value_update.specs.Json.{is_entity_type}
-use Rattle.aas_value_update.specs.Kinds.{form_of}
-use Rattle.aas_value_update.specs.Parts.{Part, object_of, is_called, by_name, children, value, members_fit, items_fit}
-use Rattle.aas_value_update.specs.Parts.{fits_if, entries_fit, fits_form}
+use Rattle.aas_value.specs.Children.{named}
+use Rattle.aas_value.specs.Attributes.{language_value, text_or_null, reference_or_null, entity_type_or_null}
+use Rattle.aas_value.specs.Kinds as kinds
+use Rattle.aas_value.specs.Json.{is_single, is_string, is_string_or_null, is_language, all_items, has_empty_list}
+use Rattle.aas_value.specs.Json.{is_part, is_reference, is_reference_or_null, is_specific_asset_id, is_entity_type}
+use Rattle.aas_value_update.specs.Forms.{form_of}
+use Rattle.aas_value.specs.Parts.{Part, object_of, is_called, by_name, children, value, members_fit, items_fit}
+use Rattle.aas_value.specs.Parts.{fits_if, entries_fit, fits_form}
 use Rattle.aas_value_update.specs.Took.{AreNamed, NamedIn}
-use Rattle.aas_value_update.proofs.Elements.{value_is}
 use Rattle.aas_value_update.proofs.Laid.{form, get_children, children_rise, own_entry, form_members, form_items}
 use Rattle.aas_value_update.proofs.Laid.{items_with, form_entries, fits_first, fits_named}
 use Rattle.aas_value_update.proofs.Members.{Rises, absent, same_name, name_itself, get_here, get_past}
@@ -200,11 +199,8 @@ kind_fits (p.SubmodelElementList o s t a) xs whole each names = list_fits xs eac
 -- the same of the form to an extent: without a Blob's value it has a member less
 pub shown_fits : (y : Extent) (x : Payload) (xs : List Part) → whole_payload limits x ≡ true → Each FitsItself xs
     → NamedIn x xs
-    → fits_if (fits_form (form_of x xs)) (value_over y x (children xs)) ≡ true
+    → fits_if (fits_form (form_of x xs)) (value (kinds.form_of y x xs)) ≡ true
 unfolding lib.Utf8.encode
-shown_fits extent.WithBlobValue x xs whole each names =
-    ap (fits_if (fits_form (form_of x xs))) (sym (value_is x xs)) ∙ kind_fits x xs whole each names
+shown_fits extent.WithBlobValue x xs whole each names = kind_fits x xs whole each names
 shown_fits extent.WithoutBlobValue (p.Blob t a) xs whole each names = and_from _ _ (text_fits t whole) refl
-shown_fits extent.WithoutBlobValue p.Capability xs whole each names = refl
-shown_fits extent.WithoutBlobValue x xs whole each names =
-    ap (fits_if (fits_form (form_of x xs))) (sym (value_is x xs)) ∙ kind_fits x xs whole each names
+shown_fits extent.WithoutBlobValue x xs whole each names = kind_fits x xs whole each names

@@ -1,14 +1,14 @@
 -- The value form of an element, to each extent, fits the element.
-use Rattle.std.proofs.Common.{◌≡◌, ℕ, zero, suc, ◌&&◌, true, false, List, [], ◌∷◌, map, Option, Some, is_some}
+use Rattle.std.proofs.Common.{◌≡◌, ℕ, zero, suc, ◌&&◌, true, false, List, [], ◌∷◌, map, Some, is_some}
 use Rattle.std.proofs.Common.{slice_get, refl, sym, ap, ap₂, ◌∙◌, subst}
 use Rattle.std.specs.List.{list_all}
 use Rattle.std.proofs.lemmas.Bool.{and_from}
-use Rattle.serde_json.specs.Data.{Data}
 use Rattle.aas_lemmas.proofs.Truth.{and_left, and_right}
 use Rattle.aas_json_table.specs.TooDeep.{limits}
 use Rattle.aas_json_spelling.specs.Lists.{Each}
 use Rattle.aas_json_mapping.specs.Whole.{has_whole_parts, whole_common, whole_payload, is_whole_element}
 use Rattle.aas_json_mapping.proofs.Elements.{made, made_out, by_children}
+use Rattle.aas_model.specs.Element.{kind_of}
 use Rattle.aas_model.specs.declared.documents.Submodel.{Submodel}
 use Rattle.aas_model.specs.declared.element.Element.{Element, out-Element}
 use Rattle.aas_model.specs.declared.element.Role.TheVariants as role
@@ -24,16 +24,18 @@ use Rattle.aas_path_trees.specs.Children.{kids_of}
 use Rattle.aas_path_trees.specs.ElementAt.{child_by}
 use Rattle.aas_path_trees.specs.Places.{element_in}
 use Rattle.aas_path_trees.proofs.Paths.{child_by-there}
-use Rattle.aas_value.specs.ValueForm.{Child, child_of, value_over, value_form}
-use Rattle.aas_value.proofs.Forms.{form_out, name_out}
-use Rattle.aas_value_update.specs.Kinds.{form_of, part_of}
+use Rattle.aas_value.specs.Children.{Child}
+use Rattle.aas_value.specs.ValueForm.{value_form}
+use Rattle.aas_value.specs.ValueForm as to_extent
+use Rattle.aas_value.proofs.Forms.{form_out, name_out, same_value}
+use Rattle.aas_value.proofs.Formless.{by_kind}
+use Rattle.aas_value_update.specs.Forms.{form_of, part_of}
 use Rattle.aas_value_update.specs.Laws.{NamesDiffer}
-use Rattle.aas_value_update.specs.Parts.{Part, children, fits_if, fits_form}
+use Rattle.aas_value.specs.Parts.{Part, children, fits_if, fits_form}
 use Rattle.aas_value_update.specs.Shape.{HasShape}
 use Rattle.aas_value_update.specs.Took.{AreNamed, NamedIn}
 use Rattle.aas_value_update.specs.Update.{body}
 use Rattle.aas_value_update.proofs.Alone.{kids_made}
-use Rattle.aas_value_update.proofs.Elements.{child_is}
 use Rattle.aas_value_update.proofs.Entire.{entire, entire_out, entire_child, shape_fits}
 use Rattle.aas_value_update.proofs.OneForm.{apart_in, named_in}
 use Rattle.aas_value_update.proofs.Order.{names_below, body_order, order_at}
@@ -46,32 +48,24 @@ use Rattle.aas_value_laws.proofs.OwnFits.{FitsItself, shown_fits}
 
 -- an element as a part, with its value form to an extent
 shown : Extent → Element → Part
-shown y e = record (entire e) { child = child_of y e }
+shown y e = record (entire e) { child = (to_extent.part_of y e).child }
 
-children_shown : (y : Extent) (ks : List Element) → children (map (shown y) ks) ≡ map (child_of y) ks
+children_shown : (y : Extent) (ks : List Element)
+    → children (map (shown y) ks) ≡ children (map (to_extent.part_of y) ks)
 unfolding shown
 children_shown y [] = refl
-children_shown y (k ∷ ks) = ap (λ cs. child_of y k ∷ cs) (children_shown y ks)
+children_shown y (k ∷ ks) = ap (λ cs. (to_extent.part_of y k).child ∷ cs) (children_shown y ks)
 
 -- the same name, and a value where there is one to any extent
 same_name : (y : Extent) (e : Element) → (part_of e).child.name ≡ (shown y e).child.name
 unfolding shown
-same_name y e = ap (λ (c : Child). c.name) (child_is e) ∙ name_out extent.WithBlobValue e ∙ sym (name_out y e)
-
-form_there : (y : Extent) (x : Payload) (cs ds : List Child)
-    → is_some (value_over extent.WithBlobValue x cs) ≡ is_some (value_over y x ds)
-form_there y p.Capability cs ds = refl
-form_there y p.Operation cs ds = refl
-form_there y _ cs ds = refl
+same_name y e = name_out extent.WithBlobValue e ∙ sym (name_out y e)
 
 same_there : (y : Extent) (e : Element) → is_some (entire e).child.form ≡ is_some (shown y e).child.form
 unfolding shown
 same_there y e =
-    ap (λ (c : Child). is_some c.form) (entire_child e ∙ child_is e)
-    ∙ ap (λ (f : Option Data). is_some f) (form_out extent.WithBlobValue e)
-    ∙ form_there y (out-Element e).payload (map (child_of extent.WithBlobValue) (kids_of e))
-    (map (child_of y) (kids_of e))
-    ∙ sym (ap (λ (f : Option Data). is_some f) (form_out y e))
+    ap (λ (c : Child). is_some c.form) (entire_child e)
+    ∙ by_kind extent.WithBlobValue e (kind_of e) refl ∙ sym (by_kind y e (kind_of e) refl)
 
 pairs : (y : Extent) (ks : List Element) → Pairs SameFit (map entire ks) (map (shown y) ks)
 unfolding shown
@@ -122,7 +116,8 @@ level_fits y e each names whole =
     let test : (entire e).fits ≡ fits_form (form_of x (map (shown y) ks)) =
     ap (λ (z : Part). z.fits) (entire_out e)
     ∙ (λ i v. fits_same (form_of x (map entire ks)) (form_of x (map (shown y) ks)) forms v i) in
-    ap₂ fits_if test (form_out y e ∙ ap (value_over y x) (sym (children_shown y ks)))
+    let same = sym (children_shown y ks) in
+    ap₂ fits_if test (form_out y e ∙ same_value y x (map (to_extent.part_of y) ks) (map (shown y) ks) same)
     ∙ shown_fits y x (map (shown y) ks) (and_right _ _ (and_left _ _ parts))
     (kids_fit y ks each (names_below e names) (and_right _ _ parts))
     (named_shown y x ks (named_in x ks (names [] e refl)))

@@ -16,13 +16,13 @@ use Rattle.aas_model.specs.declared.payload.Payload.{Payload}
 use Rattle.aas_model.specs.declared.payload.Payload.TheVariants as p
 use Rattle.aas_path_trees.specs.Children.{kids_of}
 use Rattle.aas_path_trees.specs.Places.{element_in}
-use Rattle.aas_value.specs.ValueForm.{Child, shows_children}
-use Rattle.aas_value_update.specs.Kinds.{form_of, part_of}
+use Rattle.aas_value.specs.ValueForm.{shows_children}
+use Rattle.aas_value_update.specs.Forms.{form_of, part_of}
 use Rattle.aas_value_update.specs.Laws.{IsInOrder}
-use Rattle.aas_value_update.specs.Parts.{Part, is_called, by_name, children, value}
+use Rattle.aas_value.specs.Parts.{Part, is_called, by_name, children, value}
 use Rattle.aas_value_update.specs.Shape.{by_names, next_item, in_turn, by_entries, sent}
 use Rattle.aas_value_update.proofs.Alone.{kids_made}
-use Rattle.aas_value_update.proofs.Elements.{part_out, child_is}
+use Rattle.aas_value_update.proofs.Elements.{part_out}
 use Rattle.aas_value_update.proofs.Laid.{form, get_children, own_entry, form_members, form_items, items_with}
 use Rattle.aas_value_update.proofs.Laid.{form_entries}
 use Rattle.aas_value_update.proofs.Named.{IsNew, Apart, not_called, called_itself}
@@ -165,5 +165,4 @@ all_have =
 pub own_form_has_all : OwnFormHasAll
 unfolding HasAll
 own_form_has_all e w order is =
-    let was : form (part_of e) ≡ Some w = ap (λ (c : Child). c.form) (child_is e) ∙ is in
-    sym (ap (one_has_all (full e)) was) ∙ all_have e order
+    sym (ap (one_has_all (full e)) is) ∙ all_have e order

@@ -28,11 +28,10 @@ use Rattle.aas_json_mapping.proofs.PartsFound.{some_specific_asset_id}
 use Rattle.aas_reference.specs.Spelling.{spell_reference}
 use Rattle.aas_reference.proofs.Exists.{some_reference}
 use Rattle.aas_value.specs.Single.{native_or_text, single}
-use Rattle.aas_value.specs.ValueForm.{array_of, language_value, text_or_null, reference_or_null, entity_type_or_null}
-use Rattle.aas_value_update.specs.Json.{is_single, is_string, is_string_or_null, is_language, is_array_of, all_items}
-use Rattle.aas_value_update.specs.Json.{is_part, is_reference, is_reference_or_null, is_specific_asset_id}
-use Rattle.aas_value_update.specs.Json.{is_entity_type}
-use Rattle.aas_value_update.specs.Parts.{Part, object_of, fits_if, fits_form}
+use Rattle.aas_value.specs.Attributes.{array_of, language_value, text_or_null, reference_or_null, entity_type_or_null}
+use Rattle.aas_value.specs.Json.{is_single, is_string, is_string_or_null, is_language, is_array_of, all_items, is_part}
+use Rattle.aas_value.specs.Json.{is_reference, is_reference_or_null, is_specific_asset_id, is_entity_type}
+use Rattle.aas_value.specs.Parts.{Part, object_of, fits_if, fits_form}
 use Rattle.aas_value_update.proofs.Canonical.{says_itself}
 use Rattle.aas_value_update.proofs.Laid.{sent_fits, fits_named}
 use Rattle.aas_value_laws.proofs.Sendable.{IsSendable, IfSendable, found_sendable, items_sendable}

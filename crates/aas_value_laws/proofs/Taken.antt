@@ -7,12 +7,13 @@ use Rattle.serde_json.specs.Find.{get}
 use Rattle.aas_constraint_laws.specs.Values.{without_values}
 use Rattle.aas_model.specs.declared.payload.Payload.{Payload}
 use Rattle.aas_model.specs.declared.payload.Payload.TheVariants as p
-use Rattle.aas_value.specs.ValueForm.{Child, named, in_order, annotation_value}
-use Rattle.aas_value_update.specs.Json.{is_single, is_string, is_string_or_null, is_array_of, is_reference}
-use Rattle.aas_value_update.specs.Json.{is_specific_asset_id, is_entity_type}
-use Rattle.aas_value_update.specs.Kinds.{own, part, form_of}
-use Rattle.aas_value_update.specs.Parts.{Part, Form, object_of, list_of, entries_of, children, value, over, lay_form}
-use Rattle.aas_value_update.specs.Parts.{fits_if, fits_form}
+use Rattle.aas_value.specs.Children.{Child, named, in_order, annotation_value}
+use Rattle.aas_value.specs.Json.{is_single, is_string, is_string_or_null, is_array_of, is_reference}
+use Rattle.aas_value.specs.Json.{is_specific_asset_id, is_entity_type}
+use Rattle.aas_value.specs.Kinds.{own, part}
+use Rattle.aas_value_update.specs.Forms.{form_of}
+use Rattle.aas_value.specs.Parts.{Part, Form, object_of, list_of, entries_of, children, value, over, lay_form, fits_if}
+use Rattle.aas_value.specs.Parts.{fits_form}
 use Rattle.aas_value_update.specs.Shape.{by_names, in_turn, by_entries, items_in, nothing_sent, if_sent, sent}
 use Rattle.aas_value_update.specs.Took.{TookOne, Took, AreNamed, NamedIn}
 use Rattle.aas_value_update.proofs.Laid.{over_none, named_laid, items_laid, entries_laid}

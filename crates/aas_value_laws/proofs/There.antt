@@ -1,7 +1,7 @@
 -- There is an update by each value that fits: an element takes what is sent for its attributes, and its children take
 -- what is sent for them.
 use Rattle.std.proofs.Common.{◌≡◌, ℕ, zero, suc, Bool, true, false, List, [], ◌∷◌, map, Option, Some, None, option_map}
-use Rattle.std.proofs.Common.{slice_get, refl, sym, ap, ap₂, ◌∙◌, subst, true≢false}
+use Rattle.std.proofs.Common.{is_some, slice_get, refl, sym, ap, ap₂, ◌∙◌, subst, true≢false}
 use Rattle.std.specs.Prelude.{if◌then◌else◌}
 use Rattle.serde_json.specs.Data.{Data}
 use Rattle.aas_json_spelling.specs.Lists.{Each}
@@ -17,21 +17,22 @@ use Rattle.aas_constraint_laws.specs.Values.{without_values}
 use Rattle.aas_path_trees.specs.Children.{kids_of}
 use Rattle.aas_path_trees.specs.Places.{element_in}
 use Rattle.aas_path_trees.specs.WithElement.{with_element}
-use Rattle.aas_value.specs.ValueForm.{Child, value_form, shows_children}
-use Rattle.aas_value_update.specs.Kinds.{form_of, part_of, lay}
+use Rattle.aas_value.specs.Children.{Child}
+use Rattle.aas_value.specs.ValueForm.{value_form, shows_children}
+use Rattle.aas_value_update.specs.Forms.{part_of, lay}
 use Rattle.aas_value_update.specs.Laws.{NamesDiffer}
 use Rattle.aas_value_update.specs.LeftAlone.{left_alone}
-use Rattle.aas_value_update.specs.Parts.{Part, children, value, over, fits_form}
+use Rattle.aas_value.specs.Parts.{Part, children, over}
 use Rattle.aas_value_update.specs.Shape.{HasShape, nothing_sent, sent}
 use Rattle.aas_value_update.specs.Took.{TookOne, Took}
 use Rattle.aas_value_update.specs.Update.{IsElementUpdate, body}
 use Rattle.aas_value_update.proofs.Alone.{kids_made, level, shows_bare}
-use Rattle.aas_value_update.proofs.Elements.{part_at, part_out, child_is, kids_alone, alone_at}
+use Rattle.aas_value_update.proofs.Elements.{part_at, part_out, kids_alone, alone_at}
 use Rattle.aas_value_update.proofs.Laid.{over_none}
 use Rattle.aas_value_update.proofs.OneForm.{named_in}
 use Rattle.aas_value_update.proofs.Order.{names_below, body_order, order_at}
 use Rattle.aas_value_update.proofs.Rest.{differ_in_values, unshown_stays, left_alone_is}
-use Rattle.aas_value_update.proofs.Sent.{IfShaped, AreShaped, shape_out}
+use Rattle.aas_value_update.proofs.Sent.{IfShaped, AreShaped, shape_out, form_there}
 use Rattle.aas_value_laws.specs.Laws.{UpdateIsThere, ValueUpdateIsThere}
 use Rattle.aas_value_laws.proofs.Sendable.{IsSendable, IfSendable, AreSent, are_sent}
 use Rattle.aas_value_laws.proofs.Taken.{Taken, taken}
@@ -151,24 +152,14 @@ takes =
     by_children Takes (λ r c x ks each.
     level_takes (made r c x ks) (subst (Each Takes) (sym (kids_made r c x ks)) each))
 
--- what fits has a form to be laid over
-formless : (x : Payload) (xs : List Part) (v : Data) → value (form_of x xs) ≡ None → fits_form (form_of x xs) v ≡ true
-    → ⊥
-formless p.Capability xs v none fits = true≢false (sym fits)
-formless p.Operation xs v none fits = true≢false (sym fits)
-formless x xs v none fits = absurd (cc)
-
 form_laid : (e : Element) (v : Data) → HasShape e v
     → over (part_of e).lay (part_of e).child.form (Some v)
     ≡ option_map (λ w. lay e w v) (value_form extent.WithBlobValue e)
-form_laid e v shape =
-    by_form (part_of e).child.form refl ∙ ap (λ (c : Child). option_map (λ w. lay e w v) c.form) (child_is e)
+form_laid e v shape = by_form (part_of e).child.form refl
   where
     by_form : (f : Option Data) → (part_of e).child.form ≡ f
         → over (part_of e).lay f (Some v) ≡ option_map (λ w. lay e w v) f
-    by_form None is =
-        let none = sym (ap (λ (y : Part). y.child.form) (part_out e)) ∙ is in
-        absurd (formless (out-Element e).payload (map part_of (kids_of e)) v none (shape_out e v shape).own)
+    by_form None is = absurd (true≢false (sym (form_there e v shape) ∙ ap is_some is))
     by_form (Some w) is = refl
 
 pub update_is_there : UpdateIsThere
@@ -181,9 +172,7 @@ update_is_there e v order good numbers shape =
         metadata = differ_in_values e made.element made.rest;
         operations = unshown_stays e made.element made.rest;
         shape = shape;
-        form =
-            sym (ap (λ (c : Child). c.form) (child_is made.element)) ∙ ap (λ (c : Child). c.form) made.took
-            ∙ form_laid e v shape;
+        form = ap (λ (c : Child). c.form) made.took ∙ form_laid e v shape;
       };
     }
 

@@ -5,8 +5,9 @@ use Rattle.std.specs.List.{list_all}
 use Rattle.serde_json.specs.Data.{Data}
 use Rattle.aas_model.specs.declared.element.Element.{Element, fold-Element}
 use Rattle.aas_model.specs.declared.element.Element.TheOpen.{Element-F}
-use Rattle.aas_value_update.specs.Kinds.{form_of, child_part}
-use Rattle.aas_value_update.specs.Parts.{Part, Form, object_of, children}
+use Rattle.aas_value_update.specs.Forms.{form_of}
+use Rattle.aas_value.specs.ValueForm.{child_part}
+use Rattle.aas_value.specs.Parts.{Part, Form, object_of, children}
 use Rattle.aas_value_update.specs.Shape.{under_name, sent}
 
 -- each attribute has its member

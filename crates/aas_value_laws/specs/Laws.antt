@@ -13,7 +13,7 @@ use Rattle.aas_json_mapping.specs.Whole.{has_whole_parts}
 use Rattle.aas_constraint_rules.specs.Faults.{submodel}
 use Rattle.aas_constraint_laws.specs.Valid.{IsValid}
 use Rattle.aas_value.specs.ValueForm.{value_form}
-use Rattle.aas_value_update.specs.Kinds.{lay}
+use Rattle.aas_value_update.specs.Forms.{lay}
 use Rattle.aas_value_update.specs.Laws.{IsInOrder}
 use Rattle.aas_value_update.specs.Shape.{HasShape}
 use Rattle.aas_value_update.specs.Update.{IsElementUpdate, IsValueUpdate, valued_at}

@@ -1,6 +1,6 @@
 -- What the update of a kind's own members makes of its value form.
 use Rattle.std.proofs.Common.{◌≡◌, ℕ, ◌+◌, ◌==◌, ◌&&◌, Bool, true, false, List, [], ◌∷◌, map, codes, Option, Some, None}
-use Rattle.std.proofs.Common.{unwrap_or, refl, sym, ap, ap₂, ◌∙◌, subst, true≢false, Result, Ok, Err}
+use Rattle.std.proofs.Common.{unwrap_or, refl, sym, ap, ap₂, ◌∙◌, subst, true≢false, Result, Ok, Err, MatchResult}
 use Rattle.std.specs.Result.{IsErr, IsErrAnd}
 use denote.Ref.{Bor}
 use Rattle.std.specs.Prelude.{bytes_eq}
@@ -24,13 +24,14 @@ use Rattle.aas_model_names.specs.declared.entity_type.EntityType.{EntityType}
 use Rattle.aas_model_names.specs.declared.state_of_event.StateOfEvent.{StateOfEvent}
 use Rattle.aas_model_names.specs.declared.value_type.ValueType.{ValueType}
 use Rattle.aas_value.specs.Single.{single}
-use Rattle.aas_value.specs.ValueForm.{Child, named, in_order, annotation_value, array_of, text_or_null}
-use Rattle.aas_value.specs.ValueForm.{reference_or_null, entity_type_or_null}
-use Rattle.aas_value_update.specs.Json.{is_single, is_string, is_string_or_null, is_reference, is_entity_type}
-use Rattle.aas_value_update.specs.Json.{is_array_of, is_specific_asset_id}
-use Rattle.aas_value_update.specs.Kinds.{own, part, form_of}
-use Rattle.aas_value_update.specs.Parts.{Part, object_of, entries_of, value, children, by_name, over, lay_form}
-use Rattle.aas_value_update.specs.Parts.{members_fit, items_fit, fits_form, fits_if}
+use Rattle.aas_value.specs.Children.{Child, named, in_order, annotation_value}
+use Rattle.aas_value.specs.Attributes.{array_of, text_or_null, reference_or_null, entity_type_or_null}
+use Rattle.aas_value.specs.Json.{is_single, is_string, is_string_or_null, is_reference, is_entity_type, is_array_of}
+use Rattle.aas_value.specs.Json.{is_specific_asset_id}
+use Rattle.aas_value.specs.Kinds.{own, part}
+use Rattle.aas_value_update.specs.Forms.{form_of}
+use Rattle.aas_value.specs.Parts.{Part, object_of, entries_of, value, children, by_name, over, lay_form, members_fit}
+use Rattle.aas_value.specs.Parts.{items_fit, fits_form, fits_if}
 use Rattle.aas_value_update.specs.Shape.{under_name, by_names, by_entries, items_in, nothing_sent, if_sent}
 use Rattle.aas_value_update.specs.Took.{TookOne, Took, AreNamed}
 use Rattle.aas_value_update.proofs.Canonical.{order_rises}
@@ -38,7 +39,7 @@ use Rattle.aas_value_update.proofs.Laid.{named_laid, items_laid, entries_laid, s
 use Rattle.aas_value_update.proofs.Members.{name_itself}
 use Rattle.aas_value_patch.specs.Counted.{one_if_some}
 use Rattle.aas_value_patch.specs.Faults.{Refuses}
-use Rattle.aas_value_patch.specs.Steps.{IsStep, Stepped}
+use Rattle.aas_value_patch.specs.Steps.{IsStep, Stepped, TakesContent, RefusesContent}
 use Rattle.aas_value_patch.specs.Takes.{Takes}
 use Rattle.aas_value_patch.specs.declared.fault.Misfit.{Misfit}
 use Rattle.aas_value_patch.specs.declared.fault.Misfit.TheVariants as misfit
@@ -105,16 +106,25 @@ two f g h w e = record {
   all = λ a b c. e ∙ ap₂ (λ x y. (x && (y && true)) && h) a b ∙ c;
 }
 
+-- a refusal of a part is one of the whole
+by_misfit : (m : Misfit) (f g : Bool) → Refuses m f → (f ≡ false → g ≡ false) → Refuses m g
+by_misfit misfit.Shape f g h more = more h
+by_misfit misfit.NoMemory f g h more = tt
+
 pub refused : (r : Result Step Misfit) (m : Misfit) (x : Payload) (xs : List Part) (v : Data) (f : Bool)
     → IsErr r → IsErrAnd r (λ e. e ≡ m) → Refuses m f
     → (f ≡ false → fits_form (form_of x xs) v ≡ false) → Stepped r x xs v
 refused (Ok s) m x xs v f err and h more = absurd (cc)
 refused (Err e) m x xs v f err and h more =
-    subst (λ e. Refuses e (fits_form (form_of x xs) v)) (sym and) (by_misfit m h)
-  where
-    by_misfit : (m : Misfit) → Refuses m f → Refuses m (fits_form (form_of x xs) v)
-    by_misfit misfit.Shape h = more h
-    by_misfit misfit.NoMemory h = tt
+    subst (λ e. Refuses e (fits_form (form_of x xs) v)) (sym and) (by_misfit m f (fits_form (form_of x xs) v) h more)
+
+pub content_refused : (r : Result (Option (List ℕ) × Option (List ℕ)) Misfit) (m : Misfit) (t u : Option (List ℕ))
+    (v : Data) (f : Bool) → IsErr r → IsErrAnd r (λ e. e ≡ m) → Refuses m f
+    → ((xs : List Part) → f ≡ false → fits_form (form_of (p.File t u) xs) v ≡ false)
+    → MatchResult r (λ found. TakesContent t u v found.0 found.1) (RefusesContent t u v)
+content_refused (Ok found) m t u v f err and h more = absurd (cc)
+content_refused (Err e) m t u v f err and h more =
+    subst (RefusesContent t u v) (sym and) (λ xs. by_misfit m f (fits_form (form_of (p.File t u) xs) v) h (more xs))
 
 pub record ThreeFit (f g h only whole : Bool) : Type 0 where
   pub first : f ≡ false → whole ≡ false
@@ -225,44 +235,10 @@ file_takes t v t' v' ms a b = record {
       );
 }
 
-pub blob_fits : (t v : Option (List ℕ)) (xs : List Part) (ms : Members) → HasOrder ms
-    → TwoFit (fits_if is_string (get_member (codes "contentType") ms))
-    (fits_if is_string_or_null (get_member (codes "value") ms))
-    (one_if_some (get_member (codes "contentType") ms) + (one_if_some (get_member (codes "value") ms) + 0)
-    == members_len ms)
-    (fits_form (form_of (p.Blob t v) xs) (object ms))
-unfolding encode
-blob_fits t v xs ms order =
-    two (fits_if is_string (get_member (codes "contentType") ms))
-    (fits_if is_string_or_null (get_member (codes "value") ms))
-    (one_if_some (get_member (codes "contentType") ms) + (one_if_some (get_member (codes "value") ms) + 0)
-    == members_len ms)
-    (fits_form (form_of (p.Blob t v) xs) (object ms))
-    (two_fit (codes "contentType") (codes "value") (text_or_null t)
-    (text_or_null v) is_string is_string_or_null ms refl order)
-
-pub blob_takes : (t v t' v' : Option (List ℕ)) (ms : Members)
-    → text_or_null t' ≡ unwrap_or (get_member (codes "contentType") ms) (text_or_null t)
-    → text_or_null v' ≡ unwrap_or (get_member (codes "value") ms) (text_or_null v)
-    → Takes (p.Blob t v) (object ms) (p.Blob t' v')
-unfolding encode
-blob_takes t v t' v' ms a b = record {
-  rest = refl;
-  form = λ xs ys fits named took.
-      object_took (own (codes "contentType") (text_or_null t) is_string
-      ∷ own (codes "value") (text_or_null v) is_string_or_null ∷ [])
-      (own (codes "contentType") (text_or_null t') is_string
-      ∷ own (codes "value") (text_or_null v') is_string_or_null ∷ [])
-      ms fits (
-        own_took (codes "contentType") (text_or_null t)
-            (text_or_null t') is_string (get_member (codes "contentType") ms) a,
-        (
-          own_took (codes "value") (text_or_null v)
-              (text_or_null v') is_string_or_null (get_member (codes "value") ms) b,
-          tt,
-        ),
-      );
-}
+-- a Blob has the form of a File
+pub blob_takes : (t v t' v' : Option (List ℕ)) (d : Data)
+    → Takes (p.File t v) d (p.File t' v') → Takes (p.Blob t v) d (p.Blob t' v')
+blob_takes t v t' v' d takes = record { rest = refl; form = takes.form }
 
 pub relationship_fits : (a b : Option Reference) (xs : List Part) (ms : Members) → HasOrder ms
     → TwoFit (fits_if is_reference (get_member (codes "first") ms))

@@ -12,30 +12,20 @@ use Rattle.serde_json.specs.Events.{members_len}
 use Rattle.serde_json.specs.View.{view, items_view}
 use Rattle.serde_json.specs.declared.value.Value.{Value}
 use Rattle.serde_json.specs.Find.{get, get_member}
-use Rattle.aas_model_names.specs.declared.modifiers.Extent.{Extent}
 use Rattle.aas_model_names.specs.declared.modifiers.Extent.TheVariants as extent
-use Rattle.aas_model.specs.Element.{kind_of}
 use Rattle.aas_model.specs.declared.element.Element.{Element, out-Element}
-use Rattle.aas_value.specs.ValueForm.{Child, value_form}
+use Rattle.aas_value.specs.Children.{Child}
 use Rattle.aas_value.proofs.Forms.{name_out}
-use Rattle.aas_value_update.specs.Kinds.{part_of}
-use Rattle.aas_value_update.specs.Parts.{Part, name_is, is_called, entry, children, members_fit, is_empty, item_fits}
-use Rattle.aas_value_update.specs.Parts.{items_fit, entries_fit, fits_if}
+use Rattle.aas_value_update.specs.Forms.{part_of}
+use Rattle.aas_value.specs.Parts.{Part, name_is, is_called, entry, children, members_fit, is_empty, item_fits}
+use Rattle.aas_value.specs.Parts.{items_fit, entries_fit, fits_if}
 use Rattle.aas_value_update.specs.Shape.{under_name, next_item, in_turn}
 use Rattle.aas_value_update.proofs.Canonical.{order_rises}
 use Rattle.aas_value_update.proofs.Named.{Apart}
 use Rattle.aas_json_spelling.specs.Values.{HasOrder}
-use Rattle.aas_value_update.proofs.Elements.{part_out, child_is}
+use Rattle.aas_value_update.proofs.Elements.{part_out}
 use Rattle.aas_value_patch.specs.Counted.{one_if_some, found, each_fits}
 use Rattle.aas_value_patch.proofs.Counted.{counted}
-
-pub form_there : (k : Element) (b : Bool)
-    → ((x : Extent) (e : Element) → kind_of e ≡ kind_of k → is_some (value_form x e) ≡ b)
-    → is_some (part_of k).child.form ≡ b
-form_there k b h = ap (λ (c : Child). is_some c.form) (child_is k) ∙ h extent.WithBlobValue k refl
-
-pub name_there : (k : Element) → (part_of k).child.name ≡ (out-Element k).common.id_short
-name_there k = ap (λ (c : Child). c.name) (child_is k) ∙ name_out extent.WithBlobValue k
 
 under : Data → Bool → Option (List ℕ) → Option Data
 under v b a = if b then option_and_then (λ n. get (encode_utf8_all n) v) a else None
@@ -47,7 +37,7 @@ unfolding under
 under_is v k b a there name =
     ap (λ t. if t then option_and_then (λ n. get (encode_utf8_all n) v) (part_of k).child.name else None) there
     ∙ ap (λ (o : Option (List ℕ)). if b then option_and_then (λ n. get (encode_utf8_all n) v) o else None)
-    (name_there k ∙ name)
+    (name_out extent.WithBlobValue k ∙ name)
 
 -- what is sent under the name of a child
 pub under_formless : (v : Data) (k : Element)
@@ -144,7 +134,8 @@ pub called_kid : (n : List ℕ) (k : Element) (a : Option (List ℕ))
     → is_some (part_of k).child.form ≡ true → (out-Element k).common.id_short ≡ a
     → name_is n a ≡ is_called n (part_of k).child
 called_kid n k a there name =
-    sym (ap₂ (λ (o : Option (List ℕ)) b. name_is n o && b) (name_there k ∙ name) there ∙ and-true (name_is n a))
+    sym (ap₂ (λ (o : Option (List ℕ)) b. name_is n o && b) (name_out extent.WithBlobValue k ∙ name) there
+    ∙ and-true (name_is n a))
 
 -- ---- items that fit
 

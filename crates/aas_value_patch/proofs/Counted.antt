@@ -9,7 +9,7 @@ use Rattle.aas_lemmas.proofs.Truth.{bytes_eq-unlike}
 use Rattle.serde_json.specs.Data.{Data, object, Members, no_members, member}
 use Rattle.serde_json.specs.Events.{members_len}
 use Rattle.serde_json.specs.Find.{get_member}
-use Rattle.aas_value_update.specs.Parts.{Part, is_called, by_name, children, members_fit, fits_if}
+use Rattle.aas_value.specs.Parts.{Part, is_called, by_name, children, members_fit, fits_if}
 use Rattle.aas_value_update.specs.Shape.{under_name}
 use Rattle.aas_value_update.proofs.Members.{Rises, absent, same_name, name_itself, get_here, get_past}
 use Rattle.aas_value_update.proofs.Named.{IsNew, Apart}

@@ -14,9 +14,7 @@ use Rattle.aas_reference.specs.Rules.{first}
 use Rattle.aas_constraint_rules.specs.Faults.{submodel}
 use Rattle.aas_constraint_laws.specs.Law.{local_faults}
 use Rattle.aas_constraint_laws.specs.Valid.{IsValid}
-use Rattle.aas_value.specs.ValueForm.{Child}
 use Rattle.aas_value_update.specs.Update.{IsElementUpdate, IsSubmodelUpdate, body}
-use Rattle.aas_value_update.proofs.Elements.{child_is}
 use Rattle.aas_value_update.proofs.Place.{law_of_whole_submodel, valid_after_update}
 use Rattle.aas_value_patch.specs.Faults.{IsPatchFault}
 use Rattle.aas_value_patch.specs.Prepared.{Breaks, IsSubmodelFault, IsValueFault, SubmodelBreaks}
@@ -73,8 +71,7 @@ submodel_broken d u v f valid update is =
 submodel_unfit : (d : Submodel) (v : Data) (f : PatchFault)
     → IsPatchFault (body d) v f → IsSubmodelFault d v (fault_of_patch f)
 submodel_unfit d v patch_fault.NoValueForm none =
-    let there = ap (λ (c : Child). is_some c.form) (sym (child_is (body d))) ∙ body_form d in
-    absurd (true≢false (sym there ∙ ap (λ (o : Option Data). is_some o) none))
+    absurd (true≢false (sym (body_form d) ∙ ap (λ (o : Option Data). is_some o) none))
 submodel_unfit d v (patch_fault.Shape path) is = is.1
 submodel_unfit d v patch_fault.NoMemory is = tt
 

@@ -10,7 +10,7 @@ use Rattle.serde_json.specs.Events.{members_len}
 use Rattle.serde_json.specs.View.{view, items_view, members_view}
 use Rattle.serde_json.proofs.Views.{members_len-members_view}
 use Rattle.serde_json.specs.declared.value.Value.{Value}
-use Rattle.aas_value_update.specs.Json.{has_empty_list, some_has_empty_list, all_items}
+use Rattle.aas_value.specs.Json.{has_empty_list, some_has_empty_list, all_items}
 use Rattle.aas_json_members.proofs.Lists.{one_more}
 use Rattle.aas_json_spelling.specs.Values.{IsOrdered, AreOrdered}
 use Rattle.aas_json_table.specs.Spelled.{onto}

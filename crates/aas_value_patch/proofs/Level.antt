@@ -8,10 +8,10 @@ use Rattle.aas_model.specs.declared.element.Role.{Role}
 use Rattle.aas_model.specs.declared.payload.Payload.{Payload}
 use Rattle.aas_model.specs.declared.payload.Payload.TheVariants as p
 use Rattle.aas_json_mapping.proofs.Elements.{made}
-use Rattle.aas_value_update.specs.Kinds.{form_of, part_of}
+use Rattle.aas_value_update.specs.Forms.{form_of, part_of}
 use Rattle.aas_value.specs.ValueForm.{shows_children}
 use Rattle.aas_value_update.specs.LeftAlone.{left_alone}
-use Rattle.aas_value_update.specs.Parts.{Part, children, over, fits_form}
+use Rattle.aas_value.specs.Parts.{Part, children, over, fits_form}
 use Rattle.aas_value_update.specs.Shape.{nothing_sent, sent}
 use Rattle.aas_value_update.specs.Took.{TookOne, Took, NamedIn}
 use Rattle.aas_value_update.proofs.Alone.{shows_bare}

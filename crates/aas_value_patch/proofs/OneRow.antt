@@ -1,5 +1,5 @@
 -- A value laid over an element whose value form shows no children, and what the element breaks then.
-use Rattle.std.proofs.Common.{◌≡◌, ℕ, ◌+◌, Bool, true, false, List, [], ◌∷◌, ◌++◌, map, flat_map, Option, Some, None}
+use Rattle.std.proofs.Common.{◌≡◌, ℕ, ◌+◌, true, false, List, [], ◌∷◌, ◌++◌, map, flat_map, Option, Some, None}
 use Rattle.std.proofs.Common.{IsSome, is_some, option_map, slice_get, refl, sym, ap, ap₂, ◌∙◌, subst}
 use Rattle.std.specs.Prelude.{if◌then◌else◌, Result, Ok, Err, IfErr, IsErr, IsErrAnd}
 use Rattle.std.specs.List.{list_all}
@@ -29,13 +29,14 @@ use Rattle.aas_json_mapping.proofs.Elements.{made_out}
 use Rattle.aas_path_trees.specs.Children.{kids_of}
 use Rattle.aas_path_trees.specs.Patched.{Fits, kinds, patched}
 use Rattle.aas_path_trees.proofs.Patches.{kinds_out}
-use Rattle.aas_value.specs.ValueForm.{Child, shows_children, value_form}
-use Rattle.aas_value_update.specs.Kinds.{form_of, part_of}
+use Rattle.aas_value.specs.Children.{Child}
+use Rattle.aas_value.specs.ValueForm.{shows_children, value_form}
+use Rattle.aas_value_update.specs.Forms.{form_of, part_of}
 use Rattle.aas_value_update.specs.LeftAlone.{has_value}
-use Rattle.aas_value_update.specs.Parts.{Part, children, fits_form, value}
+use Rattle.aas_value.specs.Parts.{Part, children, fits_form, value}
 use Rattle.aas_value_update.specs.Shape.{Sendable, among, first_misshapen, nothing_sent, sendable, sent}
 use Rattle.aas_value_update.specs.Update.{IsElementUpdate}
-use Rattle.aas_value_update.proofs.Elements.{child_is, part_at}
+use Rattle.aas_value_update.proofs.Elements.{part_at}
 use Rattle.aas_value_update.proofs.Judged.{misshapen_at}
 use Rattle.aas_value_patch.specs.Childless.{IsLaid, RefusesLaying, row_of}
 use Rattle.aas_value_patch.specs.Gathered.{AreTaken, HasTaken}
@@ -52,11 +53,6 @@ use Rattle.aas_value_patch.proofs.Updated.{updated}
 use Rattle.aas_value_patch.proofs.Walk.{kids_named, misshapen_here}
 
 -- ---- its value form
-
--- whether it has a value form is said by its kind
-pub form_is : (e : Element) (b : Bool)
-    → is_some (value_form extent.WithBlobValue e) ≡ b → is_some (part_of e).child.form ≡ b
-form_is e b h = ap (λ (c : Child). is_some c.form) (child_is e) ∙ h
 
 has_values : (e : Element) → is_some (part_of e).child.form ≡ true → has_value (out-Element e).payload ≡ true
 has_values e there =
@@ -191,11 +187,8 @@ breaks_then e y none faultless =
 module _ (e : Element) (x : Payload) (v : Data) (rows : List PatchRow)
     (bears : Bears x e) (hides : shows_children x ≡ false)
     (form : is_some (value_form extent.WithBlobValue e) ≡ true) (is : IsLaid x v rows) where
-  there : is_some (part_of e).child.form ≡ true
-  there = form_is e true form
-
   alone : kids_of e ≡ []
-  alone = no_kids e x v bears hides there
+  alone = no_kids e x v bears hides form
 
   abbrev new : Element
   new = with_payload e is.payload
@@ -216,7 +209,7 @@ module _ (e : Element) (x : Payload) (v : Data) (rows : List PatchRow)
   patched_is = ap (λ (l : List PatchRow). (patched l e 0).0) is.row ∙ leaf_patched e is.payload alone
 
   update : IsElementUpdate e v new
-  update = laid_update e x v bears hides there is.payload is.fits is.takes
+  update = laid_update e x v bears hides form is.payload is.fits is.takes
 
   pub prepared : payload_fault is.payload ≡ None → IsPreparedFor e v rows
   prepared none = record {

@@ -8,8 +8,8 @@ use Rattle.serde_json.specs.Find.{get, get_member}
 use Rattle.aas_json_spelling.specs.Values.{IsOrdered, AreOrdered, HasOrder}
 use Rattle.aas_model.specs.declared.payload.Payload.{Payload}
 use Rattle.aas_model.specs.declared.payload.Payload.TheVariants as p
-use Rattle.aas_value.specs.ValueForm.{Child}
-use Rattle.aas_value_update.specs.Parts.{entry}
+use Rattle.aas_value.specs.Children.{Child}
+use Rattle.aas_value.specs.Parts.{entry}
 use Rattle.aas_value_update.specs.Shape.{under_name, by_names, next_item, in_turn, by_entries, items_in, nothing_sent}
 use Rattle.aas_value_update.specs.Shape.{if_sent, sent}
 use Rattle.aas_value_update.proofs.WholeOwn.{member_ordered}

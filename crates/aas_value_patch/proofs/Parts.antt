@@ -13,7 +13,7 @@ use Rattle.aas_json_table.specs.Table.{Sort, one}
 use Rattle.aas_json_table.specs.TooDeep.{limits, too_deep}
 use Rattle.aas_model.specs.declared.read_fault.ReadFault.{ReadFault}
 use Rattle.aas_model.specs.declared.read_fault.ReadFault.TheVariants as read
-use Rattle.aas_value_update.specs.Json.{has_empty_list, is_part}
+use Rattle.aas_value.specs.Json.{has_empty_list, is_part}
 use Rattle.aas_value_update.proofs.Canonical.{says_itself}
 use Rattle.aas_value_patch.specs.Faults.{Refuses, misfit_of}
 

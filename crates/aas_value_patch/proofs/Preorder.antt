@@ -14,8 +14,8 @@ use Rattle.aas_model_names.specs.declared.kind.Kind.{Kind}
 use Rattle.aas_json_mapping.proofs.Elements.{made}
 use Rattle.aas_constraint_laws.specs.Values.{without_values}
 use Rattle.aas_path_trees.specs.Patched.{payload_at, kinds, kinds_of_all, patched, patched_all}
-use Rattle.aas_value_update.specs.Kinds.{form_of, part_of}
-use Rattle.aas_value_update.specs.Parts.{children, fits_form}
+use Rattle.aas_value_update.specs.Forms.{form_of, part_of}
+use Rattle.aas_value.specs.Parts.{children, fits_form}
 use Rattle.aas_value_update.specs.Shape.{sent}
 use Rattle.aas_value_update.specs.Took.{NamedIn}
 use Rattle.aas_value_patch.specs.Gathered.{IsTaken, AreTaken, SoFar, Gathered, GatheredAll, Reached}

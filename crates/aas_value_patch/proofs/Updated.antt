@@ -17,13 +17,14 @@ use Rattle.aas_model_names.specs.declared.modifiers.Extent.TheVariants as extent
 use Rattle.aas_path_trees.specs.Children.{is_list_payload}
 use Rattle.aas_path_trees.specs.Patched.{Fits, kinds, kinds_of_all, patched, patched_all, patched_submodel}
 use Rattle.aas_path_trees.specs.Places.{Differ}
-use Rattle.aas_value.specs.ValueForm.{Child, value_form, shows_children}
-use Rattle.aas_value_update.specs.Kinds.{part_of, lay}
+use Rattle.aas_value.specs.Children.{Child}
+use Rattle.aas_value.specs.ValueForm.{value_form, shows_children}
+use Rattle.aas_value_update.specs.Forms.{part_of, lay}
 use Rattle.aas_value_update.specs.Laws.{IsInOrder}
-use Rattle.aas_value_update.specs.Parts.{Part, children, object_of, over, fits_form}
+use Rattle.aas_value.specs.Parts.{Part, children, object_of, over, fits_form}
 use Rattle.aas_value_update.specs.Shape.{first_misshapen, sendable, among, by_names}
 use Rattle.aas_value_update.specs.Update.{IsElementUpdate, body}
-use Rattle.aas_value_update.proofs.Elements.{child_is, part_at}
+use Rattle.aas_value_update.proofs.Elements.{part_at}
 use Rattle.aas_value_update.proofs.Judged.{misshapen_made, shape_is_judged}
 use Rattle.aas_value_update.proofs.Order.{order_below, body_kids}
 use Rattle.aas_value_update.proofs.Rest.{differ_in_values, unshown_stays}
@@ -46,10 +47,7 @@ updated e u v there none taken = record {
   metadata = differ_in_values e u taken.rest;
   operations = unshown_stays e u taken.rest;
   shape = (shape_is_judged e v).1 none;
-  form =
-      sym (ap (λ (c : Child). c.form) (child_is u))
-      ∙ ap (λ (c : Child). c.form) taken.form ∙ laid (part_of e).child.form there
-      ∙ ap (λ (c : Child). option_map (λ w. lay e w v) c.form) (child_is e);
+  form = ap (λ (c : Child). c.form) taken.form ∙ laid (part_of e).child.form there;
 }
   where
     laid : (f : Option Data) → is_some f ≡ true → over (part_of e).lay f (Some v) ≡ option_map (λ w. lay e w v) f
@@ -76,10 +74,10 @@ whole_walk e v old rows after empty order ordered walk =
 -- ---- faults
 
 pub formless : (e : Element) → is_some (part_of e).child.form ≡ false → value_form extent.WithBlobValue e ≡ None
-formless e there = sym (ap (λ (c : Child). c.form) (child_is e)) ∙ None-from_is_some (part_of e).child.form there
+formless e there = None-from_is_some (part_of e).child.form there
 
 form_some : (e : Element) → is_some (part_of e).child.form ≡ true → IsSome (value_form extent.WithBlobValue e)
-form_some e there = subst IsSome (ap (λ (c : Child). c.form) (child_is e)) (some (part_of e).child.form there)
+form_some e there = some (part_of e).child.form there
   where
     some : (f : Option Data) → is_some f ≡ true → IsSome f
     some None e = absurd (true≢false (sym e))

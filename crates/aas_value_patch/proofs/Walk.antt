@@ -23,10 +23,11 @@ use Rattle.aas_path_trees.specs.Children.{kids_of, is_list_payload}
 use Rattle.aas_path_trees.specs.Patched.{kinds, kinds_of_all}
 use Rattle.aas_path_trees.proofs.Patches.{kinds_out}
 use Rattle.aas_path_trees.specs.Places.{element_in, Differ}
-use Rattle.aas_value.specs.ValueForm.{Child, shows_children}
-use Rattle.aas_value_update.specs.Kinds.{form_of, part_of}
+use Rattle.aas_value.specs.Children.{Child}
+use Rattle.aas_value.specs.ValueForm.{shows_children}
+use Rattle.aas_value_update.specs.Forms.{form_of, part_of}
 use Rattle.aas_value_update.specs.Laws.{IsInOrder}
-use Rattle.aas_value_update.specs.Parts.{children, fits_form}
+use Rattle.aas_value.specs.Parts.{children, fits_form}
 use Rattle.aas_value_update.specs.Shape.{Sendable, sendable, among, sent, first_misshapen}
 use Rattle.aas_value_update.specs.Took.{NamedIn}
 use Rattle.aas_value_update.proofs.Judged.{own_same, misshapen_at}

@@ -3,8 +3,8 @@ use Rattle.std.specs.Prelude.{◌≡◌, true, false, List, [], ◌∷◌, ⊤}
 use Rattle.serde_json.specs.Data.{Data}
 use Rattle.aas_model.specs.declared.patch.PatchRow.{PatchRow}
 use Rattle.aas_model.specs.declared.payload.Payload.{Payload}
-use Rattle.aas_value_update.specs.Kinds.{form_of}
-use Rattle.aas_value_update.specs.Parts.{Part, fits_form}
+use Rattle.aas_value_update.specs.Forms.{form_of}
+use Rattle.aas_value.specs.Parts.{Part, fits_form}
 use Rattle.aas_value_patch.specs.Takes.{Takes}
 use Rattle.aas_value_patch.specs.declared.fault.PatchFault.{PatchFault}
 use Rattle.aas_value_patch.specs.declared.fault.PatchFault.TheVariants as patch_fault

@@ -1,7 +1,7 @@
 -- Members of an object, by the parts that are called by their names.
 use Rattle.std.specs.Prelude.{ℕ, ◌+◌, Bool, true, ◌&&◌, if◌then◌else◌, List, [], ◌∷◌, Option, is_some}
 use Rattle.serde_json.specs.Data.{Data, object, Members}
-use Rattle.aas_value_update.specs.Parts.{Part, fits_if}
+use Rattle.aas_value.specs.Parts.{Part, fits_if}
 use Rattle.aas_value_update.specs.Shape.{under_name}
 
 abbrev pub one_if_some : Option Data → ℕ

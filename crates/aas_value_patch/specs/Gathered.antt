@@ -10,7 +10,7 @@ use Rattle.aas_model.specs.declared.payload.Payload.{Payload}
 use Rattle.aas_model_names.specs.declared.kind.Kind.{Kind}
 use Rattle.aas_model.specs.declared.path.PathStep.{PathStep}
 use Rattle.aas_path_trees.specs.Patched.{Rise, payload_at, kinds, kinds_of_all, patched, patched_all}
-use Rattle.aas_value_update.specs.Kinds.{part_of}
+use Rattle.aas_value_update.specs.Forms.{part_of}
 use Rattle.aas_value_update.specs.Laws.{IsInOrder}
 use Rattle.aas_value_update.specs.LeftAlone.{left_alone}
 use Rattle.aas_value_update.specs.Shape.{first_misshapen}

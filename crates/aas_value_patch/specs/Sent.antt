@@ -2,7 +2,7 @@
 use Rattle.std.specs.Prelude.{List, Option}
 use Rattle.serde_json.specs.Data.{Data, object}
 use Rattle.serde_json.specs.View.{items_view, members_view}
-use Rattle.aas_value.specs.ValueForm.{Child}
+use Rattle.aas_value.specs.Children.{Child}
 use Rattle.aas_value_update.specs.Shape.{by_names, in_turn, by_entries, nothing_sent}
 use Rattle.aas_value_patch.specs.declared.sent.Sent.{Sent}
 use Rattle.aas_value_patch.specs.declared.sent.Sent.TheVariants as s

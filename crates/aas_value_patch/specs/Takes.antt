@@ -3,8 +3,8 @@ use Rattle.std.specs.Prelude.{◌≡◌, true, List, Some}
 use Rattle.serde_json.specs.Data.{Data}
 use Rattle.aas_model.specs.declared.payload.Payload.{Payload}
 use Rattle.aas_constraint_laws.specs.Values.{without_values}
-use Rattle.aas_value_update.specs.Kinds.{form_of}
-use Rattle.aas_value_update.specs.Parts.{Part, children, value, over, lay_form, fits_form}
+use Rattle.aas_value_update.specs.Forms.{form_of}
+use Rattle.aas_value.specs.Parts.{Part, children, value, over, lay_form, fits_form}
 use Rattle.aas_value_update.specs.Shape.{sent}
 use Rattle.aas_value_update.specs.Took.{Took, NamedIn}
 

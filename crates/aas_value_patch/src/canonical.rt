@@ -1,7 +1,7 @@
 ghost use Rattle.std.specs.Prelude.{◌≡◌};
 ghost use Rattle.serde_json.specs.Data.{array};
 ghost use Rattle.serde_json.specs.View.{view, items_view, members_view};
-ghost use Rattle.aas_value_update.specs.Json.{has_empty_list, some_has_empty_list, member_has_empty_list};
+ghost use Rattle.aas_value.specs.Json.{has_empty_list, some_has_empty_list, member_has_empty_list};
 
 use serde_json::{Map, Value};
 

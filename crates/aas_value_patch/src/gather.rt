@@ -4,9 +4,9 @@ ghost use Rattle.aas_constraint_rules.specs.Sites.{Own, is_list, stands_in_list}
 ghost use Rattle.aas_constraints.specs.Walk.{above_of};
 ghost use Rattle.aas_json_spelling.specs.Values.{IsOrdered};
 ghost use Rattle.aas_path_trees.specs.Patched.{kinds, kinds_of_all};
-ghost use Rattle.aas_value_update.specs.Kinds.{part_of};
+ghost use Rattle.aas_value_update.specs.Forms.{part_of};
 ghost use Rattle.aas_value_update.specs.Laws.{IsInOrder};
-ghost use Rattle.aas_value_update.specs.Parts.{children};
+ghost use Rattle.aas_value.specs.Parts.{children};
 ghost use Rattle.aas_value_update.specs.Shape.{sendable, among, first_misshapen};
 ghost use Rattle.aas_value_patch.specs.Faults.{Shapes};
 ghost use Rattle.aas_value_patch.specs.Gathered.{AllInOrder, AllOrdered, IfOrdered, misshapen};

@@ -1,4 +1,4 @@
-ghost use Rattle.std.specs.Prelude.{◌≡◌, ℕ, List, Option};
+ghost use Rattle.std.specs.Prelude.{◌≡◌, ℕ, List, Option, MatchResult};
 ghost use Rattle.serde_json.specs.Data.{object};
 ghost use Rattle.serde_json.specs.View.{view, members_view};
 ghost use Rattle.aas_json_spelling.specs.Values.{IsOrdered, HasOrder};
@@ -7,8 +7,8 @@ ghost use Rattle.aas_model_names.specs.declared.kind.Kind.TheVariants as kind;
 ghost use Rattle.aas_model.specs.declared.parts.LangText.{LangText};
 ghost use Rattle.aas_model.specs.declared.reference.Reference.{Reference};
 ghost use Rattle.aas_model.specs.declared.payload.Payload.TheVariants as p;
-ghost use Rattle.aas_value_update.specs.Parts.{Part};
-ghost use Rattle.aas_value_patch.specs.Steps.{Stepped};
+ghost use Rattle.aas_value.specs.Parts.{Part};
+ghost use Rattle.aas_value_patch.specs.Steps.{Stepped, TakesContent, RefusesContent};
 
 use crate::fault::Misfit;
 use crate::members::{has_only, has_only_two};
@@ -100,52 +100,23 @@ pub(crate) fn reference_step<'v>(alloc: Global, sent: &'v Value) -> Result<Step<
     })
 }
 
-/// A File takes the members `contentType` and `value`.
-fn file_in<'v>(
+/// The content type and the value that a File and a Blob take from the members `contentType` and `value`.
+fn content_in(
     alloc: Global,
     content_type: &Option<Text>,
     value: &Option<Text>,
-    members: &'v Map<String, Value>,
-) -> Result<Step<'v>, Misfit>
-    ensures { (xs : List Part) → HasOrder (members_view members.now.entries)
-        → Stepped result (p.File content_type.now value.now) xs (object (members_view members.now.entries)) }
+    members: &Map<String, Value>,
+) -> Result<(Option<Text>, Option<Text>), Misfit>
+    ensures { HasOrder (members_view members.now.entries) → MatchResult result
+        (λ found. TakesContent content_type.now value.now (object (members_view members.now.entries)) found.0 found.1)
+        (RefusesContent content_type.now value.now (object (members_view members.now.entries))) }
 {
     let content_type = text_under(alloc, content_type, members, name::CONTENT_TYPE)?;
     let value = text_or_null_under(alloc, value, members, name::VALUE)?;
     if !has_only_two(members, name::CONTENT_TYPE, name::VALUE) {
         return Err(Misfit::Shape);
     }
-    Ok(Step {
-        payload: Payload::File {
-            content_type,
-            value,
-        },
-        kids: Sent::Nothing,
-    })
-}
-
-/// A Blob takes the members `contentType` and `value`.
-fn blob_in<'v>(
-    alloc: Global,
-    content_type: &Option<Text>,
-    value: &Option<Text>,
-    members: &'v Map<String, Value>,
-) -> Result<Step<'v>, Misfit>
-    ensures { (xs : List Part) → HasOrder (members_view members.now.entries)
-        → Stepped result (p.Blob content_type.now value.now) xs (object (members_view members.now.entries)) }
-{
-    let content_type = text_under(alloc, content_type, members, name::CONTENT_TYPE)?;
-    let value = text_or_null_under(alloc, value, members, name::VALUE)?;
-    if !has_only_two(members, name::CONTENT_TYPE, name::VALUE) {
-        return Err(Misfit::Shape);
-    }
-    Ok(Step {
-        payload: Payload::Blob {
-            content_type,
-            value,
-        },
-        kids: Sent::Nothing,
-    })
+    Ok((content_type, value))
 }
 
 /// A RelationshipElement takes the members `first` and `second`.
@@ -230,6 +201,23 @@ pub(crate) fn range_step<'v>(
     }
 }
 
+/// What a File and a Blob take of a value.
+fn content_from(
+    alloc: Global,
+    content_type: &Option<Text>,
+    value: &Option<Text>,
+    sent: &Value,
+) -> Result<(Option<Text>, Option<Text>), Misfit>
+    ensures { IsOrdered (view sent.now) → MatchResult result
+        (λ found. TakesContent content_type.now value.now (view sent.now) found.0 found.1)
+        (RefusesContent content_type.now value.now (view sent.now)) }
+{
+    match sent {
+        Value::Object(members) => content_in(alloc, content_type, value, members),
+        _ => Err(Misfit::Shape),
+    }
+}
+
 /// What a File takes of a value.
 pub(crate) fn file_step<'v>(
     alloc: Global,
@@ -240,10 +228,14 @@ pub(crate) fn file_step<'v>(
     ensures { (xs : List Part) → IsOrdered (view sent.now)
         → Stepped result (p.File content_type.now value.now) xs (view sent.now) }
 {
-    match sent {
-        Value::Object(members) => file_in(alloc, content_type, value, members),
-        _ => Err(Misfit::Shape),
-    }
+    let (content_type, value) = content_from(alloc, content_type, value, sent)?;
+    Ok(Step {
+        payload: Payload::File {
+            content_type,
+            value,
+        },
+        kids: Sent::Nothing,
+    })
 }
 
 /// What a Blob takes of a value.
@@ -256,10 +248,14 @@ pub(crate) fn blob_step<'v>(
     ensures { (xs : List Part) → IsOrdered (view sent.now)
         → Stepped result (p.Blob content_type.now value.now) xs (view sent.now) }
 {
-    match sent {
-        Value::Object(members) => blob_in(alloc, content_type, value, members),
-        _ => Err(Misfit::Shape),
-    }
+    let (content_type, value) = content_from(alloc, content_type, value, sent)?;
+    Ok(Step {
+        payload: Payload::Blob {
+            content_type,
+            value,
+        },
+        kids: Sent::Nothing,
+    })
 }
 
 /// What a RelationshipElement takes of a value.

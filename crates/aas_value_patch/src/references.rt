@@ -6,10 +6,10 @@ ghost use Rattle.aas_json_mapping.specs.Parts.{spell_specific_asset_id};
 ghost use Rattle.aas_json_spelling.specs.Values.{IsOrdered, AreOrdered, HasOrder};
 ghost use Rattle.aas_json_table.specs.Spelled.{onto};
 ghost use Rattle.aas_reference.specs.Spelling.{spell_reference};
-ghost use Rattle.aas_value.specs.ValueForm.{reference_or_null, array_of};
-ghost use Rattle.aas_value_update.specs.Json.{is_reference, is_reference_or_null, is_specific_asset_id};
-ghost use Rattle.aas_value_update.specs.Json.{is_array_of, all_items};
-ghost use Rattle.aas_value_update.specs.Parts.{fits_if};
+ghost use Rattle.aas_value.specs.Attributes.{reference_or_null, array_of};
+ghost use Rattle.aas_value.specs.Json.{is_reference, is_reference_or_null, is_specific_asset_id, is_array_of};
+ghost use Rattle.aas_value.specs.Json.{all_items};
+ghost use Rattle.aas_value.specs.Parts.{fits_if};
 ghost use Rattle.aas_value_patch.specs.Faults.{Judges, misfit_of};
 
 use crate::canonical::has_empty_list;

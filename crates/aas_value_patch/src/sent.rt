@@ -1,9 +1,9 @@
 ghost use Rattle.std.specs.Prelude.{◌≡◌, ◌∷◌, List, Some, None, IfSome, IfNone, option_map, is_some};
 ghost use Rattle.serde_json.specs.Data.{object, Items, item};
 ghost use Rattle.serde_json.specs.View.{view, items_view, members_view};
-ghost use Rattle.aas_value.specs.ValueForm.{Child};
-ghost use Rattle.aas_value_update.specs.Kinds.{part_of};
-ghost use Rattle.aas_value_update.specs.Parts.{is_called, entry};
+ghost use Rattle.aas_value.specs.Children.{Child};
+ghost use Rattle.aas_value_update.specs.Forms.{part_of};
+ghost use Rattle.aas_value.specs.Parts.{is_called, entry};
 ghost use Rattle.aas_value_update.specs.Shape.{under_name, in_turn};
 ghost use Rattle.aas_value_patch.specs.Sent.{sent_by};
 

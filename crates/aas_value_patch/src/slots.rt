@@ -6,10 +6,10 @@ ghost use Rattle.aas_json_table.specs.Spelled.{text_of, onto};
 ghost use Rattle.aas_lexical.specs.Natives.{is_boolean, is_numeric};
 ghost use Rattle.aas_model_names.specs.EntityTypeNames as entity_type;
 ghost use Rattle.aas_value.specs.Single.{single};
-ghost use Rattle.aas_value.specs.ValueForm.{text_or_null, array_of, language_value, entity_type_or_null};
-ghost use Rattle.aas_value_update.specs.Json.{is_single, is_string, is_string_or_null, is_language, is_array_of};
-ghost use Rattle.aas_value_update.specs.Json.{is_entity_type, all_items};
-ghost use Rattle.aas_value_update.specs.Parts.{fits_if};
+ghost use Rattle.aas_value.specs.Attributes.{text_or_null, array_of, language_value, entity_type_or_null};
+ghost use Rattle.aas_value.specs.Json.{is_single, is_string, is_string_or_null, is_language, is_array_of};
+ghost use Rattle.aas_value.specs.Json.{is_entity_type, all_items};
+ghost use Rattle.aas_value.specs.Parts.{fits_if};
 ghost use Rattle.aas_value_patch.specs.Faults.{Judges};
 
 use crate::fault::Misfit;

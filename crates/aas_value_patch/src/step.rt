@@ -2,9 +2,9 @@ ghost use Rattle.std.specs.Prelude.{◌≡◌, List, false, map};
 ghost use Rattle.serde_json.specs.View.{view};
 ghost use Rattle.aas_json_spelling.specs.Values.{IsOrdered};
 ghost use Rattle.aas_model.specs.declared.element.Element.{out-Element};
-ghost use Rattle.aas_value_update.specs.Kinds.{part_of};
+ghost use Rattle.aas_value_update.specs.Forms.{part_of};
 ghost use Rattle.aas_value_update.specs.Laws.{IsInOrder};
-ghost use Rattle.aas_value_update.specs.Parts.{Part};
+ghost use Rattle.aas_value.specs.Parts.{Part};
 ghost use Rattle.aas_value.specs.ValueForm.{shows_children};
 ghost use Rattle.aas_value_patch.specs.Steps.{Stepped};
 

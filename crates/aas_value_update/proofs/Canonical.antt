@@ -23,7 +23,7 @@ use Rattle.aas_json_spelling.proofs.Fits.{first_none, map_none, fits_one, no_fau
 use Rattle.aas_json_spelling.proofs.Nesting.{row_of}
 use Rattle.aas_json_spelling.proofs.Objects.{finds, members_above}
 use Rattle.aas_json_spelling.proofs.Rows.{rising, rows_rise, same_text}
-use Rattle.aas_value_update.specs.Json.{has_empty_list, some_has_empty_list, member_has_empty_list, is_part}
+use Rattle.aas_value.specs.Json.{has_empty_list, some_has_empty_list, member_has_empty_list, is_part}
 use Rattle.aas_value_update.proofs.Members.{Rises, known, same_name, get_past}
 
 -- ---- the members that rows give

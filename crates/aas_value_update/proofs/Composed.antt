@@ -13,15 +13,15 @@ use Rattle.aas_constraint_rules.specs.Faults.{submodel}
 use Rattle.aas_path_trees.specs.ElementAt.{element_at}
 use Rattle.aas_path_trees.specs.WithElement.{with_element}
 use Rattle.aas_constraint_laws.specs.Valid.{IsValid}
-use Rattle.aas_value.specs.ValueForm.{Child, value_form}
-use Rattle.aas_value_update.specs.Kinds.{part_of, lay}
+use Rattle.aas_value.specs.Children.{Child}
+use Rattle.aas_value.specs.ValueForm.{value_form}
+use Rattle.aas_value_update.specs.Forms.{part_of, lay}
 use Rattle.aas_value_update.specs.Laws.{NamesDiffer, IsInOrder, UpdatesCompose, ValueUpdatesCompose, LaidValuesFit}
-use Rattle.aas_value_update.specs.Parts.{over}
+use Rattle.aas_value.specs.Parts.{over}
 use Rattle.aas_value_update.specs.Shape.{HasShape}
 use Rattle.aas_value_update.specs.Update.{IsElementUpdate, IsUpdateAt, IsSubmodelUpdate, body}
 use Rattle.aas_value_update.proofs.Again.{element_again}
 use Rattle.aas_value_update.proofs.Alone.{level}
-use Rattle.aas_value_update.proofs.Elements.{child_is}
 use Rattle.aas_value_update.proofs.Entire.{entire, entire_child, lay_entire, fits_entire, joins_entire}
 use Rattle.aas_value_update.proofs.Entire.{fits_shape, shape_fits}
 use Rattle.aas_value_update.proofs.OneUpdate.{names_alike}
@@ -49,7 +49,7 @@ laid_twice e v w f order first second a b is =
         → over g (over g (entire e).child.form (Some v)) (Some w) ≡ over g (entire e).child.form (Some (g v w))
         → g (g f v) w ≡ g f (g v w)
     by_form g child twice =
-        let form : (entire e).child.form ≡ Some f = ap (λ (c : Child). c.form) (child ∙ child_is e) ∙ is in
+        let form : (entire e).child.form ≡ Some f = ap (λ (c : Child). c.form) child ∙ is in
         let same : Some (g (g f v) w) ≡ Some (g f (g v w)) =
         sym (ap (λ o. over g (over g o (Some v)) (Some w)) form) ∙ twice ∙ ap (λ o. over g o (Some (g v w))) form in
         cc

@@ -1,71 +1,31 @@
 -- Elements as parts, and what an update leaves alone, one level at a time.
-use Rattle.std.proofs.Common.{◌≡◌, Bool, true, false, List, [], ◌∷◌, map, Option, refl, sym, ap, ap₂, ◌∙◌}
+use Rattle.std.proofs.Common.{◌≡◌, Bool, true, false, List, [], ◌∷◌, map, refl, ap, ap₂, ◌∙◌}
 use Rattle.std.specs.Prelude.{if◌then◌else◌}
-use lib.Utf8.{encode}
-use Rattle.serde_json.specs.Data.{Data}
 use Rattle.aas_model_names.specs.declared.modifiers.Extent.TheVariants as extent
 use Rattle.aas_model.specs.declared.common.Common.{Common}
 use Rattle.aas_model.specs.declared.element.Element.{Element, out-Element, fold-Element}
 use Rattle.aas_model.specs.declared.element.Element.TheFolds.{fold-roll-Element}
 use Rattle.aas_model.specs.declared.element.Role.{Role}
 use Rattle.aas_model.specs.declared.payload.Payload.{Payload}
-use Rattle.aas_model.specs.declared.payload.Payload.TheVariants as p
-use Rattle.aas_json_mapping.proofs.Elements.{made, made_out, by_children}
+use Rattle.aas_json_mapping.proofs.Elements.{made, by_children}
 use Rattle.aas_json_spelling.specs.Lists.{Each}
 use Rattle.aas_path_trees.specs.Children.{kids_of}
 use Rattle.aas_constraint_laws.specs.Values.{without_values}
-use Rattle.aas_value.specs.ValueForm.{Child, as_child, child_of, value_over, shows_children}
-use Rattle.aas_value_update.specs.Parts.{Part, value, children}
-use Rattle.aas_value_update.specs.Kinds.{form_of, child_part, part_over, part_of}
+use Rattle.aas_value.specs.ValueForm.{child_part, shows_children}
+use Rattle.aas_value.proofs.Forms as forms
+use Rattle.aas_value_update.specs.Forms.{form_of, part_of}
 use Rattle.aas_value_update.specs.LeftAlone.{Left, left_over, left_alone}
 
 -- ---- elements as parts
 
 pub part_at : (r : Role) (c : Common) (x : Payload) (ks : List Element)
     → part_of (made r c x ks) ≡ child_part c.id_short (form_of x (map part_of ks))
-unfolding part_of
-part_at r c x ks = fold-roll-Element Part part_over (record { common = c; payload = x; role = r; kids = ks })
+part_at r c x ks =
+    forms.part_rolled extent.WithBlobValue (record { common = c; payload = x; role = r; kids = ks })
 
 pub part_out : (e : Element) → part_of e
     ≡ child_part (out-Element e).common.id_short (form_of (out-Element e).payload (map part_of (kids_of e)))
-part_out e = let x = out-Element e in ap part_of (sym (made_out e)) ∙ part_at x.role x.common x.payload x.kids
-
-pub child_at : (r : Role) (c : Common) (x : Payload) (ks : List Element)
-    → child_of extent.WithBlobValue (made r c x ks)
-    ≡ record { name = c.id_short; form = value_over extent.WithBlobValue x (map (child_of extent.WithBlobValue) ks) }
-child_at r c x ks =
-    fold-roll-Element Child (as_child extent.WithBlobValue) (record { common = c; payload = x; role = r; kids = ks })
-
--- the parts of a kind make its value form
-pub value_is : (x : Payload) (xs : List Part) → value (form_of x xs) ≡ value_over extent.WithBlobValue x (children xs)
-unfolding encode
-value_is (p.Property t v i) xs = refl
-value_is (p.MultiLanguageProperty v i) xs = refl
-value_is (p.Range t min max) xs = refl
-value_is (p.File t v) xs = refl
-value_is (p.Blob t v) xs = refl
-value_is (p.ReferenceElement v) xs = refl
-value_is (p.RelationshipElement first second) xs = refl
-value_is (p.AnnotatedRelationshipElement first second) xs = refl
-value_is (p.Entity t g ids) xs = refl
-value_is (p.BasicEventElement observed d s topic broker last min max) xs = refl
-value_is p.Capability xs = refl
-value_is p.Operation xs = refl
-value_is p.SubmodelElementCollection xs = refl
-value_is (p.SubmodelElementList o s t v) xs = refl
-
-children_are : (ks : List Element) → Each (λ k. (part_of k).child ≡ child_of extent.WithBlobValue k) ks
-    → children (map part_of ks) ≡ map (child_of extent.WithBlobValue) ks
-children_are [] e = refl
-children_are (k ∷ ks) e = ap₂ (λ c cs. c ∷ cs) e.0 (children_are ks e.1)
-
--- an element's part has its value form
-pub child_is : (e : Element) → (part_of e).child ≡ child_of extent.WithBlobValue e
-child_is = by_children (λ e. (part_of e).child ≡ child_of extent.WithBlobValue e) (λ r c x ks each.
-    ap (λ y. y.child) (part_at r c x ks)
-    ∙ ap (λ (f : Option Data). record { name = c.id_short; form = f })
-    (value_is x (map part_of ks) ∙ ap (value_over extent.WithBlobValue x) (children_are ks each))
-    ∙ sym (child_at r c x ks))
+part_out e = forms.part_out extent.WithBlobValue e
 
 -- ---- what is left alone
 

@@ -11,13 +11,16 @@ use Rattle.aas_model.specs.declared.element.Element.TheOpen.{Element-F}
 use Rattle.aas_path_trees.specs.Children.{kids_of, id_short_of}
 use Rattle.aas_path_trees.specs.Places.{element_in}
 use Rattle.aas_constraint_laws.specs.Values.{DifferInValues}
-use Rattle.aas_value.specs.ValueForm.{Child, value_over}
-use Rattle.aas_value_update.specs.Kinds.{part, child_part, form_of, part_of}
+use Rattle.aas_value.specs.Children.{Child}
+use Rattle.aas_value.specs.ValueForm.{child_part}
+use Rattle.aas_value.specs.Kinds.{part}
+use Rattle.aas_value.proofs.Forms.{same_value}
+use Rattle.aas_value_update.specs.Forms.{form_of, part_of}
 use Rattle.aas_value_update.specs.Laws.{NamesDiffer}
-use Rattle.aas_value_update.specs.Parts.{Part, children, fits_if, fits_form}
+use Rattle.aas_value.specs.Parts.{Part, children, fits_if, fits_form}
 use Rattle.aas_value_update.specs.Shape.{HasShape, sent}
 use Rattle.aas_value_update.proofs.Alone.{kids_made}
-use Rattle.aas_value_update.proofs.Elements.{part_out, value_is}
+use Rattle.aas_value_update.proofs.Elements.{part_out}
 use Rattle.aas_value_update.proofs.Fitting.{opened, AreFitting, level_from, level_to}
 use Rattle.aas_value_update.proofs.Joined.{PartJoins, joining_parts}
 use Rattle.aas_value_update.proofs.OneForm.{apart_in}
@@ -57,8 +60,7 @@ entire_child = by_children (λ e. (entire e).child ≡ (part_of e).child) (λ r 
         let x = (out-Element e).payload in
         ap (λ (y : Part). y.child) (entire_out e)
         ∙ ap (λ (f : Option Data). record { name = id_short_of e; form = f })
-        (value_is x (map entire (kids_of e)) ∙ ap (value_over extent.WithBlobValue x) (all (kids_of e) each)
-        ∙ sym (value_is x (map part_of (kids_of e))))
+        (same_value extent.WithBlobValue x (map entire (kids_of e)) (map part_of (kids_of e)) (all (kids_of e) each))
         ∙ sym (ap (λ (y : Part). y.child) (part_out e))
 
 entire_parts : AreParts entire part

@@ -12,9 +12,9 @@ use Rattle.aas_lemmas.proofs.Truth.{and_left, and_right}
 use Rattle.aas_json_spelling.specs.Values.{IsOrdered}
 use Rattle.aas_model.specs.declared.payload.Payload.{Payload}
 use Rattle.aas_model.specs.declared.payload.Payload.TheVariants as p
-use Rattle.aas_value_update.specs.Kinds.{form_of}
-use Rattle.aas_value_update.specs.Parts.{Part, object_of, list_of, entries_of, is_called, by_name, children, entry}
-use Rattle.aas_value_update.specs.Parts.{members_fit, items_fit, fits_if, entries_fit, fits_form}
+use Rattle.aas_value_update.specs.Forms.{form_of}
+use Rattle.aas_value.specs.Parts.{Part, object_of, list_of, entries_of, is_called, by_name, children, entry}
+use Rattle.aas_value.specs.Parts.{members_fit, items_fit, fits_if, entries_fit, fits_form}
 use Rattle.aas_value_update.specs.Shape.{under_name, by_names, next_item, in_turn, by_entries, items_in, nothing_sent}
 use Rattle.aas_value_update.specs.Shape.{if_sent, sent}
 use Rattle.aas_value_update.proofs.Canonical.{order_rises}

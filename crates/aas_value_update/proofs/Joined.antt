@@ -11,11 +11,10 @@ use Rattle.serde_json.specs.Find.{get_member}
 use Rattle.aas_lemmas.proofs.Truth.{and_left, and_right}
 use Rattle.aas_json_spelling.proofs.Rows.{same_text}
 use Rattle.aas_json_spelling.specs.Lists.{Each}
-use Rattle.aas_value.specs.ValueForm.{Child, named}
-use Rattle.aas_value_update.specs.Parts.{Part, Form, nothing, whole, object_of, list_of, entries_of, is_called, by_name}
-use Rattle.aas_value_update.specs.Parts.{children, value, later, over, over_one, laid, laid_items, entry, put_entry}
-use Rattle.aas_value_update.specs.Parts.{laid_entries, lay_form, members_fit, items_fit, fits_if}
-use Rattle.aas_value_update.specs.Parts.{entries_fit, fits_form}
+use Rattle.aas_value.specs.Children.{Child, named}
+use Rattle.aas_value.specs.Parts.{Part, Form, nothing, whole, object_of, list_of, entries_of, is_called, by_name}
+use Rattle.aas_value.specs.Parts.{children, value, later, over, over_one, laid, laid_items, entry, put_entry}
+use Rattle.aas_value.specs.Parts.{laid_entries, lay_form, members_fit, items_fit, fits_if, entries_fit, fits_form}
 use Rattle.aas_value_update.proofs.Laid.{form, get_children, get_laid, sent_fits, children_rise, laid_rises}
 use Rattle.aas_value_update.proofs.Laid.{over_none, form_entries}
 use Rattle.aas_value_update.proofs.Laid.{own_entry, form_members, form_items, items_with, laid_first, fits_first}

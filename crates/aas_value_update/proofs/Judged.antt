@@ -17,9 +17,10 @@ use Rattle.aas_model.specs.declared.path.PathStep.{PathStep}
 use Rattle.aas_model.specs.declared.payload.Payload.{Payload}
 use Rattle.aas_constraint_rules.specs.Sites.{Own, own_of, step_to}
 use Rattle.aas_path_trees.specs.Children.{kids_of}
-use Rattle.aas_value_update.specs.Kinds.{form_of, child_part, part_of}
+use Rattle.aas_value_update.specs.Forms.{form_of, part_of}
+use Rattle.aas_value.specs.ValueForm.{child_part}
 use Rattle.aas_value_update.specs.Laws.{ShapeIsJudged, FirstMisfitIsFound}
-use Rattle.aas_value_update.specs.Parts.{Part, children, fits_form}
+use Rattle.aas_value.specs.Parts.{Part, children, fits_form}
 use Rattle.aas_value_update.specs.Shape.{sent, form_at, HasShape, shaped, IsFirstMisfit, at_itself, in_child}
 use Rattle.aas_value_update.specs.Shape.{Sendable, among, sendable_over, sendable, first_misshapen}
 use Rattle.aas_value_update.proofs.Alone.{kids_made}

@@ -10,10 +10,10 @@ use Rattle.serde_json.specs.Find.{get_member}
 use Rattle.serde_json.proofs.Views.{get_member-put, get_member-put_other}
 use Rattle.aas_lemmas.proofs.Truth.{and_left, and_right}
 use Rattle.aas_json_table.specs.Spelled.{onto}
-use Rattle.aas_value.specs.ValueForm.{Child, put_child, put_children, named, forms_of, annotation_value}
-use Rattle.aas_value_update.specs.Parts.{Part, name_is, is_called, by_name, children, later, over, over_one, laid}
-use Rattle.aas_value_update.specs.Parts.{laid_items, laid_entries, laid_item, entry, put_entry, members_fit, item_fits}
-use Rattle.aas_value_update.specs.Parts.{items_fit, entries_fit}
+use Rattle.aas_value.specs.Children.{Child, put_child, put_children, named, forms_of, annotation_value}
+use Rattle.aas_value.specs.Parts.{Part, name_is, is_called, by_name, children, later, over, over_one, laid, laid_items}
+use Rattle.aas_value.specs.Parts.{laid_entries, laid_item, entry, put_entry, members_fit, item_fits, items_fit}
+use Rattle.aas_value.specs.Parts.{entries_fit}
 use Rattle.aas_value_update.specs.Shape.{under_name, next_item, in_turn, by_entries}
 use Rattle.aas_value_update.specs.Took.{TookOne, Took, AreNamed}
 use Rattle.aas_value_update.proofs.Members.{Rises, put_rises, same_name, name_itself, get_here, get_past, known}

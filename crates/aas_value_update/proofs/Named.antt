@@ -8,8 +8,8 @@ use Rattle.std.proofs.lemmas.Str.{encodes_same}
 use Rattle.serde_json.specs.Data.{Data, put, Members, no_members}
 use Rattle.serde_json.specs.Find.{get_member}
 use Rattle.serde_json.proofs.Views.{get_member-put, get_member-put_other}
-use Rattle.aas_value.specs.ValueForm.{Child, put_child, put_children, named}
-use Rattle.aas_value_update.specs.Parts.{is_called}
+use Rattle.aas_value.specs.Children.{Child, put_child, put_children, named}
+use Rattle.aas_value.specs.Parts.{is_called}
 use Rattle.aas_value_update.proofs.Members.{same_name, name_itself}
 
 -- no child has the name n

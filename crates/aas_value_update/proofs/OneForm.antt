@@ -3,25 +3,24 @@
 use Rattle.std.proofs.Common.{◌≡◌, ℕ, zero, suc, Bool, true, false, List, [], ◌∷◌, map, Option, Some, None, IsSome}
 use Rattle.std.proofs.Common.{is_some, slice_get, refl, sym, ap, ap₂, ◌∙◌, subst}
 use Rattle.std.specs.Prelude.{if◌then◌else◌}
-use Rattle.serde_json.specs.Data.{Data}
 use Rattle.aas_model_names.specs.declared.modifiers.Extent.TheVariants as extent
 use Rattle.aas_model.specs.declared.common.Common.{Common}
 use Rattle.aas_model.specs.declared.element.Element.{Element, out-Element, out-roll-Element}
-use Rattle.aas_model.specs.declared.element.Role.{Role}
 use Rattle.aas_model.specs.declared.payload.Payload.{Payload}
 use Rattle.aas_model.specs.declared.payload.Payload.TheVariants as p
-use Rattle.aas_json_mapping.proofs.Elements.{made, made_out, by_children}
+use Rattle.aas_json_mapping.proofs.Elements.{made, by_children}
 use Rattle.aas_json_spelling.specs.Lists.{Each}
 use Rattle.aas_path_trees.specs.Children.{kids_of, id_short_of, is_list_payload}
 use Rattle.aas_path_trees.specs.Places.{element_in, Differ}
-use Rattle.aas_value.specs.ValueForm.{Child, value_form, value_over, shows_children}
-use Rattle.aas_value_update.specs.Parts.{children}
-use Rattle.aas_value_update.specs.Kinds.{part_of}
+use Rattle.aas_value.specs.Children.{Child}
+use Rattle.aas_value.specs.ValueForm.{value_form, shows_children}
+use Rattle.aas_value.specs.Parts.{Part, children, value}
+use Rattle.aas_value_update.specs.Forms.{form_of, part_of}
 use Rattle.aas_value_update.specs.LeftAlone.{has_value, left_alone}
 use Rattle.aas_value_update.specs.Laws.{NamesDiffer, OneForm}
 use Rattle.aas_value_update.specs.Took.{AreNamed, NamedIn}
 use Rattle.aas_value_update.proofs.Alone.{Level, level, whole, value_bare}
-use Rattle.aas_value_update.proofs.Elements.{part_at, value_is, child_is}
+use Rattle.aas_value_update.proofs.Elements.{part_out}
 use Rattle.aas_value_update.proofs.Rest.{left_alone_is}
 use Rattle.aas_value_update.proofs.Named.{IsNew, Apart, Alike}
 use Rattle.aas_value_update.proofs.Order.{names_below}
@@ -29,26 +28,17 @@ use Rattle.aas_value_update.proofs.Own.{same_own, ApartIn, same_with_children}
 
 -- ---- what is left alone shows
 
-form_there : (x : Payload) (cs : List Child) → is_some (value_over extent.WithBlobValue x cs) ≡ has_value x
-form_there p.Capability cs = refl
-form_there p.Operation cs = refl
-form_there _ cs = refl
+form_there : (x : Payload) (xs : List Part) → is_some (value (form_of x xs)) ≡ has_value x
+form_there p.Capability xs = refl
+form_there p.Operation xs = refl
+form_there _ xs = refl
 
-pub child_made : (r : Role) (c : Common) (x : Payload) (ks : List Element)
-    → (part_of (made r c x ks)).child
-    ≡ record { name = c.id_short; form = value_over extent.WithBlobValue x (children (map part_of ks)) }
-child_made r c x ks =
-    ap (λ y. y.child) (part_at r c x ks)
-    ∙ ap (λ (f : Option Data). record { name = c.id_short; form = f }) (value_is x (map part_of ks))
-
-pub child_out : (e : Element)
+child_out : (e : Element)
     → (part_of e).child ≡ record {
       name = id_short_of e;
-      form = value_over extent.WithBlobValue (out-Element e).payload (children (map part_of (kids_of e)));
+      form = value (form_of (out-Element e).payload (map part_of (kids_of e)));
     }
-child_out e =
-    let x = out-Element e in
-    ap (λ z. (part_of z).child) (sym (made_out e)) ∙ child_made x.role x.common x.payload x.kids
+child_out e = ap (λ (x : Part). x.child) (part_out e)
 
 pub heads : (u e : Element) → left_alone u ≡ left_alone e
     → ((part_of u).child.name ≡ (part_of e).child.name)
@@ -59,8 +49,8 @@ heads u e h =
     let y = (out-Element e).payload in (
       ap (λ (c : Child). c.name) (child_out u) ∙ ap (λ (c : Common). c.id_short) l.same.commons
           ∙ sym (ap (λ (c : Child). c.name) (child_out e)),
-      ap (λ (c : Child). is_some c.form) (child_out u) ∙ form_there x _ ∙ sym (value_bare x)
-          ∙ ap has_value l.same.payloads ∙ value_bare y ∙ sym (form_there y (children (map part_of (kids_of e))))
+      ap (λ (c : Child). is_some c.form) (child_out u) ∙ form_there x (map part_of (kids_of u)) ∙ sym (value_bare x)
+          ∙ ap has_value l.same.payloads ∙ value_bare y ∙ sym (form_there y (map part_of (kids_of e)))
           ∙ sym (ap (λ (c : Child). is_some c.form) (child_out e)),
     )
 
@@ -157,16 +147,16 @@ one_level u e each names h form =
     by_shows (shows_children (out-Element e).payload) refl l forms
   where
     by_shows : (t : Bool) → shows_children (out-Element e).payload ≡ t → Level u e
-        → value_over extent.WithBlobValue (out-Element u).payload (children (map part_of (kids_of u)))
-        ≡ value_over extent.WithBlobValue (out-Element e).payload (children (map part_of (kids_of e)))
+        → value (form_of (out-Element u).payload (map part_of (kids_of u)))
+        ≡ value (form_of (out-Element e).payload (map part_of (kids_of e)))
         → u ≡ e
     by_shows false s l forms =
         let kids : kids_of u ≡ kids_of e =
         ap (λ t. if t then map left_alone (kids_of u) else kids_of u) (sym (l.shows ∙ s))
         ∙ l.same.kids ∙ ap (λ t. if t then map left_alone (kids_of e) else kids_of e) s in
         whole u e l
-        (same_own (out-Element u).payload (out-Element e).payload (children (map part_of (kids_of u)))
-        (children (map part_of (kids_of e))) (l.shows ∙ s) l.same.payloads forms)
+        (same_own (out-Element u).payload (out-Element e).payload (map part_of (kids_of u)) (map part_of (kids_of e))
+        (l.shows ∙ s) l.same.payloads forms)
         kids
     by_shows true s l forms =
         let kids : map left_alone (kids_of u) ≡ map left_alone (kids_of e) =
@@ -175,7 +165,7 @@ one_level u e each names h form =
         let apart = apart_in (out-Element e).payload (kids_of e) (names [] e refl) in
         let both =
         same_with_children (out-Element e).payload (out-Element u).payload
-        (children (map part_of (kids_of e))) (children (map part_of (kids_of u))) s (sym l.same.payloads) apart
+        (map part_of (kids_of e)) (map part_of (kids_of u)) s (sym l.same.payloads) apart
         (alike_kids (kids_of e) (kids_of u) (sym kids)) (sym forms) in
         whole u e l (sym both.0) (same_kids (kids_of u) (kids_of e) each (names_below e names) kids (sym both.1))
 
@@ -190,9 +180,7 @@ is_one = by_children IsOne (λ r c x ks each u names h form.
 pub one_alone : (e u : Element) → NamesDiffer e → left_alone u ≡ left_alone e
     → value_form extent.WithBlobValue u ≡ value_form extent.WithBlobValue e → u ≡ e
 unfolding IsOne
-one_alone e u names rest form =
-    is_one e u names rest
-    (ap (λ (c : Child). c.form) (child_is u) ∙ form ∙ sym (ap (λ (c : Child). c.form) (child_is e)))
+one_alone e u names rest form = is_one e u names rest form
 
 pub one_form : OneForm
 one_form e u order differ operations form =

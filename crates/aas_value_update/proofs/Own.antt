@@ -2,8 +2,8 @@
 use Rattle.std.proofs.Common.{◌≡◌, ℕ, true, false, List, [], ◌∷◌, map, Option, Some, None, is_some, option_map, refl}
 use Rattle.std.proofs.Common.{sym, ap, ap₂, ◌∙◌}
 use Rattle.std.specs.List.{cons_option}
+use lib.Utf8.{encode}
 use Rattle.serde_json.specs.Data.{Data, no_items}
-use Rattle.aas_model_names.specs.declared.modifiers.Extent.TheVariants as extent
 use Rattle.aas_json_mapping.specs.Parts.{spell_specific_asset_id}
 use Rattle.aas_json_mapping.proofs.Parts.{specific_asset_id_facts}
 use Rattle.aas_json_table.specs.Spelled.{onto}
@@ -11,51 +11,54 @@ use Rattle.aas_model.specs.declared.payload.Payload.{Payload}
 use Rattle.aas_model.specs.declared.payload.Payload.TheVariants as p
 use Rattle.aas_constraint_laws.specs.Values.{without_values}
 use Rattle.aas_value.specs.Single.{single}
-use Rattle.aas_value.specs.ValueForm.{Child, value_over, named, in_order, forms_of, annotation_value, array_of}
-use Rattle.aas_value.specs.ValueForm.{language_value, text_or_null, reference_or_null}
-use Rattle.aas_value.specs.ValueForm.{entity_type_or_null, shows_children}
+use Rattle.aas_value.specs.Children.{Child, named, in_order, forms_of, annotation_value}
+use Rattle.aas_value.specs.Parts.{Part, children, value}
+use Rattle.aas_value.specs.ValueForm.{shows_children}
+use Rattle.aas_value_update.specs.Forms.{form_of}
+use Rattle.aas_value.specs.Attributes.{array_of, language_value, text_or_null, reference_or_null, entity_type_or_null}
 use Rattle.aas_value_update.proofs.Named.{Apart, Alike, same_named}
 use Rattle.aas_value_update.proofs.Slots.{same_text_or_null, same_entity_type, same_single, same_reference_or_null}
 use Rattle.aas_value_update.proofs.Slots.{same_array, same_language}
 
 -- ---- kinds without children in their form
 
-pub same_own : (x y : Payload) (cs ds : List Child) → shows_children x ≡ false → without_values x ≡ without_values y
-    → value_over extent.WithBlobValue x cs ≡ value_over extent.WithBlobValue y ds → x ≡ y
-same_own (p.Property t v i) (p.Property u w j) cs ds s r e =
+pub same_own : (x y : Payload) (xs ys : List Part) → shows_children x ≡ false → without_values x ≡ without_values y
+    → value (form_of x xs) ≡ value (form_of y ys) → x ≡ y
+unfolding encode
+same_own (p.Property t v i) (p.Property u w j) xs ys s r e =
     let ts : t ≡ u = cc in
     let is : i ≡ j = cc in
     let forms : single t v ≡ single u w = cc in
     let vs = same_single t v w (forms ∙ ap (λ a. single a w) (sym ts)) in
     λ k. p.Property (ts k) (vs k) (is k)
-same_own (p.MultiLanguageProperty v i) (p.MultiLanguageProperty w j) cs ds s r e =
+same_own (p.MultiLanguageProperty v i) (p.MultiLanguageProperty w j) xs ys s r e =
     let is : i ≡ j = cc in
     let forms : array_of language_value v ≡ array_of language_value w = cc in
     let vs = same_array language_value same_language v w forms in
     λ k. p.MultiLanguageProperty (vs k) (is k)
-same_own (p.Range t a b) (p.Range u c d) cs ds s r e =
+same_own (p.Range t a b) (p.Range u c d) xs ys s r e =
     let ts : t ≡ u = cc in
     let highs : single t b ≡ single u d = cc in
     let lows : single t a ≡ single u c = cc in
     let bs = same_single t b d (highs ∙ ap (λ z. single z d) (sym ts)) in
     let as_ = same_single t a c (lows ∙ ap (λ z. single z c) (sym ts)) in
     λ k. p.Range (ts k) (as_ k) (bs k)
-same_own (p.File t v) (p.File u w) cs ds s r e =
+same_own (p.File t v) (p.File u w) xs ys s r e =
     let types : text_or_null t ≡ text_or_null u = cc in
     let values : text_or_null v ≡ text_or_null w = cc in
     ap₂ p.File (same_text_or_null t u types) (same_text_or_null v w values)
-same_own (p.Blob t v) (p.Blob u w) cs ds s r e =
+same_own (p.Blob t v) (p.Blob u w) xs ys s r e =
     let types : text_or_null t ≡ text_or_null u = cc in
     let values : text_or_null v ≡ text_or_null w = cc in
     ap₂ p.Blob (same_text_or_null t u types) (same_text_or_null v w values)
-same_own (p.ReferenceElement v) (p.ReferenceElement w) cs ds s r e =
+same_own (p.ReferenceElement v) (p.ReferenceElement w) xs ys s r e =
     let values : reference_or_null v ≡ reference_or_null w = cc in
     ap p.ReferenceElement (same_reference_or_null v w values)
-same_own (p.RelationshipElement a b) (p.RelationshipElement c d) cs ds s r e =
+same_own (p.RelationshipElement a b) (p.RelationshipElement c d) xs ys s r e =
     let firsts : reference_or_null a ≡ reference_or_null c = cc in
     let seconds : reference_or_null b ≡ reference_or_null d = cc in
     ap₂ p.RelationshipElement (same_reference_or_null a c firsts) (same_reference_or_null b d seconds)
-same_own (p.BasicEventElement o d s t b l m n) (p.BasicEventElement o' d' s' t' b' l' m' n') cs ds f r e =
+same_own (p.BasicEventElement o d s t b l m n) (p.BasicEventElement o' d' s' t' b' l' m' n') xs ys f r e =
     let os : reference_or_null o ≡ reference_or_null o' = cc in
     let ops = same_reference_or_null o o' os in
     let d1 : d ≡ d' = cc in
@@ -66,9 +69,9 @@ same_own (p.BasicEventElement o d s t b l m n) (p.BasicEventElement o' d' s' t' 
     let m1 : m ≡ m' = cc in
     let n1 : n ≡ n' = cc in
     λ k. p.BasicEventElement (ops k) (d1 k) (s1 k) (t1 k) (b1 k) (l1 k) (m1 k) (n1 k)
-same_own p.Capability p.Capability cs ds s r e = refl
-same_own p.Operation p.Operation cs ds s r e = refl
-same_own x y cs ds s r e = absurd (cc)
+same_own p.Capability p.Capability xs ys s r e = refl
+same_own p.Operation p.Operation xs ys s r e = refl
+same_own x y xs ys s r e = absurd (cc)
 
 -- ---- children in an array
 
@@ -140,29 +143,32 @@ ApartIn (p.Entity t g ids) cs = Apart cs
 ApartIn p.SubmodelElementCollection cs = Apart cs
 ApartIn _ cs = Unit {0}
 
-pub same_with_children : (x y : Payload) (cs ds : List Child)
-    → shows_children x ≡ true → without_values x ≡ without_values y → ApartIn x cs → Alike cs ds
-    → value_over extent.WithBlobValue x cs ≡ value_over extent.WithBlobValue y ds → (x ≡ y) × (cs ≡ ds)
-same_with_children (p.AnnotatedRelationshipElement a b) (p.AnnotatedRelationshipElement c d) cs ds s r apart h e =
+pub same_with_children : (x y : Payload) (xs ys : List Part) → shows_children x ≡ true
+    → without_values x ≡ without_values y → ApartIn x (children xs) → Alike (children xs) (children ys)
+    → value (form_of x xs) ≡ value (form_of y ys) → (x ≡ y) × (children xs ≡ children ys)
+unfolding encode
+same_with_children (p.AnnotatedRelationshipElement a b) (p.AnnotatedRelationshipElement c d) xs ys s r apart h e =
+    let cs = children xs in
+    let ds = children ys in
     let entries : in_order (map annotation_value cs) ≡ in_order (map annotation_value ds) = cc in
     let firsts : reference_or_null a ≡ reference_or_null c = cc in
     let seconds : reference_or_null b ≡ reference_or_null d = cc in (
       ap₂ p.AnnotatedRelationshipElement (same_reference_or_null a c firsts) (same_reference_or_null b d seconds),
       same_entries cs ds apart h (same_in_order _ _ (alike_entries cs ds h) entries),
     )
-same_with_children (p.Entity t g ids) (p.Entity u k jds) cs ds s r apart h e =
+same_with_children (p.Entity t g ids) (p.Entity u k jds) xs ys s r apart h e =
     let types : entity_type_or_null t ≡ entity_type_or_null u = cc in
     let globals : text_or_null g ≡ text_or_null k = cc in
     let specifics : array_of spell_specific_asset_id ids ≡ array_of spell_specific_asset_id jds = cc in
-    let statements : named cs ≡ named ds = cc in
+    let statements : named (children xs) ≡ named (children ys) = cc in
     let ts = same_entity_type t u types in
     let gs = same_text_or_null g k globals in
     let is = same_array spell_specific_asset_id specific_asset_id_facts.same ids jds specifics in
-    ((λ i. p.Entity (ts i) (gs i) (is i)), same_named cs ds apart h statements)
-same_with_children p.SubmodelElementCollection p.SubmodelElementCollection cs ds s r apart h e =
-    let forms : named cs ≡ named ds = cc in
-    (refl, same_named cs ds apart h forms)
-same_with_children (p.SubmodelElementList a b c d) (p.SubmodelElementList a' b' c' d') cs ds s r apart h e =
-    let forms : in_order cs ≡ in_order ds = cc in
-    (r, same_in_order cs ds h forms)
-same_with_children x y cs ds s r apart h e = absurd (cc)
+    ((λ i. p.Entity (ts i) (gs i) (is i)), same_named (children xs) (children ys) apart h statements)
+same_with_children p.SubmodelElementCollection p.SubmodelElementCollection xs ys s r apart h e =
+    let forms : named (children xs) ≡ named (children ys) = cc in
+    (refl, same_named (children xs) (children ys) apart h forms)
+same_with_children (p.SubmodelElementList a b c d) (p.SubmodelElementList a' b' c' d') xs ys s r apart h e =
+    let forms : in_order (children xs) ≡ in_order (children ys) = cc in
+    (r, same_in_order (children xs) (children ys) h forms)
+same_with_children x y xs ys s r apart h e = absurd (cc)

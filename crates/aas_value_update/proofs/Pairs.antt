@@ -14,10 +14,12 @@ use Rattle.aas_path_trees.specs.Children.{kids_of, id_short_of}
 use Rattle.aas_path_trees.specs.Places.{element_in}
 use Rattle.aas_constraint_laws.specs.Values.{without_values, bare, DifferInValues}
 use Rattle.aas_value.specs.Single.{single}
-use Rattle.aas_value_update.specs.Json.{is_single}
-use Rattle.aas_value_update.specs.Kinds.{own, part, form_of, child_part, part_of}
+use Rattle.aas_value.specs.Json.{is_single}
+use Rattle.aas_value.specs.Kinds.{own, part}
+use Rattle.aas_value_update.specs.Forms.{form_of, part_of}
+use Rattle.aas_value.specs.ValueForm.{child_part}
 use Rattle.aas_value_update.specs.Laws.{NamesDiffer}
-use Rattle.aas_value_update.specs.Parts.{Part, Form, nothing, whole, object_of, list_of, entries_of, children, value}
+use Rattle.aas_value.specs.Parts.{Part, Form, nothing, whole, object_of, list_of, entries_of, children, value}
 use Rattle.aas_value_update.proofs.Alone.{fields, kids_made}
 use Rattle.aas_value_update.proofs.Elements.{part_out}
 use Rattle.aas_value_update.proofs.Named.{Apart}

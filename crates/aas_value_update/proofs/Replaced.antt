@@ -7,14 +7,13 @@ use Rattle.serde_json.specs.Data.{Data, array, object, Items, item, no_members}
 use Rattle.aas_model_names.specs.declared.modifiers.Extent.TheVariants as extent
 use Rattle.aas_model.specs.declared.element.Element.{Element}
 use Rattle.aas_constraint_laws.specs.Values.{DifferInValues}
-use Rattle.aas_value.specs.ValueForm.{Child, forms_of, annotation_value, value_form}
-use Rattle.aas_value_update.specs.Parts.{Part, Form, nothing, whole, object_of, list_of, entries_of, is_called, by_name}
-use Rattle.aas_value_update.specs.Parts.{children, value}
-use Rattle.aas_value_update.specs.Parts.{later, over, laid, laid_items, put_entry, laid_entries, lay_form}
-use Rattle.aas_value_update.specs.Kinds.{child_part, part_of, lay}
+use Rattle.aas_value.specs.Children.{forms_of, annotation_value}
+use Rattle.aas_value.specs.ValueForm.{value_form, child_part}
+use Rattle.aas_value.specs.Parts.{Part, Form, nothing, whole, object_of, list_of, entries_of, is_called, by_name}
+use Rattle.aas_value.specs.Parts.{children, value, later, over, laid, laid_items, put_entry, laid_entries, lay_form}
+use Rattle.aas_value_update.specs.Forms.{part_of, lay}
 use Rattle.aas_value_update.specs.Laws.{NamesDiffer, WholeFormReplaces, WholeFormMakesElement}
 use Rattle.aas_value_update.specs.Update.{IsElementUpdate}
-use Rattle.aas_value_update.proofs.Elements.{child_is}
 use Rattle.aas_value_update.proofs.Laid.{form, get_children, get_laid, children_rise, laid_rises, form_entries}
 use Rattle.aas_value_update.proofs.Laid.{called_alike, entry_alike, put_entry_named, entry_before, own_entry}
 use Rattle.aas_value_update.proofs.Laid.{form_members, form_items, items_with, laid_first, lay_named}
@@ -127,14 +126,11 @@ replaces = related Replaces replaces_parts part_of part_of child_part child_part
     (λ n f g r.
     record { name = refl; there = forms_there Replaces (λ x y r. r.there) f g r; laid = form_replaced f g r })
 
-form_is : (e : Element) → (part_of e).child.form ≡ value_form extent.WithBlobValue e
-form_is e = ap (λ (c : Child). c.form) (child_is e)
-
 pub whole_form_replaces : WholeFormReplaces
 whole_form_replaces e u w v order differ old new =
     let laid : Some (lay e w v) ≡ Some v =
-    sym (ap₂ (over (part_of e).lay) (form_is e ∙ old) (form_is u ∙ new))
-    ∙ (replaces e u order.names differ).laid ∙ form_is u ∙ new in
+    sym (ap₂ (over (part_of e).lay) old new)
+    ∙ (replaces e u order.names differ).laid ∙ new in
     cc
 
 pub whole_form_makes_element : WholeFormMakesElement
@@ -154,7 +150,7 @@ whole_form_makes_element e u w v order differ operations new =
     by_form : (o : Option Data) → value_form extent.WithBlobValue e ≡ o
         → option_map (λ x. lay e x v) (value_form extent.WithBlobValue e) ≡ Some v
     by_form None is =
-        absurd (true≢false (sym (ap is_some (form_is u ∙ new))
-        ∙ sym (replaces e u order.names differ).there ∙ ap is_some (form_is e ∙ is)))
+        absurd (true≢false (sym (ap is_some new)
+        ∙ sym (replaces e u order.names differ).there ∙ ap is_some is))
     by_form (Some x) is =
         ap (option_map (λ x. lay e x v)) is ∙ ap (λ d. Some d) (whole_form_replaces e u x v order differ is new)

@@ -8,12 +8,13 @@ use Rattle.serde_json.specs.Data.{Data, array, object, put, Items, no_items, ite
 use Rattle.serde_json.specs.Find.{get_member}
 use Rattle.aas_json_spelling.specs.Lists.{Each}
 use Rattle.aas_json_spelling.specs.Values.{IsOrdered, AreOrdered, HasOrder}
-use Rattle.aas_value.specs.ValueForm.{Child, named}
-use Rattle.aas_value_update.specs.Kinds.{child_part, part_of}
+use Rattle.aas_value.specs.Children.{Child, named}
+use Rattle.aas_value.specs.ValueForm.{child_part}
+use Rattle.aas_value_update.specs.Forms.{part_of}
 use Rattle.aas_value_update.specs.Laws.{LaidNamesRise}
-use Rattle.aas_value_update.specs.Parts.{Part, Form, nothing, whole, object_of, list_of, entries_of, is_called, by_name}
-use Rattle.aas_value_update.specs.Parts.{over, over_one}
-use Rattle.aas_value_update.specs.Parts.{later, laid, laid_item, laid_items, entry, put_entry, laid_entries, lay_form}
+use Rattle.aas_value.specs.Parts.{Part, Form, nothing, whole, object_of, list_of, entries_of, is_called, by_name, over}
+use Rattle.aas_value.specs.Parts.{over_one, later, laid, laid_item, laid_items, entry, put_entry, laid_entries}
+use Rattle.aas_value.specs.Parts.{lay_form}
 use Rattle.aas_value_update.proofs.Canonical.{order_rises}
 use Rattle.aas_value_update.proofs.Laid.{laid_rises, lay_named}
 use Rattle.aas_value_update.proofs.Members.{Rises}

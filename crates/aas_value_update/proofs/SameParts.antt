@@ -3,10 +3,10 @@ use Rattle.std.proofs.Common.{◌≡◌, ℕ, Bool, false, ◌&&◌, List, [], �
 use Rattle.std.specs.Prelude.{if◌then◌else◌}
 use Rattle.serde_json.specs.Data.{Data, array, object, put, Items, Members, no_members, member}
 use Rattle.serde_json.specs.Find.{get_member}
-use Rattle.aas_value_update.specs.Parts.{Part, Form, nothing, whole, object_of, list_of, entries_of, is_called, by_name}
-use Rattle.aas_value_update.specs.Parts.{later, value, over}
-use Rattle.aas_value_update.specs.Parts.{over_one, laid, laid_item, laid_items, entry, put_entry, laid_entries}
-use Rattle.aas_value_update.specs.Parts.{lay_form, members_fit, item_fits, items_fit, fits_if, entries_fit, fits_form}
+use Rattle.aas_value.specs.Parts.{Part, Form, nothing, whole, object_of, list_of, entries_of, is_called, by_name}
+use Rattle.aas_value.specs.Parts.{later, value, over, over_one, laid, laid_item, laid_items, entry, put_entry}
+use Rattle.aas_value.specs.Parts.{laid_entries, lay_form, members_fit, item_fits, items_fit, fits_if, entries_fit}
+use Rattle.aas_value.specs.Parts.{fits_form}
 use Rattle.aas_value_update.proofs.Laid.{called_alike, entry_alike, put_entry_named}
 use Rattle.aas_value_update.proofs.Pairs.{Pairs, Forms, forms_there, IsOfParts}
 

@@ -1,6 +1,6 @@
 -- What is sent for children: it is in order where all is, and fits where the whole has the shape.
 use Rattle.std.proofs.Common.{◌≡◌, ℕ, zero, suc, Bool, true, false, List, [], ◌∷◌, map, codes, Option, Some, None}
-use Rattle.std.proofs.Common.{is_some, option_and_then, slice_get, refl, subst}
+use Rattle.std.proofs.Common.{is_some, option_and_then, slice_get, refl, sym, ap, ◌∙◌, subst, true≢false}
 use Rattle.std.specs.Prelude.{if◌then◌else◌}
 use Rattle.std.specs.Str.{encode_utf8_all}
 use Rattle.serde_json.specs.Data.{Data, array, object, Items, no_items, item, member, no_members}
@@ -11,11 +11,12 @@ use Rattle.aas_model.specs.declared.element.Element.{Element, out-Element}
 use Rattle.aas_model.specs.declared.payload.Payload.{Payload}
 use Rattle.aas_model.specs.declared.payload.Payload.TheVariants as p
 use Rattle.aas_path_trees.specs.Children.{kids_of}
-use Rattle.aas_value.specs.ValueForm.{Child}
-use Rattle.aas_value_update.specs.Kinds.{form_of, part_of}
-use Rattle.aas_value_update.specs.Parts.{Part, is_called, children, entry, fits_form}
+use Rattle.aas_value.specs.Children.{Child}
+use Rattle.aas_value_update.specs.Forms.{form_of, part_of}
+use Rattle.aas_value.specs.Parts.{Part, is_called, children, entry, value, fits_form}
 use Rattle.aas_value_update.specs.Shape.{by_names, next_item, in_turn, by_entries, items_in, nothing_sent, if_sent}
 use Rattle.aas_value_update.specs.Shape.{sent, HasShape, shaped}
+use Rattle.aas_value_update.proofs.Elements.{part_out}
 use Rattle.aas_value_update.proofs.WholeOwn.{member_ordered}
 
 -- ---- what is sent for children is in order
@@ -148,3 +149,16 @@ shape_from e v level =
     shaped e v level.own (λ n k d is.
     shaped_at (kids_of e)
     (sent (out-Element e).payload (children (map part_of (kids_of e))) v) level.kids n k d is.child is.value)
+
+-- ---- what may be sent is laid over a form
+
+form_fitting : (x : Payload) (xs : List Part) (v : Data)
+    → fits_form (form_of x xs) v ≡ true → is_some (value (form_of x xs)) ≡ true
+form_fitting p.Capability xs v fits = absurd (true≢false (sym fits))
+form_fitting p.Operation xs v fits = absurd (true≢false (sym fits))
+form_fitting x xs v fits = refl
+
+pub form_there : (e : Element) (v : Data) → HasShape e v → is_some (part_of e).child.form ≡ true
+form_there e v shape =
+    ap (λ (x : Part). is_some x.child.form) (part_out e)
+    ∙ form_fitting (out-Element e).payload (map part_of (kids_of e)) v (shape_out e v shape).own

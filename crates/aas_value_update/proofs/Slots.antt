@@ -22,7 +22,7 @@ use Rattle.aas_reference.proofs.Levels.{made_out, attributes_at, spell_at}
 use Rattle.aas_reference.proofs.Spelled.{same_reference}
 use Rattle.aas_json_spelling.proofs.MemberTypes.{same_words}
 use Rattle.aas_value.specs.Single.{native_or_text, single}
-use Rattle.aas_value.specs.ValueForm.{array_of, language_value, text_or_null, reference_or_null, entity_type_or_null}
+use Rattle.aas_value.specs.Attributes.{array_of, language_value, text_or_null, reference_or_null, entity_type_or_null}
 
 pub same_text : (a b : List ℕ) → text_of a ≡ text_of b → a ≡ b
 same_text a b e = let same : encode_utf8_all a ≡ encode_utf8_all b = cc in encodes_same a b same

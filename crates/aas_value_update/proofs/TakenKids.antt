@@ -8,15 +8,15 @@ use Rattle.serde_json.specs.Data.{Data, null, boolean, number, string, array, ob
 use Rattle.serde_json.specs.Data.{no_members, member}
 use Rattle.serde_json.specs.Find.{get, get_member}
 use Rattle.aas_json_table.specs.Spelled.{onto}
-use Rattle.aas_model_names.specs.declared.modifiers.Extent.TheVariants as extent
 use Rattle.aas_model.specs.declared.payload.Payload.{Payload}
 use Rattle.aas_model.specs.declared.payload.Payload.TheVariants as p
 use Rattle.aas_constraint_laws.specs.Values.{without_values}
-use Rattle.aas_value.specs.ValueForm.{Child, named, in_order, forms_of, annotation_value, put_children}
-use Rattle.aas_value.specs.ValueForm.{reference_or_null, value_over, shows_children}
-use Rattle.aas_value_update.specs.Parts.{Part, object_of, list_of, entries_of, name_is, by_name, children, later, over}
-use Rattle.aas_value_update.specs.Parts.{laid, laid_items, laid_entries, entry, value, lay_form, fits_form}
-use Rattle.aas_value_update.specs.Kinds.{form_of}
+use Rattle.aas_value.specs.Children.{Child, named, in_order, forms_of, annotation_value, put_children}
+use Rattle.aas_value.specs.Attributes.{reference_or_null}
+use Rattle.aas_value.specs.ValueForm.{shows_children}
+use Rattle.aas_value.specs.Parts.{Part, object_of, list_of, entries_of, name_is, by_name, children, later, over, laid}
+use Rattle.aas_value.specs.Parts.{laid_items, laid_entries, entry, value, lay_form, fits_form}
+use Rattle.aas_value_update.specs.Forms.{form_of}
 use Rattle.aas_value_update.specs.Shape.{by_names, next_item, in_turn, by_entries, items_in, nothing_sent}
 use Rattle.aas_value_update.specs.Shape.{if_sent, sent}
 use Rattle.aas_value_update.specs.Took.{Took, AreNamed, NamedIn}
@@ -128,7 +128,7 @@ named_taken xs ys (number n) apart alike fits e = absurd (true≢false (sym fits
 named_taken xs ys (string s) apart alike fits e = absurd (true≢false (sym fits))
 named_taken xs ys (array ds) apart alike fits e = absurd (true≢false (sym fits))
 
-listed_taken : (y : Payload) → ((cs : List Child) → value_over extent.WithBlobValue y cs ≡ Some (in_order cs))
+listed_taken : (y : Payload) → ((xs : List Part) → value (form_of y xs) ≡ Some (in_order (children xs)))
     → shows_children y ≡ true → (xs ys : List Part) (v : Data) → ApartIn y (children ys)
     → Alike (children ys) (children xs) → fits_form (list_of xs) v ≡ true
     → Some (in_order (children ys)) ≡ over (lay_form (list_of xs)) (Some (in_order (children xs))) (Some v)
@@ -139,9 +139,8 @@ listed_taken y is shows xs ys (array ds) apart alike fits e =
     let new = all_taken xs (in_turn (children xs) ds) in
     let same : in_order (children ys) ≡ in_order (children new) =
     forms ∙ ap array (sym (items_laid xs new ds fits (took_all xs _ for))) in
-    (same_with_children y y (children ys) (children new) shows refl apart
-    (alike_both _ _ _ alike (alike_taken xs _ for))
-    (is (children ys) ∙ ap (λ (d : Data). Some d) same ∙ sym (is (children new)))).1
+    (same_with_children y y ys new shows refl apart (alike_both _ _ _ alike (alike_taken xs _ for))
+    (is ys ∙ ap (λ (d : Data). Some d) same ∙ sym (is new))).1
 listed_taken y is shows xs ys null apart alike fits e = absurd (true≢false (sym fits))
 listed_taken y is shows xs ys (boolean b) apart alike fits e = absurd (true≢false (sym fits))
 listed_taken y is shows xs ys (number n) apart alike fits e = absurd (true≢false (sym fits))
@@ -149,8 +148,9 @@ listed_taken y is shows xs ys (string s) apart alike fits e = absurd (true≢fal
 listed_taken y is shows xs ys (object ms) apart alike fits e = absurd (true≢false (sym fits))
 
 annotations_taken : (y : Payload)
-    → ((cs ds : List Child) → in_order (map annotation_value cs) ≡ in_order (map annotation_value ds)
-    → value_over extent.WithBlobValue y cs ≡ value_over extent.WithBlobValue y ds)
+    → ((xs ys : List Part)
+    → in_order (map annotation_value (children xs)) ≡ in_order (map annotation_value (children ys))
+    → value (form_of y xs) ≡ value (form_of y ys))
     → shows_children y ≡ true → (xs ys : List Part) (v : Data)
     → ApartIn y (children ys) → Alike (children ys) (children xs) → AreNamed xs → fits_form (entries_of xs) v ≡ true
     → Some (in_order (map annotation_value (children ys)))
@@ -163,8 +163,8 @@ annotations_taken y by shows xs ys (array ds) apart alike names fits e =
     let new = all_taken xs (by_entries (children xs) ds) in
     let same : in_order (map annotation_value (children ys)) ≡ in_order (map annotation_value (children new)) =
     forms ∙ ap array (sym (entries_laid xs new ds names fits (took_all xs _ for))) in
-    (same_with_children y y (children ys) (children new) shows refl apart
-    (alike_both _ _ _ alike (alike_taken xs _ for)) (by (children ys) (children new) same)).1
+    (same_with_children y y ys new shows refl apart
+    (alike_both _ _ _ alike (alike_taken xs _ for)) (by ys new same)).1
 annotations_taken y by shows xs ys null apart alike names fits e = absurd (true≢false (sym fits))
 annotations_taken y by shows xs ys (boolean b) apart alike names fits e = absurd (true≢false (sym fits))
 annotations_taken y by shows xs ys (number n) apart alike names fits e = absurd (true≢false (sym fits))
@@ -208,8 +208,9 @@ statements_taken xs ys None apart alike e fits =
 statements_taken xs ys (Some d) apart alike e fits = named_taken xs ys d apart alike (fits d refl) e
 
 entries_taken : (y : Payload)
-    → ((cs ds : List Child) → in_order (map annotation_value cs) ≡ in_order (map annotation_value ds)
-    → value_over extent.WithBlobValue y cs ≡ value_over extent.WithBlobValue y ds)
+    → ((xs ys : List Part)
+    → in_order (map annotation_value (children xs)) ≡ in_order (map annotation_value (children ys))
+    → value (form_of y xs) ≡ value (form_of y ys))
     → shows_children y ≡ true → (xs ys : List Part) (s : Option Data)
     → ApartIn y (children ys) → Alike (children ys) (children xs) → AreNamed xs
     → Some (in_order (map annotation_value (children ys)))
@@ -217,8 +218,7 @@ entries_taken : (y : Payload)
     → ((d : Data) → s ≡ Some d → fits_form (entries_of xs) d ≡ true)
     → children ys ≡ children (all_taken xs (if_sent (λ d. by_entries (children xs) (items_in d)) (children xs) s))
 entries_taken y by shows xs ys None apart alike names e fits =
-    (same_with_children y y (children ys) (children xs) shows refl apart alike
-    (by (children ys) (children xs) (same_Some _ _ e))).1
+    (same_with_children y y ys xs shows refl apart alike (by ys xs (same_Some _ _ e))).1
     ∙ sym (nothing_taken xs)
 entries_taken y by shows xs ys (Some d) apart alike names e fits =
     annotations_taken y by shows xs ys d apart alike names (fits d refl) e
@@ -235,7 +235,7 @@ children_taken (p.AnnotatedRelationshipElement a b)
     (p.AnnotatedRelationshipElement c d) xs ys v shows r apart alike names fits e =
     let own = member_laid (codes "annotations") (parts_in (form_of (p.AnnotatedRelationshipElement a b) xs))
     (parts_in (form_of (p.AnnotatedRelationshipElement c d) ys)) _ _ refl refl v fits e in
-    entries_taken (p.AnnotatedRelationshipElement c d) (λ cs ds same.
+    entries_taken (p.AnnotatedRelationshipElement c d) (λ us zs same.
     ap (λ (z : Data). Some (object (member (codes "annotations") z
     (member (codes "first") (reference_or_null c) (member (codes "second") (reference_or_null d) no_members))))) same)
     refl xs ys (get (codes "annotations") v) apart alike names own.is_laid own.fits
@@ -247,5 +247,5 @@ children_taken p.SubmodelElementCollection p.SubmodelElementCollection xs ys v s
     named_taken xs ys v apart alike fits e
 children_taken (p.SubmodelElementList o s t a)
     (p.SubmodelElementList o' s' t' a') xs ys v shows r apart alike names fits e =
-    listed_taken (p.SubmodelElementList o' s' t' a') (λ cs. refl) refl xs ys v apart alike fits e
+    listed_taken (p.SubmodelElementList o' s' t' a') (λ us. refl) refl xs ys v apart alike fits e
 children_taken x y xs ys v shows r apart alike names fits e = absurd (cc)

@@ -8,15 +8,14 @@ use Rattle.aas_lexical.specs.Natives.{native_of}
 use Rattle.aas_lexical.specs.declared.natives.Native.{Native}
 use Rattle.aas_lexical.specs.declared.natives.Native.TheVariants as native
 use Rattle.aas_value.specs.Single.{native_or_text, single}
-use Rattle.aas_value.specs.ValueForm.{Child}
 use Rattle.aas_model.specs.Payload.{kind_of}
 use Rattle.aas_model.specs.declared.element.Element.{out-Element}
 use Rattle.aas_model.specs.declared.payload.Payload.{Payload}
 use Rattle.aas_model.specs.declared.payload.Payload.TheVariants as p
-use Rattle.aas_value_update.specs.Parts.{Part, value, lay_form}
-use Rattle.aas_value_update.specs.Kinds.{form_of, part_of}
+use Rattle.aas_value.specs.Parts.{Part, value, lay_form}
+use Rattle.aas_value_update.specs.Forms.{form_of, part_of}
 use Rattle.aas_value_update.specs.Laws.{OwnFormStays, NoMembersChangeNothing}
-use Rattle.aas_value_update.proofs.Elements.{part_out, child_is}
+use Rattle.aas_value_update.proofs.Elements.{part_out}
 use Rattle.aas_value_update.proofs.OneForm.{one_form}
 use Rattle.aas_value_update.proofs.Replaced.{whole_form_makes_element}
 
@@ -58,7 +57,7 @@ pub no_members_change_nothing : NoMembersChangeNothing
 no_members_change_nothing e u ms order other is a =
     let x = out-Element e in
     let forms : value (form_of x.payload (map part_of x.kids)) ≡ Some (object ms) =
-    sym (ap (λ (y : Part). y.child.form) (part_out e)) ∙ ap (λ (c : Child). c.form) (child_is e) ∙ is in
+    sym (ap (λ (y : Part). y.child.form) (part_out e)) ∙ is in
     let laid : (part_of e).lay (object ms) (object no_members) ≡ object ms =
     ap (λ (y : Part). y.lay (object ms) (object no_members)) (part_out e)
     ∙ nothing_laid x.payload (map part_of x.kids) ms other forms in

@@ -24,13 +24,13 @@ use Rattle.aas_model.specs.declared.payload.Payload.TheVariants as p
 use Rattle.aas_model.specs.declared.reference.Reference.{Reference}
 use Rattle.aas_reference.specs.Whole.{is_whole, whole_if_there, whole_and_there}
 use Rattle.aas_constraint_laws.specs.Values.{without_values}
-use Rattle.aas_value.specs.ValueForm.{put_children, named, array_of, text_or_null}
-use Rattle.aas_value.specs.ValueForm.{reference_or_null, entity_type_or_null}
-use Rattle.aas_value_update.specs.Json.{is_string, is_reference, is_reference_or_null, is_specific_asset_id}
-use Rattle.aas_value_update.specs.Json.{is_entity_type, is_array_of, all_items}
-use Rattle.aas_value_update.specs.Parts.{Part, Form, object_of, by_name, children, later, over, laid, value, lay_form}
-use Rattle.aas_value_update.specs.Parts.{members_fit, fits_form}
-use Rattle.aas_value_update.specs.Kinds.{form_of}
+use Rattle.aas_value.specs.Children.{put_children, named}
+use Rattle.aas_value.specs.Attributes.{array_of, text_or_null, reference_or_null, entity_type_or_null}
+use Rattle.aas_value.specs.Json.{is_string, is_reference, is_reference_or_null, is_specific_asset_id, is_entity_type}
+use Rattle.aas_value.specs.Json.{is_array_of, all_items}
+use Rattle.aas_value.specs.Parts.{Part, Form, object_of, by_name, children, later, over, laid, value, lay_form}
+use Rattle.aas_value.specs.Parts.{members_fit, fits_form}
+use Rattle.aas_value_update.specs.Forms.{form_of}
 use Rattle.aas_value_update.proofs.Canonical.{part_fits, part_shallow, says_itself}
 use Rattle.aas_value_update.proofs.Laid.{form, get_children, get_laid, sent_fits}
 use Rattle.aas_value_update.proofs.Slots.{same_text_or_null, same_entity_type, same_reference_or_null, same_array}

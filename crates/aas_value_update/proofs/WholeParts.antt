@@ -1,6 +1,6 @@
 -- The parts of a whole element stay whole in an update.
 use Rattle.std.proofs.Common.{◌≡◌, ℕ, zero, suc, ◌&&◌, Bool, true, false, List, [], ◌∷◌, map, Option, Some, None}
-use Rattle.std.proofs.Common.{option_map, slice_get, refl, sym, ap, ◌∙◌, subst, true≢false}
+use Rattle.std.proofs.Common.{is_some, option_map, slice_get, refl, sym, ap, ◌∙◌, subst, true≢false}
 use Rattle.std.specs.Prelude.{if◌then◌else◌}
 use Rattle.std.specs.List.{list_all}
 use Rattle.std.proofs.lemmas.Bool.{and_parts, and_from}
@@ -17,24 +17,25 @@ use Rattle.aas_model.specs.declared.element.Element.{Element, out-Element, fold_
 use Rattle.aas_model.specs.declared.element.Element.TheFolds.{fold-roll-Element}
 use Rattle.aas_model.specs.declared.element.Role.{Role}
 use Rattle.aas_model.specs.declared.payload.Payload.{Payload}
-use Rattle.aas_model.specs.declared.payload.Payload.TheVariants as p
 use Rattle.aas_path_trees.specs.Children.{kids_of}
 use Rattle.aas_path_trees.specs.Places.{element_in}
-use Rattle.aas_value.specs.ValueForm.{Child, value_form, shows_children}
-use Rattle.aas_value_update.specs.Parts.{Part, children, over, value, lay_form, fits_form}
-use Rattle.aas_value_update.specs.Kinds.{form_of, part_of, lay}
+use Rattle.aas_value.specs.Children.{Child}
+use Rattle.aas_value.specs.ValueForm.{value_form, shows_children}
+use Rattle.aas_value.specs.Parts.{Part, children, over, value, lay_form}
+use Rattle.aas_value_update.specs.Forms.{form_of, part_of, lay}
 use Rattle.aas_value_update.specs.Laws.{NamesDiffer, IsInOrder}
 use Rattle.aas_value_update.specs.LeftAlone.{left_alone}
 use Rattle.aas_value_update.specs.Shape.{HasShape, sent}
 use Rattle.aas_value_update.specs.Update.{IsElementUpdate}
 use Rattle.aas_value_update.proofs.Alone.{Level, level, kids_made}
-use Rattle.aas_value_update.proofs.Elements.{part_out, child_is}
+use Rattle.aas_value_update.proofs.Elements.{part_out}
 use Rattle.aas_value_update.proofs.Laid.{over_none}
 use Rattle.aas_value_update.proofs.OneForm.{alike_kids, apart_in, named_in, one_alone}
 use Rattle.aas_value_update.proofs.OneUpdate.{names_alike}
 use Rattle.aas_value_update.proofs.Order.{names_below}
 use Rattle.aas_value_update.proofs.Rest.{left_alone_is}
 use Rattle.aas_value_update.proofs.Sent.{IfOrdered, sent_ordered, IfShaped, AreShaped, IsShapedLevel, shape_out}
+use Rattle.aas_value_update.proofs.Sent.{form_there}
 use Rattle.aas_value_update.proofs.TakenKids.{all_taken, children_taken}
 use Rattle.aas_value_update.proofs.WholeOwn.{own_whole}
 
@@ -69,8 +70,7 @@ child_whole : (k u : Element) (s : Option Data)
     → has_whole_parts limits u ≡ true
 unfolding StaysWhole
 child_whole k u None stays names rest order shape form whole =
-    let forms = sym (ap (λ (c : Child). c.form) (child_is u)) ∙ form
-    ∙ sym (over_none (part_of k).lay (part_of k).child.form) ∙ ap (λ (c : Child). c.form) (child_is k) in
+    let forms = form ∙ sym (over_none (part_of k).lay (part_of k).child.form) in
     ap (has_whole_parts limits) (one_alone k u names rest forms) ∙ whole
 child_whole k u (Some d) stays names rest order shape form whole = stays u d names rest order shape form whole
 
@@ -152,12 +152,6 @@ stays_whole = by_children StaysWhole (λ r c x ks each u v names rest order none
 
 -- ---- updates
 
-formless : (x : Payload) (xs : List Part) (v : Data)
-    → value (form_of x xs) ≡ None → fits_form (form_of x xs) v ≡ true → ⊥
-formless p.Capability xs v e fits = true≢false (sym fits)
-formless p.Operation xs v e fits = true≢false (sym fits)
-formless x xs v e fits = absurd (cc)
-
 pub parts_stay_whole : (e u : Element) (v : Data)
     → IsInOrder e → IsOrdered v → IsElementUpdate e v u → has_whole_parts limits e ≡ true
     → has_whole_parts limits u ≡ true
@@ -165,16 +159,12 @@ unfolding StaysWhole
 parts_stay_whole e u v order ordered update whole =
     let rest = left_alone_is e u order.placed update.metadata update.operations in
     stays_whole e u v order.names rest ordered update.shape
-    (by_form (value_form extent.WithBlobValue e) refl (ap (λ (c : Child). c.form) (child_is u) ∙ update.form)) whole
+    (by_form (value_form extent.WithBlobValue e) refl update.form) whole
   where
     by_form : (f : Option Data) → value_form extent.WithBlobValue e ≡ f
         → (part_of u).child.form ≡ option_map (λ w. lay e w v) (value_form extent.WithBlobValue e)
         → (part_of u).child.form ≡ over (part_of e).lay (part_of e).child.form (Some v)
-    by_form None is form =
-        let none : value (form_of (out-Element e).payload (map part_of (kids_of e))) ≡ None =
-        sym (ap (λ (z : Part). z.child.form) (part_out e)) ∙ ap (λ (c : Child). c.form) (child_is e) ∙ is in
-        absurd (formless (out-Element e).payload (map part_of (kids_of e)) v none (shape_out e v update.shape).own)
+    by_form None is form = absurd (true≢false (sym (form_there e v update.shape) ∙ ap is_some is))
     by_form (Some w) is form =
-        let there : (part_of e).child.form ≡ Some w = ap (λ (c : Child). c.form) (child_is e) ∙ is in
         form ∙ ap (option_map (λ w. lay e w v)) is
-        ∙ sym (ap (λ (f : Option Data). over (part_of e).lay f (Some v)) there)
+        ∙ sym (ap (λ (f : Option Data). over (part_of e).lay f (Some v)) is)

@@ -17,16 +17,12 @@ use Rattle.aas_path_trees.specs.Places.{element_in, Differ}
 use Rattle.aas_constraint_laws.specs.Law.{behind, local_faults}
 use Rattle.aas_constraint_laws.specs.Valid.{IsValid, is_whole}
 use Rattle.aas_constraint_laws.specs.Values.{DifferInValues}
-use Rattle.aas_value.specs.ValueForm.{child_of, value_form, shows_children}
-use Rattle.aas_value_update.specs.Json.{is_part}
-use Rattle.aas_value_update.specs.Kinds.{part_of, lay}
+use Rattle.aas_value.specs.ValueForm.{value_form, shows_children}
+use Rattle.aas_value.specs.Json.{is_part}
+use Rattle.aas_value_update.specs.Forms.{lay}
 use Rattle.aas_value_update.specs.LeftAlone.{unshown}
 use Rattle.aas_value_update.specs.Shape.{HasShape, IsFirstMisfit, first_misshapen}
 use Rattle.aas_value_update.specs.Update.{IsElementUpdate, IsValueUpdate, body, valued_at}
-
--- the parts of an element make its value form
-abbrev pub PartsMakeForm : Type 0
-PartsMakeForm = (e : Element) → (part_of e).child ≡ child_of extent.WithBlobValue e
 
 -- the walk finds nothing exactly where a value may be sent
 abbrev pub ShapeIsJudged : Type 0

@@ -1,8 +1,6 @@
-pub mod Json
-pub mod Kinds
+pub mod Forms
 pub mod Laws
 pub mod LeftAlone
-pub mod Parts
 pub mod Shape
 pub mod Took
 pub mod Update

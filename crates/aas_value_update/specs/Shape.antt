@@ -7,7 +7,7 @@ use Rattle.std.specs.Str.{encode_utf8_all}
 use Rattle.serde_json.specs.Data.{Data, array, Items, no_items, item}
 use Rattle.serde_json.specs.Find.{get}
 use Rattle.aas_json_table.specs.Rows.{first_of}
-use Rattle.aas_value.specs.ValueForm.{Child}
+use Rattle.aas_value.specs.Children.{Child}
 use Rattle.aas_model.specs.declared.element.Element.{Element, out-Element, fold-Element}
 use Rattle.aas_model.specs.declared.element.Element.TheOpen.{Element-F}
 use Rattle.aas_model.specs.declared.path.PathStep.{PathStep}
@@ -15,8 +15,9 @@ use Rattle.aas_model.specs.declared.payload.Payload.{Payload}
 use Rattle.aas_model.specs.declared.payload.Payload.TheVariants as p
 use Rattle.aas_constraint_rules.specs.Sites.{Own, own_of, step_to}
 use Rattle.aas_path_trees.specs.Children.{kids_of}
-use Rattle.aas_value_update.specs.Parts.{Part, Form, entry, children, fits_form}
-use Rattle.aas_value_update.specs.Kinds.{form_of, child_part, part_of}
+use Rattle.aas_value.specs.Parts.{Part, Form, entry, children, fits_form}
+use Rattle.aas_value_update.specs.Forms.{form_of, part_of}
+use Rattle.aas_value.specs.ValueForm.{child_part}
 
 -- ---- what is sent for each child
 

@@ -3,7 +3,7 @@ use Rattle.std.specs.Prelude.{◌≡◌, ℕ, List, [], ◌∷◌, Option, Some}
 use Rattle.serde_json.specs.Data.{Data}
 use Rattle.aas_model.specs.declared.payload.Payload.{Payload}
 use Rattle.aas_model.specs.declared.payload.Payload.TheVariants as p
-use Rattle.aas_value_update.specs.Parts.{Part, over}
+use Rattle.aas_value.specs.Parts.{Part, over}
 
 -- y is x with what was sent laid over its value
 abbrev pub TookOne : Part → Option Data → Part → Type 0

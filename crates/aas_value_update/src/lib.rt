@@ -2,11 +2,11 @@
 //! form of an element, and what an update makes of an element and of a submodel. It has nothing to run: a law stands on
 //! a function that does nothing.
 //!
-//! The value form itself stands in `aas_value`, and what makes an update of a sent value in `aas_value_patch`.
+//! The value form itself, and the parts that it is put together from, stand in `aas_value`, and what makes an update of
+//! a sent value in `aas_value_patch`.
 //!
 //! Proved, by the law functions in `src/lib.rt`:
 //!
-//! - That the parts from which shape and laying follow make the value form.
 //! - The walk that judges a sent value finds nothing exactly where the value may be sent, and else just the first
 //!   element for which it has something that doesn't fit.
 //! - The law of one form: elements that differ in values alone, have the same Operations and Capabilities and the
@@ -23,17 +23,12 @@
 
 #![tactic(auto)]
 
-ghost use Rattle.aas_value_update.specs.Laws.{PartsMakeForm, ShapeIsJudged, FirstMisfitIsFound};
+ghost use Rattle.aas_value_update.specs.Laws.{ShapeIsJudged, FirstMisfitIsFound};
 ghost use Rattle.aas_value_update.specs.Laws.{OneForm, OneElementUpdate, OneValueUpdate};
 ghost use Rattle.aas_value_update.specs.Laws.{UpdateStaysWhole, LawOfWholeSubmodel, FaultsAfterUpdate};
 ghost use Rattle.aas_value_update.specs.Laws.{ValidAfterUpdate, OwnFormStays, NoMembersChangeNothing};
 ghost use Rattle.aas_value_update.specs.Laws.{WholeFormReplaces, WholeFormMakesElement, SentIsCanonical};
 ghost use Rattle.aas_value_update.specs.Laws.{UpdatesCompose, ValueUpdatesCompose, LaidValuesFit, LaidNamesRise};
-
-/// What the parts of each kind make is the value form.
-pub fn parts_make_value_form()
-    ensures { PartsMakeForm }
-{}
 
 /// The walk that judges a sent value finds nothing exactly where the value may be sent, and else just the first
 /// element, in preorder, for which it has something that doesn't fit the element's form.

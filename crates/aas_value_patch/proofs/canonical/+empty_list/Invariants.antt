@@ -1,6 +1,6 @@
 use Rattle.std.proofs.Common.{◌≡◌, drop}
 use Rattle.serde_json.specs.View.{items_view, members_view}
-use Rattle.aas_value_update.specs.Json.{some_has_empty_list, member_has_empty_list}
+use Rattle.aas_value.specs.Json.{some_has_empty_list, member_has_empty_list}
 use Rattle.aas_value_patch.proofs.canonical.+empty_list.Given as goal
 
 abbrev pub invariant-item_has_empty_list-loop-item : goal.invariant-item_has_empty_list-loop-item

@@ -8,8 +8,8 @@ use Rattle.aas_model.specs.declared.path.Path.{Path}
 use Rattle.aas_constraints.specs.Walk.{above_of}
 use Rattle.aas_path_trees.specs.Children.{kids_of}
 use Rattle.aas_path_trees.specs.Patched.{kinds}
-use Rattle.aas_value_update.specs.Kinds.{form_of, part_of}
-use Rattle.aas_value_update.specs.Parts.{children, fits_form}
+use Rattle.aas_value_update.specs.Forms.{form_of, part_of}
+use Rattle.aas_value.specs.Parts.{children, fits_form}
 use Rattle.aas_value_update.specs.Shape.{sendable, among, first_misshapen}
 use Rattle.aas_value_patch.specs.Faults.{Refuses, Shapes}
 use Rattle.aas_value_patch.specs.declared.fault.Stop.{Stop}

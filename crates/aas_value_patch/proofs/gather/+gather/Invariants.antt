@@ -1,8 +1,8 @@
 use Rattle.std.proofs.Common.{◌≡◌, List, length, map, drop}
 use Rattle.aas_model_names.specs.declared.kind.Kind.{Kind}
 use Rattle.aas_constraint_rules.specs.Sites.{Own}
-use Rattle.aas_value_update.specs.Kinds.{part_of}
-use Rattle.aas_value_update.specs.Parts.{children}
+use Rattle.aas_value_update.specs.Forms.{part_of}
+use Rattle.aas_value.specs.Parts.{children}
 use Rattle.aas_value_update.specs.Shape.{sendable, among}
 use Rattle.aas_value_patch.specs.Gathered.{AllInOrder, AllOrdered, SoFar, Reached}
 use Rattle.aas_value_patch.specs.Sent.{sent_by}

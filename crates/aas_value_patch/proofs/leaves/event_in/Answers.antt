@@ -3,8 +3,8 @@ use Rattle.serde_json.specs.Data.{object}
 use Rattle.serde_json.specs.View.{members_view}
 use Rattle.aas_model.specs.declared.payload.Payload.{Payload}
 use Rattle.aas_model.specs.declared.payload.Payload.TheVariants as p
-use Rattle.aas_value_update.specs.Kinds.{form_of}
-use Rattle.aas_value_update.specs.Parts.{fits_form}
+use Rattle.aas_value_update.specs.Forms.{form_of}
+use Rattle.aas_value.specs.Parts.{fits_form}
 use Rattle.aas_value_patch.specs.Steps.{Stepped}
 use Rattle.aas_value_patch.proofs.Attributes.{refused, event_fits, event_is}
 use Rattle.aas_value_patch.proofs.leaves.event_in.Goals as goal

@@ -2,7 +2,7 @@ use Rattle.std.proofs.Common.{map, sym, ◌∙◌}
 use Rattle.serde_json.specs.Data.{object}
 use Rattle.serde_json.specs.View.{members_view}
 use Rattle.aas_model.specs.declared.payload.Payload.TheVariants as p
-use Rattle.aas_value_update.specs.Kinds.{part_of}
+use Rattle.aas_value_update.specs.Forms.{part_of}
 use Rattle.aas_value_patch.proofs.Attributes.{refused, entity_fits, entity_takes}
 use Rattle.aas_value_patch.proofs.parents.entity_in.Goals as goal
 

@@ -1,8 +1,8 @@
 use Rattle.std.proofs.Common.{◌≡◌, ◌<◌, length, get_or, map, option_map, ap, ◌∙◌, arith}
 use Rattle.serde_json.specs.View.{view, items_view}
 use Rattle.aas_model.specs.declared.element.Element.{Element}
-use Rattle.aas_value_update.specs.Kinds.{part_of}
-use Rattle.aas_value_update.specs.Parts.{entries_fit}
+use Rattle.aas_value_update.specs.Forms.{part_of}
+use Rattle.aas_value.specs.Parts.{entries_fit}
 use Rattle.aas_value_patch.proofs.Children.{entries_step, entries_end}
 use Rattle.aas_value_patch.proofs.parents.entries_fit.Goals as goal
 

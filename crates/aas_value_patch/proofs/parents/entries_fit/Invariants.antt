@@ -1,7 +1,7 @@
 use Rattle.std.proofs.Common.{◌≡◌, map, drop}
 use Rattle.serde_json.specs.View.{items_view}
-use Rattle.aas_value_update.specs.Kinds.{part_of}
-use Rattle.aas_value_update.specs.Parts.{entries_fit}
+use Rattle.aas_value_update.specs.Forms.{part_of}
+use Rattle.aas_value.specs.Parts.{entries_fit}
 use Rattle.aas_value_patch.proofs.parents.entries_fit.Given as goal
 
 abbrev pub invariant-loop-kid : goal.invariant-loop-kid

@@ -2,7 +2,7 @@ use Rattle.std.proofs.Common.{◌-◌, length, drop, sym, ap, ◌∙◌, arith}
 use Rattle.std.proofs.lemmas.List.{take_all}
 use Rattle.std.proofs.Common.{length-drop}
 use Rattle.serde_json.specs.View.{items_view}
-use Rattle.aas_value_update.specs.Parts.{items_fit}
+use Rattle.aas_value.specs.Parts.{items_fit}
 use Rattle.aas_value_patch.proofs.Children.{fit_first}
 use Rattle.aas_value_patch.proofs.parents.items_behind.Goals as goal
 

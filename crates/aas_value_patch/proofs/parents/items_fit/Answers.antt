@@ -1,7 +1,7 @@
 use Rattle.std.proofs.Common.{map, ap, ◌∙◌, arith}
 use Rattle.serde_json.specs.View.{items_view}
-use Rattle.aas_value_update.specs.Kinds.{part_of}
-use Rattle.aas_value_update.specs.Parts.{items_fit}
+use Rattle.aas_value_update.specs.Forms.{part_of}
+use Rattle.aas_value.specs.Parts.{items_fit}
 use Rattle.aas_value_patch.proofs.Children.{fit_end}
 use Rattle.aas_value_patch.proofs.parents.items_fit.Goals as goal
 

@@ -1,5 +1,5 @@
 use Rattle.std.proofs.Common.{map, sym, ◌∙◌}
-use Rattle.aas_value_update.specs.Kinds.{part_of}
+use Rattle.aas_value_update.specs.Forms.{part_of}
 use Rattle.aas_value_patch.proofs.Attributes.{list_is}
 use Rattle.aas_value_patch.proofs.parents.list_in.Goals as goal
 

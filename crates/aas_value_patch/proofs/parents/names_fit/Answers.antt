@@ -1,6 +1,6 @@
 use Rattle.std.proofs.Common.{map, ap, ◌∙◌, sym}
 use Rattle.serde_json.specs.View.{members_view}
-use Rattle.aas_value_update.specs.Kinds.{part_of}
+use Rattle.aas_value_update.specs.Forms.{part_of}
 use Rattle.aas_value_update.proofs.OneForm.{apart_of}
 use Rattle.aas_value_patch.specs.Counted.{found}
 use Rattle.aas_value_patch.proofs.Children.{names_are}

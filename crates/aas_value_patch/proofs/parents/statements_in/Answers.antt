@@ -1,7 +1,7 @@
 use Rattle.std.proofs.Common.{codes, map, subst}
 use Rattle.serde_json.specs.View.{view, members_view}
-use Rattle.aas_value_update.specs.Kinds.{part_of}
-use Rattle.aas_value_update.specs.Parts.{object_of, fits_if, fits_form}
+use Rattle.aas_value_update.specs.Forms.{part_of}
+use Rattle.aas_value.specs.Parts.{object_of, fits_if, fits_form}
 use Rattle.aas_value_patch.specs.Faults.{Judges}
 use Rattle.aas_value_patch.proofs.Ordered.{order_under}
 use Rattle.aas_value_patch.proofs.parents.statements_in.Goals as goal

@@ -1,7 +1,7 @@
 use Rattle.std.proofs.Common.{[], Ok, Err, map, refl, sym, ap, ◌∙◌, subst}
 use Rattle.serde_json.specs.View.{view}
-use Rattle.aas_value_update.specs.Kinds.{part_of}
-use Rattle.aas_value_update.specs.Parts.{object_of, fits_form}
+use Rattle.aas_value_update.specs.Forms.{part_of}
+use Rattle.aas_value.specs.Parts.{object_of, fits_form}
 use Rattle.aas_value_update.specs.Update.{body}
 use Rattle.aas_value_patch.specs.Faults.{Refuses, IsPatchFault, fault_of}
 use Rattle.aas_value_patch.specs.Sent.{sent_by}

@@ -1,5 +1,5 @@
 use Rattle.serde_json.specs.View.{view, members_view}
-use Rattle.aas_value.specs.ValueForm.{reference_or_null}
+use Rattle.aas_value.specs.Attributes.{reference_or_null}
 use Rattle.aas_value_patch.proofs.Ordered.{order_under, taken_under}
 use Rattle.aas_value_patch.proofs.references.reference_under.Goals as goal
 

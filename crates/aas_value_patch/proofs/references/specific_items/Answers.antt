@@ -1,6 +1,6 @@
 use Rattle.std.proofs.Common.{◌<◌, length, arith}
 use Rattle.aas_json_mapping.specs.Parts.{spell_specific_asset_id}
-use Rattle.aas_value_update.specs.Json.{is_specific_asset_id}
+use Rattle.aas_value.specs.Json.{is_specific_asset_id}
 use Rattle.aas_value_patch.proofs.Items.{fit_step, taken_step, order_step}
 use Rattle.aas_value_patch.proofs.references.specific_items.Goals as goal
 

@@ -3,7 +3,7 @@ use Rattle.serde_json.specs.View.{items_view}
 use Rattle.aas_json_mapping.specs.Parts.{spell_specific_asset_id}
 use Rattle.aas_json_spelling.specs.Values.{AreOrdered}
 use Rattle.aas_json_table.specs.Spelled.{onto}
-use Rattle.aas_value_update.specs.Json.{is_specific_asset_id, all_items}
+use Rattle.aas_value.specs.Json.{is_specific_asset_id, all_items}
 use Rattle.aas_value_patch.proofs.references.specific_items.Given as goal
 
 abbrev pub invariant-loop-item : goal.invariant-loop-item

@@ -1,6 +1,6 @@
 use Rattle.serde_json.specs.View.{view, members_view}
 use Rattle.aas_json_mapping.specs.Parts.{spell_specific_asset_id}
-use Rattle.aas_value.specs.ValueForm.{array_of}
+use Rattle.aas_value.specs.Attributes.{array_of}
 use Rattle.aas_value_patch.proofs.Ordered.{under_taken}
 use Rattle.aas_value_patch.proofs.references.specifics_under.Goals as goal
 

@@ -1,7 +1,6 @@
-use Rattle.std.proofs.Common.{sym, ◌∙◌}
-use Rattle.aas_value_patch.proofs.Children.{form_there}
+use Rattle.std.proofs.Common.{sym}
+use Rattle.aas_model_names.specs.declared.modifiers.Extent.TheVariants as extent
 use Rattle.aas_value_patch.proofs.sent.has_form.Goals as goal
 
 pub returns : goal.returns
-returns c = sym (form_there c.args.kid.now c.has_value_form.result (λ x e is.
-    c.has_value_form.ensures x e (is ∙ sym c.kind.ensures)))
+returns c = sym (c.has_value_form.ensures extent.WithBlobValue c.args.kid.now (sym c.kind.ensures))

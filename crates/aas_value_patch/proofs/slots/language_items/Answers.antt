@@ -1,6 +1,6 @@
 use Rattle.std.proofs.Common.{◌<◌, length, arith}
-use Rattle.aas_value.specs.ValueForm.{language_value}
-use Rattle.aas_value_update.specs.Json.{is_language}
+use Rattle.aas_value.specs.Attributes.{language_value}
+use Rattle.aas_value.specs.Json.{is_language}
 use Rattle.aas_value_patch.proofs.Items.{fit_step, taken_step}
 use Rattle.aas_value_patch.proofs.slots.language_items.Goals as goal
 

@@ -1,8 +1,8 @@
 use Rattle.std.proofs.Common.{◌≡◌, map, drop}
 use Rattle.serde_json.specs.View.{items_view}
 use Rattle.aas_json_table.specs.Spelled.{onto}
-use Rattle.aas_value.specs.ValueForm.{language_value}
-use Rattle.aas_value_update.specs.Json.{is_language, all_items}
+use Rattle.aas_value.specs.Attributes.{language_value}
+use Rattle.aas_value.specs.Json.{is_language, all_items}
 use Rattle.aas_value_patch.proofs.slots.language_items.Given as goal
 
 abbrev pub invariant-loop-item : goal.invariant-loop-item

@@ -4,7 +4,7 @@ use Rattle.aas_model.specs.declared.element.Element.{out-Element}
 use Rattle.aas_model.specs.declared.payload.Payload.{Payload}
 use Rattle.aas_path_trees.specs.Children.{is_list_payload}
 use Rattle.aas_value.specs.ValueForm.{shows_children}
-use Rattle.aas_value_update.specs.Kinds.{part_of}
+use Rattle.aas_value_update.specs.Forms.{part_of}
 use Rattle.aas_value_patch.specs.Steps.{Stepped}
 use Rattle.aas_value_patch.proofs.Walk.{kids_differ}
 use Rattle.aas_value_patch.proofs.step.own_step.Goals as goal
