@@ -3,12 +3,24 @@
 use crate::document::as_sent;
 use aas_command::Refusal;
 use aas_json_read::{read_concept, read_element, read_shell};
-use aas_json_write_members::{CanonicalMembers, Members, Pen, Show, pour_concept, pour_shell};
+use aas_json_write_members::{
+    CanonicalMembers, Members, Pen, Show, Stop, pour_concept, pour_shell,
+};
 use aas_model::{Concept, Element, ReadFault, Shell};
 use aas_out::{LinkOut, Out, Pouring, add};
 use aas_outside::MemLink;
 use aas_rows::RowView;
 use std::alloc::Global;
+
+/// All stops, in their order.
+const STOPS: [Stop; 6] = [
+    Stop::Annotations,
+    Stop::InoutputVariables,
+    Stop::InputVariables,
+    Stop::OutputVariables,
+    Stop::Statements,
+    Stop::Value,
+];
 
 /// What can be read, and poured.
 pub(crate) trait Pours: Drop {
@@ -58,10 +70,11 @@ impl Pours for Element {
             state: add(Pouring::Going, b"{", out),
             later: false,
         };
-        for part in 0..7u8 {
-            pen = CanonicalMembers.put_part(pen.state, show, &row, 6 - part, pen.later, out);
+        for stop in STOPS {
+            pen = CanonicalMembers.put_part(pen.state, show, &row, Some(stop), pen.later, out);
         }
-        add(pen.state, b"}", out)
+        let last = CanonicalMembers.put_part(pen.state, show, &row, None, pen.later, out);
+        add(last.state, b"}", out)
     }
 }
 

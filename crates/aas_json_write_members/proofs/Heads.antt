@@ -16,7 +16,7 @@ use Rattle.aas_json_write_members.specs.Script.{Spoken}
 use Rattle.aas_json_write_members.specs.Texts.{shown, spoken}
 use Rattle.aas_json_write_members.specs.declared.members.Show.{Show}
 use Rattle.aas_json_write_members.proofs.Trees as trees
-use Rattle.aas_json_write_members.proofs.Stops.{array_of, array_text, listed_is_field}
+use Rattle.aas_json_write_members.proofs.Children.{array_of, array_text, listed_is_field}
 use Rattle.std.proofs.Common.{unwrap_or}
 
 abbrev submodel_rows : List Row

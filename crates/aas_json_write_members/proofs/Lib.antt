@@ -1,3 +1,4 @@
+pub mod Children
 pub mod Covered
 pub mod Fields
 pub mod Heads
@@ -8,5 +9,4 @@ pub mod OneLevel
 pub mod Putting
 pub mod Quoting
 pub mod Shown
-pub mod Stops
 pub mod Trees

@@ -2,10 +2,10 @@
 -- children stand.
 --
 -- One list of names serves all kinds: of the members that any element has, in byte order. Children can stand at six
--- places in it, the stops 6 down to 1, which cut the list into the parts 6 down to 0.
+-- places in it, the stops, which cut the list into parts: one before each stop, and a last one behind them all.
 -- What a kind lacks is simply not there.
-use Rattle.std.specs.Prelude.{ℕ, not, ◌&&◌, ◌==◌, nat_lt, List, [], ◌∷◌, ◌++◌, Bool, true, false, codes, map}
-use Rattle.std.specs.Prelude.{if◌then◌else◌, Option, Some, None, option_map}
+use Rattle.std.specs.Prelude.{ℕ, not, ◌&&◌, ◌==◌, nat_lt, List, [], ◌∷◌, ◌++◌, drop, length, Bool, true, false, codes}
+use Rattle.std.specs.Prelude.{map, if◌then◌else◌, Option, Some, None, option_map}
 use Rattle.json.specs.Print.{quoted}
 use Rattle.serde_json.specs.Written.{comma_if, compact_text}
 use Rattle.aas_json_mapping.specs.Elements.{is_input, is_output, is_inoutput, element_attributes}
@@ -17,6 +17,8 @@ use Rattle.aas_model.specs.declared.payload.Payload.{Payload}
 use Rattle.aas_model.specs.declared.payload.Payload.TheVariants as p
 use Rattle.aas_rows.specs.Rows.{Line}
 use Rattle.aas_json_write_members.specs.declared.members.Show.{Show}
+use Rattle.aas_json_write_members.specs.declared.stops.Stop.{Stop}
+use Rattle.aas_json_write_members.specs.declared.stops.Stop.TheVariants as stop
 
 -- ---- members
 
@@ -49,23 +51,50 @@ later_after later [] = later
 later_after later ((n, None) ∷ fs) = later_after later fs
 later_after later ((n, Some v) ∷ fs) = true
 
+-- ---- the order of the stops
+
+-- all stops, in byte order of the members that hold the children
+abbrev pub all_stops : List Stop
+all_stops =
+    stop.Annotations ∷ stop.InoutputVariables ∷ stop.InputVariables
+    ∷ stop.OutputVariables ∷ stop.Statements ∷ stop.Value ∷ []
+
+-- the stops behind one
+abbrev pub stops_behind : Stop → List Stop
+stops_behind stop.Annotations = drop 1 all_stops
+stops_behind stop.InoutputVariables = drop 2 all_stops
+stops_behind stop.InputVariables = drop 3 all_stops
+stops_behind stop.OutputVariables = drop 4 all_stops
+stops_behind stop.Statements = drop 5 all_stops
+stops_behind stop.Value = []
+
+-- the stops from the next one on, where there is one
+abbrev pub stops_from : Option Stop → List Stop
+stops_from None = []
+stops_from (Some s) = s ∷ stops_behind s
+
+-- how many they are
+abbrev pub stops_left : Option Stop → ℕ
+stops_left next = length (stops_from next)
+
 -- ---- parts
 
--- the names of the members that stand in each part
-abbrev pub names : ℕ → List (List ℕ)
-names j =
-    if j == 6 then []
-    else if j == 5 then codes "category" ∷ codes "contentType" ∷ codes "description"
+-- the names of the members in the part before the next stop; where there is none, in the part behind them all
+abbrev pub names : Option Stop → List (List ℕ)
+names (Some stop.Annotations) = []
+names (Some stop.InoutputVariables) =
+    codes "category" ∷ codes "contentType" ∷ codes "description"
     ∷ codes "direction" ∷ codes "displayName" ∷ codes "embeddedDataSpecifications" ∷ codes "entityType"
     ∷ codes "extensions" ∷ codes "first" ∷ codes "globalAssetId" ∷ codes "idShort" ∷ []
-    else if j == 4 then []
-    else if j == 3
-    then codes "lastUpdate" ∷ codes "max" ∷ codes "maxInterval" ∷ codes "messageBroker" ∷ codes "messageTopic"
+names (Some stop.InputVariables) = []
+names (Some stop.OutputVariables) =
+    codes "lastUpdate" ∷ codes "max" ∷ codes "maxInterval" ∷ codes "messageBroker" ∷ codes "messageTopic"
     ∷ codes "min" ∷ codes "minInterval" ∷ codes "modelType" ∷ codes "observed" ∷ codes "orderRelevant" ∷ []
-    else if j == 2 then codes "qualifiers" ∷ codes "second" ∷ codes "semanticId"
+names (Some stop.Statements) =
+    codes "qualifiers" ∷ codes "second" ∷ codes "semanticId"
     ∷ codes "semanticIdListElement" ∷ codes "specificAssetIds" ∷ codes "state" ∷ []
-    else if j == 1 then codes "supplementalSemanticIds" ∷ codes "typeValueListElement" ∷ []
-    else codes "value" ∷ codes "valueId" ∷ codes "valueType" ∷ codes "valueTypeListElement" ∷ []
+names (Some stop.Value) = codes "supplementalSemanticIds" ∷ codes "typeValueListElement" ∷ []
+names None = codes "value" ∷ codes "valueId" ∷ codes "valueType" ∷ codes "valueTypeListElement" ∷ []
 
 -- a Blob's value is left out where Blobs are shown bare
 abbrev pub shown_payload : Bool → Payload → Payload
@@ -73,22 +102,21 @@ shown_payload false (p.Blob t v) = p.Blob t None
 shown_payload b p = p
 
 -- the members in a part, each as the table's attributes give it
-unfoldable pub part : Show → Line → ℕ → List Field
-part w r j = map (λ n.
+unfoldable pub part : Show → Line → Option Stop → List Field
+part w r next = map (λ n.
     (n, option_map compact_text (attribute (element_attributes r.common (shown_payload w.blobs r.payload) []) n text)))
-    (names j)
+    (names next)
 
 -- ---- stops
 
 -- the name of the member that holds the children at a stop
-abbrev pub stop_name : ℕ → List ℕ
-stop_name j =
-    if j == 6 then codes "annotations"
-    else if j == 5 then codes "inoutputVariables"
-    else if j == 4 then codes "inputVariables"
-    else if j == 3 then codes "outputVariables"
-    else if j == 2 then codes "statements"
-    else codes "value"
+abbrev pub stop_name : Stop → List ℕ
+stop_name stop.Annotations = codes "annotations"
+stop_name stop.InoutputVariables = codes "inoutputVariables"
+stop_name stop.InputVariables = codes "inputVariables"
+stop_name stop.OutputVariables = codes "outputVariables"
+stop_name stop.Statements = codes "statements"
+stop_name stop.Value = codes "value"
 
 abbrev pub has_annotations : Payload → Bool
 has_annotations (p.AnnotatedRelationshipElement a b) = true
@@ -104,28 +132,31 @@ has_members (p.SubmodelElementList o s t v) = true
 has_members p = false
 
 -- whether an element of this kind has children at a stop
-unfoldable pub has_stop : ℕ → Payload → Bool
-has_stop j p =
-    if j == 6 then has_annotations p
-    else if nat_lt 2 j then is_operation p
-    else if j == 2 then has_statements p
-    else has_members p
+unfoldable pub has_stop : Stop → Payload → Bool
+has_stop stop.Annotations p = has_annotations p
+has_stop stop.InoutputVariables p = is_operation p
+has_stop stop.InputVariables p = is_operation p
+has_stop stop.OutputVariables p = is_operation p
+has_stop stop.Statements p = has_statements p
+has_stop stop.Value p = has_members p
 
 -- whether a child of this role stands at a stop
-unfoldable pub role_fits : ℕ → Role → Bool
-role_fits j r =
-    if j == 5 then is_inoutput r
-    else if j == 4 then is_input r
-    else if j == 3 then is_output r
-    else true
+unfoldable pub role_fits : Stop → Role → Bool
+role_fits stop.InoutputVariables r = is_inoutput r
+role_fits stop.InputVariables r = is_input r
+role_fits stop.OutputVariables r = is_output r
+role_fits s r = true
 
--- the children at these stops are variables, each in an object of its own
-abbrev pub is_wrapped : ℕ → Bool
-is_wrapped j = nat_lt 2 j && nat_lt j 6
+-- whether the children at a stop are variables, each in an object of its own
+abbrev pub is_wrapped : Stop → Bool
+is_wrapped stop.InoutputVariables = true
+is_wrapped stop.InputVariables = true
+is_wrapped stop.OutputVariables = true
+is_wrapped s = false
 
 -- before and behind a child
-unfoldable pub opening : ℕ → List ℕ
-opening j = if is_wrapped j then codes "{\"value\":" else []
+unfoldable pub opening : Stop → List ℕ
+opening s = if is_wrapped s then codes "{\"value\":" else []
 
-unfoldable pub closing : ℕ → List ℕ
-closing j = if is_wrapped j then codes "}" else []
+unfoldable pub closing : Stop → List ℕ
+closing s = if is_wrapped s then codes "}" else []

@@ -1,10 +1,11 @@
 -- The text of an element, made of its members and of the texts of its children.
-use Rattle.std.specs.Prelude.{ℕ, suc, ◌&&◌, ◌||◌, nat_lt, List, [], ◌∷◌, ◌++◌, Bool, true, false, map, filter}
+use Rattle.std.specs.Prelude.{ℕ, ◌&&◌, ◌||◌, nat_lt, List, [], ◌∷◌, ◌++◌, Bool, true, false, map, filter, Some, None}
 use Rattle.aas_model.specs.declared.element.Role.{Role}
 use Rattle.aas_rows.specs.Rows.{Line}
-use Rattle.aas_json_write_members.specs.Members.{field_text, fields_text, later_after, part, stop_name, has_stop, role_fits}
-use Rattle.aas_json_write_members.specs.Members.{opening, closing}
+use Rattle.aas_json_write_members.specs.Members.{all_stops, field_text, fields_text, later_after, part, stop_name}
+use Rattle.aas_json_write_members.specs.Members.{has_stop, role_fits, opening, closing}
 use Rattle.aas_json_write_members.specs.declared.members.Show.{Show}
+use Rattle.aas_json_write_members.specs.declared.stops.Stop.{Stop}
 
 -- the texts of children, with commas before them and the bracket behind
 abbrev pub more_text : List (List ℕ) → List ℕ
@@ -26,19 +27,20 @@ pub record Spoken : Type 0 where
   pub text : List ℕ
 
 -- the texts of the children that are shown at a stop
-abbrev pub at_stop : Show → Line → ℕ → List Spoken → List (List ℕ)
-at_stop w r j vs =
-    map (λ v. opening j ++ (v.text ++ closing j))
-    (filter (λ v. nat_lt r.level w.cut && (has_stop j r.payload && role_fits j v.role)) vs)
+abbrev pub at_stop : Show → Line → Stop → List Spoken → List (List ℕ)
+at_stop w r s vs =
+    map (λ v. opening s ++ (v.text ++ closing s))
+    (filter (λ v. nat_lt r.level w.cut && (has_stop s r.payload && role_fits s v.role)) vs)
 
--- what is left of an element's text from its part j on: the parts j to 0, between them the children at the stops
-abbrev pub script : Show → Line → List Spoken → ℕ → Bool → List ℕ
-script w r vs Prim.Native.Nat.zero later = fields_text later (part w r 0) ++ 125 ∷ []
-script w r vs (suc j) later =
-    fields_text later (part w r (suc j))
-    ++ (listed_text (later_after later (part w r (suc j))) (stop_name (suc j)) (at_stop w r (suc j) vs)
-    ++ script w r vs j (later_after later (part w r (suc j)) || is_any (at_stop w r (suc j) vs)))
+-- what is left of an element's text before these last stops: at each the part before it and the children there,
+-- and the part behind them all
+abbrev pub script : Show → Line → List Spoken → List Stop → Bool → List ℕ
+script w r vs [] later = fields_text later (part w r None) ++ 125 ∷ []
+script w r vs (s ∷ ss) later =
+    fields_text later (part w r (Some s))
+    ++ (listed_text (later_after later (part w r (Some s))) (stop_name s) (at_stop w r s vs)
+    ++ script w r vs ss (later_after later (part w r (Some s)) || is_any (at_stop w r s vs)))
 
 -- an element's row and its children give its text
 abbrev pub element_text : Show → Line → List Spoken → List ℕ
-element_text w r vs = 123 ∷ script w r vs 6 false
+element_text w r vs = 123 ∷ script w r vs all_stops false

@@ -16,6 +16,7 @@ use crate::own::{
 };
 use crate::pen::{put_list, put_optional, put_optional_str, put_word};
 use crate::poured::Texts;
+use crate::stops::Stop;
 use aas_json_parts::{Extensions, LangTexts, Qualifiers};
 use aas_model::Payload;
 use aas_out::{Pouring, TextEnd};
@@ -32,7 +33,7 @@ impl Members for CanonicalMembers {
         so_far: Pouring,
         show: Show,
         row: &RowView<'_>,
-        next: u8,
+        next: Option<Stop>,
         later: bool,
         out: &mut O,
     ) -> Pen {
@@ -41,12 +42,13 @@ impl Members for CanonicalMembers {
             later,
         };
         match next {
-            5 => put_described(pen, row, out),
-            3 => put_typed(pen, row, out),
-            2 => put_meant(pen, row, out),
-            1 => put_supplemental(pen, row, out),
-            0 => put_value(pen, show.blobs, row.payload, out),
-            _ => pen,
+            Some(Stop::Annotations) => pen,
+            Some(Stop::InoutputVariables) => put_described(pen, row, out),
+            Some(Stop::InputVariables) => pen,
+            Some(Stop::OutputVariables) => put_typed(pen, row, out),
+            Some(Stop::Statements) => put_meant(pen, row, out),
+            Some(Stop::Value) => put_supplemental(pen, row, out),
+            None => put_value(pen, show.blobs, row.payload, out),
         }
     }
 }
@@ -54,7 +56,7 @@ impl Members for CanonicalMembers {
 /// Puts the members from `category` to `idShort`.
 fn put_described<O: TextEnd>(pen: Pen, row: &RowView<'_>, out: &mut O) -> Pen
     ensures { PutsFields pen result (O.told out.old) (O.told out.new)
-        (element_fields (line_of row.now).common row.now.payload.now (names 5)) }
+        (element_fields (line_of row.now).common row.now.payload.now (names (Some Stop.InoutputVariables))) }
 {
     let common = row.common;
     let category = put_optional::<Texts, O>(pen, key::CATEGORY, &common.category, out);
@@ -78,7 +80,7 @@ fn put_described<O: TextEnd>(pen: Pen, row: &RowView<'_>, out: &mut O) -> Pen
 /// Puts the members from `lastUpdate` to `orderRelevant`.
 fn put_typed<O: TextEnd>(pen: Pen, row: &RowView<'_>, out: &mut O) -> Pen
     ensures { PutsFields pen result (O.told out.old) (O.told out.new)
-        (element_fields (line_of row.now).common row.now.payload.now (names 3)) }
+        (element_fields (line_of row.now).common row.now.payload.now (names (Some Stop.OutputVariables))) }
 {
     let before = put_before_model_type(pen, row.payload, out);
     let typed = put_model_type(before, row.payload, out);
@@ -95,7 +97,7 @@ fn put_model_type<O: TextEnd>(pen: Pen, payload: &Payload, out: &mut O) -> Pen
 /// Puts the members from `qualifiers` to `state`.
 fn put_meant<O: TextEnd>(pen: Pen, row: &RowView<'_>, out: &mut O) -> Pen
     ensures { PutsFields pen result (O.told out.old) (O.told out.new)
-        (element_fields (line_of row.now).common row.now.payload.now (names 2)) }
+        (element_fields (line_of row.now).common row.now.payload.now (names (Some Stop.Statements))) }
 {
     let common = row.common;
     let qualified = put_list::<Qualifiers, O>(pen, key::QUALIFIERS, &common.qualifiers, out);
@@ -108,7 +110,7 @@ fn put_meant<O: TextEnd>(pen: Pen, row: &RowView<'_>, out: &mut O) -> Pen
 /// Puts the members from `supplementalSemanticIds` to `typeValueListElement`.
 fn put_supplemental<O: TextEnd>(pen: Pen, row: &RowView<'_>, out: &mut O) -> Pen
     ensures { PutsFields pen result (O.told out.old) (O.told out.new)
-        (element_fields (line_of row.now).common row.now.payload.now (names 1)) }
+        (element_fields (line_of row.now).common row.now.payload.now (names (Some Stop.Value))) }
 {
     let supplemental = &row.common.semantics.supplemental_semantic_ids;
     let meant = put_list::<References, O>(pen, key::SUPPLEMENTAL_SEMANTIC_IDS, supplemental, out);

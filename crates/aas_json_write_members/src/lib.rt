@@ -26,6 +26,7 @@ mod plain;
 mod poured;
 mod quoted;
 mod references;
+mod stops;
 
 pub use documents::{Concepts, Shells, begin_submodel, end_submodel, pour_concept, pour_shell};
 pub use elements::CanonicalMembers;
@@ -36,3 +37,4 @@ pub use laws::{
 pub use members::{Members, Pen, Show};
 pub use pen::{begin_object, end_object, put_list};
 pub use poured::{Poured, Texts, comma_of};
+pub use stops::Stop;

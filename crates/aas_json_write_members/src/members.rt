@@ -1,9 +1,10 @@
 // What puts the members of an element that are no children.
-ghost use Rattle.std.specs.Prelude.{◌≡◌, ◌≤◌};
+ghost use Rattle.std.specs.Prelude.{◌≡◌};
 ghost use Rattle.aas_out.specs.Adds.{Adds};
 ghost use Rattle.aas_rows.specs.Views.{line_of};
 ghost use Rattle.aas_json_write_members.specs.Members.{fields_text, later_after, part};
 
+use crate::stops::Stop;
 use aas_out::{Pouring, TextEnd};
 use aas_rows::RowView;
 
@@ -23,17 +24,17 @@ pub struct Pen {
 
 /// What puts the members of an element that are no children.
 pub trait Members {
-    /// Puts the members of the part `next` of a row's element, where a member stands before them if `later` says so.
+    /// Puts the members of a row's element in the part before the stop `next`, or in the part behind all stops. A
+    /// member stands before them if `later` says so.
     fn put_part<O: TextEnd>(
         &self,
         so_far: Pouring,
         show: Show,
         row: &RowView<'_>,
-        next: u8,
+        next: Option<Stop>,
         later: bool,
         out: &mut O,
     ) -> Pen
-        requires low { next ≤ 6 }
         ensures text { Adds so_far result.state (O.told out.old)
             (O.told out.new) (fields_text later (part show (line_of row.now) next)) }
         ensures later { result.later ≡ later_after later (part show (line_of row.now) next) };

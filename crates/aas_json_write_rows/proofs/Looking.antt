@@ -12,6 +12,7 @@ use Rattle.aas_rows.specs.Rows.{Line}
 use Rattle.aas_json_write_members.specs.Members.{opening, closing, has_stop, role_fits}
 use Rattle.aas_json_write_members.specs.Script.{Spoken, element_text, at_stop}
 use Rattle.aas_json_write_members.specs.declared.members.Show.{Show}
+use Rattle.aas_json_write_members.specs.declared.stops.Stop.{Stop}
 use Rattle.aas_json_write_rows.specs.Poured.{voices, kids_at, if_row, text_at}
 use Rattle.aas_json_write_rows.specs.Walk.{AreBelow, IsFirst}
 use Rattle.aas_json_write_rows.specs.declared.children.Sought.TheVariants as sought
@@ -66,30 +67,30 @@ none_shown p [] h = refl
 none_shown p (v ∷ vs) h = cond-false (p v) (v ∷ filter p vs) (filter p vs) (h v) ∙ none_shown p vs h
 
 -- nothing is shown below the last level that has some
-pub cut_shown : (w : Show) (r : Line) (j : ℕ) (vs : List Spoken) → w.cut ≤ r.level → at_stop w r j vs ≡ []
-cut_shown w r j vs high =
-    ap (map (λ (v : Spoken). opening j ++ (v.text ++ closing j)))
-    (none_shown (λ (v : Spoken). nat_lt r.level w.cut && (has_stop j r.payload && role_fits j v.role)) vs
-    (λ v. ap (λ b. b && (has_stop j r.payload && role_fits j v.role)) (le-ltb r.level w.cut high)))
+pub cut_shown : (w : Show) (r : Line) (s : Stop) (vs : List Spoken) → w.cut ≤ r.level → at_stop w r s vs ≡ []
+cut_shown w r s vs high =
+    ap (map (λ (v : Spoken). opening s ++ (v.text ++ closing s)))
+    (none_shown (λ (v : Spoken). nat_lt r.level w.cut && (has_stop s r.payload && role_fits s v.role)) vs
+    (λ v. ap (λ b. b && (has_stop s r.payload && role_fits s v.role)) (le-ltb r.level w.cut high)))
 
 -- nor at a stop that the kind doesn't have
-pub unstopped_shown : (w : Show) (r : Line) (j : ℕ) (vs : List Spoken)
-    → has_stop j r.payload ≡ false → at_stop w r j vs ≡ []
-unstopped_shown w r j vs none =
-    ap (map (λ (v : Spoken). opening j ++ (v.text ++ closing j)))
-    (none_shown (λ (v : Spoken). nat_lt r.level w.cut && (has_stop j r.payload && role_fits j v.role)) vs
-    (λ v. and_right (nat_lt r.level w.cut) (has_stop j r.payload && role_fits j v.role)
-    (ap (λ b. b && role_fits j v.role) none)))
+pub unstopped_shown : (w : Show) (r : Line) (s : Stop) (vs : List Spoken)
+    → has_stop s r.payload ≡ false → at_stop w r s vs ≡ []
+unstopped_shown w r s vs none =
+    ap (map (λ (v : Spoken). opening s ++ (v.text ++ closing s)))
+    (none_shown (λ (v : Spoken). nat_lt r.level w.cut && (has_stop s r.payload && role_fits s v.role)) vs
+    (λ v. and_right (nat_lt r.level w.cut) (has_stop s r.payload && role_fits s v.role)
+    (ap (λ b. b && role_fits s v.role) none)))
 
-pub cut_off : (w : Show) (r : Line) (j : ℕ) (rows : List Line) (from after : ℕ)
-    → AreBelow rows r.level from after → w.cut ≤ r.level → IsFirst w rows r j from (sought.End after)
+pub cut_off : (w : Show) (r : Line) (s : Stop) (rows : List Line) (from after : ℕ)
+    → AreBelow rows r.level from after → w.cut ≤ r.level → IsFirst w rows r s from (sought.End after)
 unfolding IsFirst
-cut_off w r j rows from after below high = (cut_shown w r j (voices w r.level (drop from rows)) high, below)
+cut_off w r s rows from after below high = (cut_shown w r s (voices w r.level (drop from rows)) high, below)
 
-pub no_stop : (w : Show) (r : Line) (j : ℕ) (rows : List Line) (from after : ℕ)
-    → AreBelow rows r.level from after → has_stop j r.payload ≡ false → IsFirst w rows r j from (sought.End after)
+pub no_stop : (w : Show) (r : Line) (s : Stop) (rows : List Line) (from after : ℕ)
+    → AreBelow rows r.level from after → has_stop s r.payload ≡ false → IsFirst w rows r s from (sought.End after)
 unfolding IsFirst
-no_stop w r j rows from after below none = (unstopped_shown w r j (voices w r.level (drop from rows)) none, below)
+no_stop w r s rows from after below none = (unstopped_shown w r s (voices w r.level (drop from rows)) none, below)
 
 -- ---- rows below a level
 
@@ -146,14 +147,14 @@ skipped w rows i k a b high h =
 
 -- ---- a search
 
-pub Looking : Show → List Line → Line → ℕ → ℕ → ℕ → Type 0
-Looking w rows r j from n =
-    (at_stop w r j (voices w r.level (drop from rows)) ≡ at_stop w r j (voices w r.level (drop n rows)))
+pub Looking : Show → List Line → Line → Stop → ℕ → ℕ → Type 0
+Looking w rows r s from n =
+    (at_stop w r s (voices w r.level (drop from rows)) ≡ at_stop w r s (voices w r.level (drop n rows)))
     × AreBelow rows r.level from n
 
-pub look_start : (w : Show) (rows : List Line) (r : Line) (j from : ℕ) → Looking w rows r j from from
+pub look_start : (w : Show) (rows : List Line) (r : Line) (s : Stop) (from : ℕ) → Looking w rows r s from from
 unfolding Looking
-look_start w rows r j from = (refl, below_none rows r.level from)
+look_start w rows r s from = (refl, below_none rows r.level from)
 
 pub past_end : (rows : List Line) (n : ℕ) → slice_get rows n ≡ None → drop n rows ≡ []
 past_end rows n h = elim ((slice_get_cases rows n).1) [
@@ -164,30 +165,30 @@ past_end rows n h = elim ((slice_get_cases rows n).1) [
     differ : (x : Line) → Some x ≡ None → ⊥
     differ x e = cc
 
-pub look_past : (w : Show) (rows : List Line) (r : Line) (j from n : ℕ)
-    → Looking w rows r j from n → slice_get rows n ≡ None → IsFirst w rows r j from (sought.End n)
+pub look_past : (w : Show) (rows : List Line) (r : Line) (s : Stop) (from n : ℕ)
+    → Looking w rows r s from n → slice_get rows n ≡ None → IsFirst w rows r s from (sought.End n)
 unfolding IsFirst Looking
-look_past w rows r j from n h none = (h.0 ∙ ap (λ ls. at_stop w r j (voices w r.level ls)) (past_end rows n none), h.1)
+look_past w rows r s from n h none = (h.0 ∙ ap (λ ls. at_stop w r s (voices w r.level ls)) (past_end rows n none), h.1)
 
-pub look_end : (w : Show) (rows : List Line) (r c : Line) (j from n : ℕ)
-    → Looking w rows r j from n → slice_get rows n ≡ Some c → c.level ≤ r.level → IsFirst w rows r j from (sought.End n)
+pub look_end : (w : Show) (rows : List Line) (r c : Line) (s : Stop) (from n : ℕ)
+    → Looking w rows r s from n → slice_get rows n ≡ Some c → c.level ≤ r.level → IsFirst w rows r s from (sought.End n)
 unfolding IsFirst Looking
-look_end w rows r c j from n h is high =
-    (h.0 ∙ ap (at_stop w r j) (voices_end w r.level rows n c is (le-ltb r.level c.level high)), h.1)
+look_end w rows r c s from n h is high =
+    (h.0 ∙ ap (at_stop w r s) (voices_end w r.level rows n c is (le-ltb r.level c.level high)), h.1)
 
-shown_by : (w : Show) (r c : Line) (j m : ℕ) (rows : List Line) (b : Bool)
-    → (nat_lt r.level w.cut && (has_stop j r.payload && role_fits j c.role)) ≡ b
-    → at_stop w r j
+shown_by : (w : Show) (r c : Line) (s : Stop) (m : ℕ) (rows : List Line) (b : Bool)
+    → (nat_lt r.level w.cut && (has_stop s r.payload && role_fits s c.role)) ≡ b
+    → at_stop w r s
     (record { role = c.role; text = element_text w c (kids_at w rows c m) } ∷ voices w r.level (drop (m + 1) rows))
     ≡ (if b
-    then (opening j ++ (element_text w c (kids_at w rows c m) ++ closing j))
-    ∷ at_stop w r j (voices w r.level (drop (m + 1) rows))
-    else at_stop w r j (voices w r.level (drop (m + 1) rows)))
-shown_by w r c j m rows b h =
+    then (opening s ++ (element_text w c (kids_at w rows c m) ++ closing s))
+    ∷ at_stop w r s (voices w r.level (drop (m + 1) rows))
+    else at_stop w r s (voices w r.level (drop (m + 1) rows)))
+shown_by w r c s m rows b h =
     let v : Spoken = record { role = c.role; text = element_text w c (kids_at w rows c m) } in
     let vs : List Spoken = voices w r.level (drop (m + 1) rows) in
-    let p : Spoken → Bool = λ v. nat_lt r.level w.cut && (has_stop j r.payload && role_fits j v.role) in
-    let f : Spoken → List ℕ = λ v. opening j ++ (v.text ++ closing j) in
+    let p : Spoken → Bool = λ v. nat_lt r.level w.cut && (has_stop s r.payload && role_fits s v.role) in
+    let f : Spoken → List ℕ = λ v. opening s ++ (v.text ++ closing s) in
     ap (λ b. map f (if b then v ∷ filter p vs else filter p vs)) h ∙ split b f v (filter p vs)
   where
     split : (b : Bool) (f : Spoken → List ℕ) (v : Spoken) (vs : List Spoken)
@@ -198,42 +199,42 @@ shown_by w r c j m rows b h =
 all_true : (a b c : Bool) → a ≡ true → b ≡ true → c ≡ true → (a && (b && c)) ≡ true
 all_true a b c h g k = cc
 
-pub look_found : (w : Show) (rows : List Line) (r c : Line) (j from n : ℕ)
-    → Looking w rows r j from n → slice_get rows n ≡ Some c → c.level ≡ r.level + 1
-    → r.level < w.cut → has_stop j r.payload ≡ true → role_fits j c.role ≡ true
-    → IsFirst w rows r j from (sought.Child n)
+pub look_found : (w : Show) (rows : List Line) (r c : Line) (s : Stop) (from n : ℕ)
+    → Looking w rows r s from n → slice_get rows n ≡ Some c → c.level ≡ r.level + 1
+    → r.level < w.cut → has_stop s r.payload ≡ true → role_fits s c.role ≡ true
+    → IsFirst w rows r s from (sought.Child n)
 unfolding IsFirst Looking
-look_found w rows r c j from n h is deep low has fits = (
+look_found w rows r c s from n h is deep low has fits = (
   c,
   is,
   deep,
   h.1,
   h.0
-      ∙ ap (at_stop w r j) (voices_here w r.level rows n c is
+      ∙ ap (at_stop w r s) (voices_here w r.level rows n c is
       (lt-ltb r.level c.level (omega (arith, deep))) (le-ltb (r.level + 1) c.level (omega (arith, deep))))
-      ∙ shown_by w r c j n rows true
-      (all_true (nat_lt r.level w.cut) (has_stop j r.payload) (role_fits j c.role) (lt-ltb r.level w.cut low) has fits),
+      ∙ shown_by w r c s n rows true
+      (all_true (nat_lt r.level w.cut) (has_stop s r.payload) (role_fits s c.role) (lt-ltb r.level w.cut low) has fits),
 )
 
-pub look_unfit : (w : Show) (rows : List Line) (r c : Line) (j from n : ℕ) → Looking w rows r j from n
-    → slice_get rows n ≡ Some c → c.level ≡ r.level + 1 → role_fits j c.role ≡ false → Looking w rows r j from (n + 1)
+pub look_unfit : (w : Show) (rows : List Line) (r c : Line) (s : Stop) (from n : ℕ) → Looking w rows r s from n
+    → slice_get rows n ≡ Some c → c.level ≡ r.level + 1 → role_fits s c.role ≡ false → Looking w rows r s from (n + 1)
 unfolding Looking
-look_unfit w rows r c j from n h is deep unfit = (
+look_unfit w rows r c s from n h is deep unfit = (
   h.0
-      ∙ ap (at_stop w r j) (voices_here w r.level rows n c is
+      ∙ ap (at_stop w r s) (voices_here w r.level rows n c is
       (lt-ltb r.level c.level (omega (arith, deep))) (le-ltb (r.level + 1) c.level (omega (arith, deep))))
-      ∙ shown_by w r c j n rows false
-      (and_right (nat_lt r.level w.cut) (has_stop j r.payload && role_fits j c.role)
-      (and_right (has_stop j r.payload) (role_fits j c.role) unfit)),
+      ∙ shown_by w r c s n rows false
+      (and_right (nat_lt r.level w.cut) (has_stop s r.payload && role_fits s c.role)
+      (and_right (has_stop s r.payload) (role_fits s c.role) unfit)),
   below_more rows r.level from n c h.1 is (omega (arith, deep)),
 )
 
-pub look_deep : (w : Show) (rows : List Line) (r c : Line) (j from n : ℕ)
-    → Looking w rows r j from n → slice_get rows n ≡ Some c → r.level + 1 < c.level → Looking w rows r j from (n + 1)
+pub look_deep : (w : Show) (rows : List Line) (r c : Line) (s : Stop) (from n : ℕ)
+    → Looking w rows r s from n → slice_get rows n ≡ Some c → r.level + 1 < c.level → Looking w rows r s from (n + 1)
 unfolding Looking
-look_deep w rows r c j from n h is deep = (
+look_deep w rows r c s from n h is deep = (
   h.0
-      ∙ ap (at_stop w r j) (voices_deep w r.level rows n c is
+      ∙ ap (at_stop w r s) (voices_deep w r.level rows n c is
       (lt-ltb r.level c.level (omega (arith, deep))) (lt-ltb (r.level + 1) c.level deep)),
   below_more rows r.level from n c h.1 is (omega (arith, deep)),
 )

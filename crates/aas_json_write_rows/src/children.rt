@@ -1,11 +1,10 @@
 // The children of an element among the rows.
-ghost use Rattle.std.specs.Prelude.{◌<◌, ◌≤◌};
 ghost use Rattle.aas_rows.specs.Views.{line_of};
 ghost use Rattle.aas_json_write_rows.specs.Walk.{AreBelow, IsFirst};
 
 use crate::rows::Rows;
 use crate::stops::{has_stop, role_fits};
-use aas_json_write_members::Show;
+use aas_json_write_members::{Show, Stop};
 use aas_rows::RowView;
 
 /// What a search for a child leads to.
@@ -24,13 +23,11 @@ pub(crate) fn first_child<R: Rows>(
     rows: &R,
     show: Show,
     row: &RowView<'_>,
-    stop: u8,
+    stop: Stop,
     from: u64,
     after: u64,
 ) -> Sought
-    requires some { 0 < stop }
-    requires low { stop ≤ 6 }
-    requires below { AreBelow (R.Rows.lines rows.now) row.now.level from after }
+    requires { AreBelow (R.Rows.lines rows.now) row.now.level from after }
     ensures { IsFirst show (R.Rows.lines rows.now) (line_of row.now) stop from result }
 {
     let level = u64::from(row.level);

@@ -1,5 +1,5 @@
 // Elements and submodels in memory, whole.
-ghost use Rattle.std.specs.Prelude.{◌≡◌, ◌<◌, ◌≤◌, ◌++◌, ◌||◌, ◌∷◌, [], if◌then◌else◌};
+ghost use Rattle.std.specs.Prelude.{◌≡◌, ◌++◌, ◌||◌, ◌∷◌, [], if◌then◌else◌, Some};
 ghost use Rattle.serde_json.specs.Written.{compact_text};
 ghost use Rattle.aas_json_mapping.specs.Documents.{spell_submodel};
 ghost use Rattle.aas_json_mapping.specs.Elements.{spell_element};
@@ -11,7 +11,7 @@ ghost use Rattle.aas_rows.specs.Views.{line_of};
 
 use crate::stops::{closing_of, has_stop, opening_of, put_name, role_fits};
 use aas_json_write_members::{
-    CanonicalMembers, Members, Pen, Poured, Show, begin_submodel, end_submodel, key, put_list,
+    CanonicalMembers, Members, Pen, Poured, Show, Stop, begin_submodel, end_submodel, key, put_list,
 };
 use aas_model::{Element, Many, Submodel};
 use aas_out::{Pouring, TextEnd, add_text};
@@ -68,35 +68,33 @@ pub fn pour_tree<O: TextEnd>(so_far: Pouring, element: &Element, out: &mut O) ->
         state: add_text(so_far, "{", out),
         later: false,
     };
-    let mut next = 6;
-    while next > 0 {
-        pen = put_to_stop(pen, &row, &element.kids, next, out);
-        next -= 1;
+    let mut next = Some(Stop::Annotations);
+    while let Some(stop) = next {
+        pen = put_to_stop(pen, &row, &element.kids, stop, out);
+        next = stop.next();
     }
-    let last = CanonicalMembers.put_part(pen.state, ALL_SHOWN, &row, 0, pen.later, out);
+    let last = CanonicalMembers.put_part(pen.state, ALL_SHOWN, &row, None, pen.later, out);
     add_text(last.state, "}", out)
 }
 
-/// Puts a part of an element, and the children at the stop behind it.
+/// Puts the part of an element before a stop, and the children there.
 #[cycle(tree)]
 fn put_to_stop<O: TextEnd>(
     pen: Pen,
     row: &RowView<'_>,
     kids: &Many<Element>,
-    stop: u8,
+    stop: Stop,
     out: &mut O,
 ) -> Pen
-    requires some { 0 < stop }
-    requires low { stop ≤ 6 }
     ensures text { Adds pen.state result.state (O.told out.old) (O.told out.new)
-        (fields_text pen.later (part all_shown (line_of row.now) stop)
-        ++ listed_text (later_after pen.later (part all_shown (line_of row.now) stop))
+        (fields_text pen.later (part all_shown (line_of row.now) (Some stop))
+        ++ listed_text (later_after pen.later (part all_shown (line_of row.now) (Some stop)))
         (stop_name stop) (if has_stop stop row.now.payload.now then texts_at stop kids.now else [])) }
     ensures later { result.later
-        ≡ (later_after pen.later (part all_shown (line_of row.now) stop)
+        ≡ (later_after pen.later (part all_shown (line_of row.now) (Some stop))
         || is_any (if has_stop stop row.now.payload.now then texts_at stop kids.now else [])) }
 {
-    let part = CanonicalMembers.put_part(pen.state, ALL_SHOWN, row, stop, pen.later, out);
+    let part = CanonicalMembers.put_part(pen.state, ALL_SHOWN, row, Some(stop), pen.later, out);
     if has_stop(stop, row.payload) {
         put_children(part, kids, stop, out)
     } else {
@@ -106,9 +104,7 @@ fn put_to_stop<O: TextEnd>(
 
 /// Puts the children at a stop, where there are any.
 #[cycle(tree)]
-fn put_children<O: TextEnd>(pen: Pen, kids: &Many<Element>, stop: u8, out: &mut O) -> Pen
-    requires some { 0 < stop }
-    requires low { stop ≤ 6 }
+fn put_children<O: TextEnd>(pen: Pen, kids: &Many<Element>, stop: Stop, out: &mut O) -> Pen
     ensures text { Adds pen.state result.state (O.told out.old) (O.told out.new)
         (listed_text pen.later (stop_name stop) (texts_at stop kids.now)) }
     ensures later { result.later ≡ (pen.later || is_any (texts_at stop kids.now)) }
@@ -136,7 +132,7 @@ fn put_children<O: TextEnd>(pen: Pen, kids: &Many<Element>, stop: u8, out: &mut 
 
 /// Puts a child as it stands at a stop.
 #[cycle(tree)]
-fn put_child<O: TextEnd>(so_far: Pouring, kid: &Element, stop: u8, out: &mut O) -> Pouring
+fn put_child<O: TextEnd>(so_far: Pouring, kid: &Element, stop: Stop, out: &mut O) -> Pouring
     ensures { Adds so_far result (O.told out.old) (O.told out.new) (child_text stop kid.now) }
 {
     let opened = add_text(so_far, opening_of(stop), out);
@@ -145,9 +141,13 @@ fn put_child<O: TextEnd>(so_far: Pouring, kid: &Element, stop: u8, out: &mut O) 
 }
 
 /// Puts what stands between a child at a stop and those before it, or what stands before the first one.
-fn put_before<O: TextEnd>(so_far: Pouring, stop: u8, later: bool, any: bool, out: &mut O) -> Pouring
-    requires some { 0 < stop }
-    requires low { stop ≤ 6 }
+fn put_before<O: TextEnd>(
+    so_far: Pouring,
+    stop: Stop,
+    later: bool,
+    any: bool,
+    out: &mut O,
+) -> Pouring
     ensures { Adds so_far result (O.told out.old) (O.told out.new)
         (if any then 44 ∷ [] else field_text later (stop_name stop) (91 ∷ [])) }
 {

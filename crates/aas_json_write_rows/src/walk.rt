@@ -1,15 +1,16 @@
-// The walk over the rows of an element: which elements are open, and which part of the current one comes next.
-ghost use Rattle.std.specs.Prelude.{◌≡◌, ◌<◌, ◌==◌, [], Some, false, if◌then◌else◌, slice_get};
+// The walk over the rows of an element: which elements are open, and which stop of the current one comes next.
+ghost use Rattle.std.specs.Prelude.{◌≡◌, ◌<◌, [], Some, None, false, if◌then◌else◌, slice_get};
+ghost use Rattle.aas_json_write_members.specs.Members.{all_stops};
 ghost use Rattle.aas_out.specs.Adds.{Adds};
 ghost use Rattle.aas_json_write_rows.specs.Poured.{AreLow, HasRow, text_at};
-ghost use Rattle.aas_json_write_rows.specs.Walk.{IsWalk, Poured, remaining, up, walk_left, work};
+ghost use Rattle.aas_json_write_rows.specs.Walk.{IsWalk, Poured, is_begun, remaining, up, walk_left, work};
 ghost use Rattle.aas_rows.specs.Views.{line_of};
 
 use crate::childless::{is_childless, put_childless};
 use crate::children::{Sought, first_child};
 use crate::rows::Rows;
 use crate::stops::{closing_of, put_name, put_open};
-use aas_json_write_members::{Members, Show};
+use aas_json_write_members::{Members, Show, Stop};
 use aas_out::{Pouring, TextEnd, add_text};
 use aas_rows::RowView;
 use arrayvec::ArrayVec;
@@ -18,16 +19,17 @@ use arrayvec::ArrayVec;
 #[derive(Clone, Copy, Default)]
 pub(crate) struct OpenElement {
     rank: u64,
-    /// The part that follows the children.
-    next: u8,
+    /// The stop at which they stand.
+    stop: Stop,
 }
 
-/// The open elements, and the current one with the part of it that comes next.
+/// The open elements, and the current one with the stop of it that comes next.
 #[derive(Drop)]
 pub(crate) struct Walk {
     open: ArrayVec<OpenElement, 30>,
     rank: u64,
-    next: u8,
+    /// The part before this stop comes next, or where there is none the part behind all stops.
+    next: Option<Stop>,
     /// A member of it was put.
     later: bool,
     /// The rows below it that were passed end here, once a part of it was put.
@@ -35,11 +37,18 @@ pub(crate) struct Walk {
     done: bool,
 }
 
+/// Whether a part of the current element was put.
+fn is_begun(walk: &Walk) -> bool
+    ensures { result ≡ is_begun walk.now.next }
+{
+    !matches!(walk.next, Some(Stop::Annotations))
+}
+
 /// Where the rows below the current element that were passed end, if they start at a rank.
 fn passed_to(walk: &Walk, start: u64) -> u64
-    ensures { result ≡ (if walk.now.next == 6 then start else walk.now.after) }
+    ensures { result ≡ (if is_begun walk.now.next then walk.now.after else start) }
 {
-    if walk.next == 6 { start } else { walk.after }
+    if is_begun(walk) { walk.after } else { start }
 }
 
 /// Leaves an element, whose brace was put: goes to its next sibling, or back to its parent.
@@ -53,7 +62,7 @@ fn leave<R: Rows, O: TextEnd>(
     requires low { AreLow (R.Rows.lines rows.now) }
     requires walk { IsWalk (R.Rows.lines rows.now) walk.old }
     requires there { HasRow (R.Rows.lines rows.now) walk.old.rank }
-    requires last { walk.old.next ≡ 0 }
+    requires last { walk.old.next ≡ None }
     requires going { walk.old.done ≡ false }
     ensures { Poured show (R.Rows.lines rows.now)
         (up show (R.Rows.lines rows.now) (λ m. []) walk.old.open.items walk.old.rank) walk.new so_far result
@@ -67,20 +76,19 @@ fn leave<R: Rows, O: TextEnd>(
         walk.done = true;
         return add_text(so_far, "", out);
     };
-    let stop = frame.next + 1;
-    let closed = add_text(so_far, closing_of(stop), out);
-    match first_child(rows, show, &parent, stop, walk.after, walk.after) {
+    let closed = add_text(so_far, closing_of(frame.stop), out);
+    match first_child(rows, show, &parent, frame.stop, walk.after, walk.after) {
         Sought::Child(child) => {
             let comma = add_text(closed, ",", out);
             walk.open.push(frame);
             walk.rank = child;
-            walk.next = 6;
+            walk.next = Some(Stop::Annotations);
             walk.later = false;
-            put_open(comma, stop, out)
+            put_open(comma, frame.stop, out)
         }
         Sought::End(end) => {
             walk.rank = frame.rank;
-            walk.next = frame.next;
+            walk.next = frame.stop.next();
             walk.later = true;
             walk.after = end;
             add_text(closed, "]", out)
@@ -110,18 +118,18 @@ fn step<R: Rows, M: Members, O: TextEnd>(
         walk.done = true;
         return add_text(so_far, "", out);
     };
-    let stop = walk.next;
-    if stop == 6 && is_childless(show, &row) {
+    if !is_begun(walk) && is_childless(show, &row) {
         let put = put_childless(so_far, members, show, &row, walk.later, out);
-        walk.next = 0;
+        walk.next = None;
         walk.after = walk.rank + 1;
         return leave(put, rows, show, walk, out);
     }
-    let pen = members.put_part(so_far, show, &row, stop, walk.later, out);
-    if stop == 0 {
-        let closed = add_text(pen.state, "}", out);
+    let Some(stop) = walk.next else {
+        let last = members.put_part(so_far, show, &row, None, walk.later, out);
+        let closed = add_text(last.state, "}", out);
         return leave(closed, rows, show, walk, out);
-    }
+    };
+    let pen = members.put_part(so_far, show, &row, Some(stop), walk.later, out);
     let start = walk.rank + 1;
     let after = passed_to(walk, start);
     match first_child(rows, show, &row, stop, start, after) {
@@ -129,16 +137,16 @@ fn step<R: Rows, M: Members, O: TextEnd>(
             let named = put_name(pen.state, stop, pen.later, out);
             let frame = OpenElement {
                 rank: walk.rank,
-                next: stop - 1,
+                stop,
             };
             walk.open.push(frame);
             walk.rank = child;
-            walk.next = 6;
+            walk.next = Some(Stop::Annotations);
             walk.later = false;
             put_open(named, stop, out)
         }
         Sought::End(end) => {
-            walk.next = stop - 1;
+            walk.next = stop.next();
             walk.later = pen.later;
             walk.after = end;
             pen.state
@@ -200,13 +208,13 @@ fn walk_element<R: Rows, M: Members, O: TextEnd>(
     requires low { AreLow (R.Rows.lines rows.now) }
     requires there { HasRow (R.Rows.lines rows.now) rank }
     ensures { Adds so_far result (O.told out.old) (O.told out.new)
-        (remaining show (R.Rows.lines rows.now) [] rank 6 false) }
+        (remaining show (R.Rows.lines rows.now) [] rank all_stops false) }
 {
     let mut state = so_far;
     let mut walk = Walk {
         open: ArrayVec::new(),
         rank,
-        next: 6,
+        next: Some(Stop::Annotations),
         later: false,
         after: 0,
         done: false,

@@ -10,12 +10,12 @@ use Rattle.aas_json_write_rows.proofs.children.first_child.Goals.{else-deep-leve
 pub returns-then-show-level : goal.returns-then-show-level
 returns-then-show-level g c =
     cut_off c.args.show (line_of c.args.row.now) c.args.stop (g.R.Rows.lines c.args.rows.now)
-    c.args.from c.args.after c.requires.below (omega (arith, c.from-level.ensures, c.if-show-level.true))
+    c.args.from c.args.after c.requires (omega (arith, c.from-level.ensures, c.if-show-level.true))
 
 pub returns-then-not-has_stop : goal.returns-then-not-has_stop
 returns-then-not-has_stop g c =
     no_stop c.args.show (line_of c.args.row.now) c.args.stop
-    (g.R.Rows.lines c.args.rows.now) c.args.from c.args.after c.requires.below (cc)
+    (g.R.Rows.lines c.args.rows.now) c.args.from c.args.after c.requires (cc)
 
 pub loop-child-init : goal.loop-child-init
 loop-child-init g c =

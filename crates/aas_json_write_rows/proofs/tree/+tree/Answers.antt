@@ -1,8 +1,9 @@
-use Rattle.std.proofs.Common.{◌-◌, ◌<◌, ◌≤◌, ◌++◌, [], length, subst, sym, ap, ◌∙◌, if◌then◌else◌, arith}
+use Rattle.std.proofs.Common.{◌<◌, ◌≤◌, ◌++◌, [], ◌∷◌, Some, length, subst, sym, ap, ◌∙◌, if◌then◌else◌, arith}
 use Rattle.serde_json.specs.Written.{compact_text}
 use Rattle.aas_json_mapping.specs.Elements.{spell_element}
 use Rattle.aas_model.specs.declared.element.Element.{out-Element}
 use Rattle.aas_json_write_members.specs.Members.{closing, fields_text, later_after, opening, part, stop_name}
+use Rattle.aas_json_write_members.specs.Members.{stops_from}
 use Rattle.aas_json_write_members.specs.Script.{listed_text}
 use Rattle.aas_out.specs.Adds.{Adds}
 use Rattle.aas_out.proofs.Adding.{adds_both, adds_same}
@@ -21,15 +22,17 @@ pour_tree-loop-next-init g t c =
 
 pub pour_tree-loop-next-preserved : goal.pour_tree-loop-next-preserved
 pour_tree-loop-next-preserved g t c =
-    parts_more c.put_to_stop-pen.result.state (g.O.TextEnd.told c.put_to_stop-pen.new.out) (c.loop-next.next - 1)
-    c.put_to_stop-pen.result.later c.loop-next.invariant (ap (λ (l : Line). l.level) c.of_element-row.ensures)
-    (omega (arith, c.loop-next-test.true)) c.put_to_stop-pen.ensures.text c.put_to_stop-pen.ensures.later
+    parts_more c.put_to_stop-pen.result.state (g.O.TextEnd.told c.put_to_stop-pen.new.out) c.in-Some.stop
+    (stops_from c.next-next.result) c.put_to_stop-pen.result.later c.loop-next.invariant
+    (ap (λ (l : Line). l.level) c.of_element-row.ensures)
+    (ap stops_from c.in-Some.is ∙ ap (λ ss. c.in-Some.stop ∷ ss) (sym c.next-next.ensures))
+    c.put_to_stop-pen.ensures.text c.put_to_stop-pen.ensures.later
 
 pub pour_tree-returns : goal.pour_tree-returns
 pour_tree-returns g t c =
     parts_end c.args.element.now c.put_part-last.result.state c.add_text-2.result
     (g.O.TextEnd.told c.put_part-last.new.out) (g.O.TextEnd.told c.add_text-2.new.out)
-    c.loop-next.invariant c.of_element-row.ensures (omega (arith, c.loop-next-test.false))
+    c.loop-next.invariant c.of_element-row.ensures (ap stops_from c.in_default.is)
     c.put_part-last.ensures.text c.add_text-2.ensures
 
 pub put_child-returns : goal.put_child-returns
@@ -81,7 +84,7 @@ put_children-returns-then-any-clause-text g t c =
 pub put_to_stop-returns-then-has_stop-clause-text : goal.put_to_stop-returns-then-has_stop-clause-text
 put_to_stop-returns-then-has_stop-clause-text g t c =
     let stop = c.args.stop in
-    let fields = part all_shown (line_of c.args.row.now) stop in
+    let fields = part all_shown (line_of c.args.row.now) (Some stop) in
     let kids = texts_at stop c.args.kids.now in
     let first = g.O.TextEnd.told c.args.out.now in
     let second = g.O.TextEnd.told c.put_part-part.new.out in

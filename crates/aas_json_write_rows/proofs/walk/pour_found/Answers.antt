@@ -1,4 +1,5 @@
 use Rattle.std.proofs.Common.{◌∷◌, [], false, sym}
+use Rattle.aas_json_write_members.specs.Members.{all_stops}
 use Rattle.aas_json_write_members.specs.Script.{script}
 use Rattle.aas_out.proofs.Adding.{adds_both, adds_same}
 use Rattle.aas_rows.specs.Views.{line_of}
@@ -21,7 +22,7 @@ returns-then-is_childless g c =
     let vs = kids_at w rows r n in
     adds_same c.args.so_far c.put_childless.result first last _ _
     (adds_both c.args.so_far c.add_text-opened.result c.put_childless.result first second last
-    (123 ∷ []) (script w r vs 6 false)
+    (123 ∷ []) (script w r vs all_stops false)
     c.add_text-opened.ensures (c.put_childless.ensures vs))
     (sym (text_here w rows n r c.requires.found))
 
@@ -36,6 +37,6 @@ returns g c =
     let last = told c.walk_element.new.out in
     adds_same c.args.so_far c.walk_element.result first last _ _
     (adds_both c.args.so_far c.add_text-opened.result c.walk_element.result first second last
-    (123 ∷ []) (remaining w rows [] n 6 false)
+    (123 ∷ []) (remaining w rows [] n all_stops false)
     c.add_text-opened.ensures c.walk_element.ensures)
     (sym (text_walked w rows n (line_of c.args.row.now) c.requires.found))

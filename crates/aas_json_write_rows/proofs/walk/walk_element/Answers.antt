@@ -1,10 +1,11 @@
-use Rattle.std.proofs.Common.{◌<◌, ◌∙◌, List, [], false, ap, arith, subst, sym}
+use Rattle.std.proofs.Common.{◌<◌, ◌∙◌, List, [], false, ap, subst, sym}
 use Rattle.std.proofs.lemmas.Option.{same_Some}
 use Rattle.aas_out.proofs.Adding.{adds_nothing}
 use Rattle.aas_rows.specs.Rows.{Line}
+use Rattle.aas_json_write_members.specs.Members.{all_stops}
 use Rattle.aas_json_write_rows.specs.Walk.{IsNested, remaining}
 use Rattle.aas_json_write_rows.specs.declared.walk.OpenElement.{OpenElement}
-use Rattle.aas_json_write_rows.proofs.Going.{stepped, falls}
+use Rattle.aas_json_write_rows.proofs.Going.{fresh, stepped, falls}
 use Rattle.aas_json_write_rows.proofs.walk.walk_element.Goals as goal
 
 pub loop-walk-init : goal.loop-walk-init
@@ -12,14 +13,15 @@ loop-walk-init g c =
     let rows = g.R.Rows.lines c.args.rows.now in
     let there = c.requires.there in record {
       poured = [];
-      parts = ap (λ (fs : List OpenElement). remaining c.args.show rows fs c.args.rank 6 false) (sym c.new.ensures);
+      parts =
+          ap (λ (fs : List OpenElement). remaining c.args.show rows fs c.args.rank all_stops false)
+          (sym c.new.ensures);
       adds = adds_nothing c.args.so_far (g.O.TextEnd.told c.args.out.now);
       kept = λ e. record {
         nested =
             subst (λ (fs : List OpenElement). IsNested rows 0 fs c.args.rank) (sym c.new.ensures)
             (λ r is. subst (λ (l : Line). 0 < l.level) (same_Some there.0 r (sym there.1 ∙ is)) there.2);
-        part = omega arith;
-        passed = λ small r is. absurd (omega (arith, small));
+        passed = λ begun r is. fresh rows r.level _ _ begun;
       };
     }
 
@@ -31,7 +33,7 @@ loop-walk-smaller g c =
 pub loop-walk-preserved : goal.loop-walk-preserved
 loop-walk-preserved g c =
     let rows = g.R.Rows.lines c.args.rows.now in
-    let whole = remaining c.args.show rows [] c.args.rank 6 false in
+    let whole = remaining c.args.show rows [] c.args.rank all_stops false in
     let told = g.O.TextEnd.told in
     stepped c.args.show rows whole c.loop-walk.walk c.step-state.new.walk
     c.args.so_far c.loop-walk.state c.step-state.result

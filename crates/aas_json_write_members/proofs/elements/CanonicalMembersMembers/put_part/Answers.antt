@@ -1,71 +1,70 @@
-use Rattle.std.proofs.Common.{◌≡◌, ◌≤◌, ◌%◌, refl, arith}
+use Rattle.std.proofs.Common.{◌≡◌, Some, None, rules}
 use Rattle.aas_rows.specs.Views.{line_of}
-use Rattle.aas_json_write_members.proofs.Shown.{described_part, empty_part, meant_part, part_later, part_text, put_nothing}
-use Rattle.aas_json_write_members.proofs.Shown.{supplemental_part, typed_part, value_part}
+use Rattle.aas_json_write_members.specs.declared.stops.Stop.TheVariants as stop
+use Rattle.aas_json_write_members.proofs.Shown.{last_part, part_before, put_nothing, puts_part}
 use Rattle.aas_json_write_members.proofs.elements.CanonicalMembersMembers.put_part.Goals as goal
 
-pub returns-in-5-clause-text : goal.returns-in-5-clause-text
-returns-in-5-clause-text g c =
-    part_text c.args.show (line_of c.args.row.now) c.args.next 5 c.args.so_far c.args.later c.in-5.is
-    (described_part c.args.show (line_of c.args.row.now)) c.put_described.ensures
+pub returns-in-Some-Annotations : goal.returns-in-Some-Annotations
+returns-in-Some-Annotations g c =
+    let r = line_of c.args.row.now in
+    let is : c.args.next ≡ Some stop.Annotations = search rules in
+    let h =
+    puts_part c.args.show r c.args.next (Some stop.Annotations) is
+    (part_before c.args.show r stop.Annotations)
+    (put_nothing (record { state = c.args.so_far; later = c.args.later }) (g.O.TextEnd.told c.args.out.now)) in
+    record { text = h.text; later = h.later }
 
-pub returns-in-5-clause-later : goal.returns-in-5-clause-later
-returns-in-5-clause-later g c =
-    part_later c.args.show (line_of c.args.row.now) c.args.next 5 c.args.so_far c.args.later c.in-5.is
-    (described_part c.args.show (line_of c.args.row.now)) c.put_described.ensures
+pub returns-in-Some-InoutputVariables : goal.returns-in-Some-InoutputVariables
+returns-in-Some-InoutputVariables g c =
+    let r = line_of c.args.row.now in
+    let is : c.args.next ≡ Some stop.InoutputVariables = search rules in
+    let h =
+    puts_part c.args.show r c.args.next (Some stop.InoutputVariables) is
+    (part_before c.args.show r stop.InoutputVariables) c.put_described.ensures in
+    record { text = h.text; later = h.later }
 
-pub returns-in-3-clause-text : goal.returns-in-3-clause-text
-returns-in-3-clause-text g c =
-    part_text c.args.show (line_of c.args.row.now) c.args.next 3 c.args.so_far c.args.later c.in-3.is
-    (typed_part c.args.show (line_of c.args.row.now)) c.put_typed.ensures
+pub returns-in-Some-InputVariables : goal.returns-in-Some-InputVariables
+returns-in-Some-InputVariables g c =
+    let r = line_of c.args.row.now in
+    let is : c.args.next ≡ Some stop.InputVariables = search rules in
+    let h =
+    puts_part c.args.show r c.args.next (Some stop.InputVariables) is
+    (part_before c.args.show r stop.InputVariables)
+    (put_nothing (record { state = c.args.so_far; later = c.args.later }) (g.O.TextEnd.told c.args.out.now)) in
+    record { text = h.text; later = h.later }
 
-pub returns-in-3-clause-later : goal.returns-in-3-clause-later
-returns-in-3-clause-later g c =
-    part_later c.args.show (line_of c.args.row.now) c.args.next 3 c.args.so_far c.args.later c.in-3.is
-    (typed_part c.args.show (line_of c.args.row.now)) c.put_typed.ensures
+pub returns-in-Some-OutputVariables : goal.returns-in-Some-OutputVariables
+returns-in-Some-OutputVariables g c =
+    let r = line_of c.args.row.now in
+    let is : c.args.next ≡ Some stop.OutputVariables = search rules in
+    let h =
+    puts_part c.args.show r c.args.next (Some stop.OutputVariables) is
+    (part_before c.args.show r stop.OutputVariables) c.put_typed.ensures in
+    record { text = h.text; later = h.later }
 
-pub returns-in-2-clause-text : goal.returns-in-2-clause-text
-returns-in-2-clause-text g c =
-    part_text c.args.show (line_of c.args.row.now) c.args.next 2 c.args.so_far c.args.later c.in-2.is
-    (meant_part c.args.show (line_of c.args.row.now)) c.put_meant.ensures
+pub returns-in-Some-Statements : goal.returns-in-Some-Statements
+returns-in-Some-Statements g c =
+    let r = line_of c.args.row.now in
+    let is : c.args.next ≡ Some stop.Statements = search rules in
+    let h =
+    puts_part c.args.show r c.args.next (Some stop.Statements) is
+    (part_before c.args.show r stop.Statements) c.put_meant.ensures in
+    record { text = h.text; later = h.later }
 
-pub returns-in-2-clause-later : goal.returns-in-2-clause-later
-returns-in-2-clause-later g c =
-    part_later c.args.show (line_of c.args.row.now) c.args.next 2 c.args.so_far c.args.later c.in-2.is
-    (meant_part c.args.show (line_of c.args.row.now)) c.put_meant.ensures
+pub returns-in-Some-Value : goal.returns-in-Some-Value
+returns-in-Some-Value g c =
+    let r = line_of c.args.row.now in
+    let is : c.args.next ≡ Some stop.Value = search rules in
+    let h =
+    puts_part c.args.show r c.args.next (Some stop.Value) is
+    (part_before c.args.show r stop.Value) c.put_supplemental.ensures in
+    record { text = h.text; later = h.later }
 
-pub returns-in-1-clause-text : goal.returns-in-1-clause-text
-returns-in-1-clause-text g c =
-    part_text c.args.show (line_of c.args.row.now) c.args.next 1 c.args.so_far c.args.later c.in-1.is
-    (supplemental_part c.args.show (line_of c.args.row.now)) c.put_supplemental.ensures
-
-pub returns-in-1-clause-later : goal.returns-in-1-clause-later
-returns-in-1-clause-later g c =
-    part_later c.args.show (line_of c.args.row.now) c.args.next 1 c.args.so_far c.args.later c.in-1.is
-    (supplemental_part c.args.show (line_of c.args.row.now)) c.put_supplemental.ensures
-
-pub returns-in-0-clause-text : goal.returns-in-0-clause-text
-returns-in-0-clause-text g c =
-    part_text c.args.show (line_of c.args.row.now) c.args.next 0 c.args.so_far c.args.later c.in-0.is
-    (value_part c.args.show (line_of c.args.row.now)) c.put_value.ensures
-
-pub returns-in-0-clause-later : goal.returns-in-0-clause-later
-returns-in-0-clause-later g c =
-    part_later c.args.show (line_of c.args.row.now) c.args.next 0 c.args.so_far c.args.later c.in-0.is
-    (value_part c.args.show (line_of c.args.row.now)) c.put_value.ensures
-
-pub returns-in_default-clause-text : goal.returns-in_default-clause-text
-returns-in_default-clause-text g c =
-    let high : 4 ≤ c.args.next = omega arith in
-    let even : c.args.next % 2 ≡ 0 = omega arith in
-    part_text c.args.show (line_of c.args.row.now) c.args.next c.args.next c.args.so_far c.args.later refl
-    (empty_part c.args.show (line_of c.args.row.now) c.args.next high c.requires.low even)
-    (put_nothing (record { state = c.args.so_far; later = c.args.later }) (g.O.TextEnd.told c.args.out.now))
-
-pub returns-in_default-clause-later : goal.returns-in_default-clause-later
-returns-in_default-clause-later g c =
-    let high : 4 ≤ c.args.next = omega arith in
-    let even : c.args.next % 2 ≡ 0 = omega arith in
-    part_later c.args.show (line_of c.args.row.now) c.args.next c.args.next c.args.so_far c.args.later refl
-    (empty_part c.args.show (line_of c.args.row.now) c.args.next high c.requires.low even)
-    (put_nothing (record { state = c.args.so_far; later = c.args.later }) (g.O.TextEnd.told c.args.out.now))
+pub returns-in-None : goal.returns-in-None
+returns-in-None g c =
+    let r = line_of c.args.row.now in
+    let is : c.args.next ≡ None = search rules in
+    let h =
+    puts_part c.args.show r c.args.next None is
+    (last_part c.args.show r) c.put_value.ensures in
+    record { text = h.text; later = h.later }
