@@ -1,6 +1,7 @@
 -- Laws of requests and sessions.
-use Rattle.std.specs.Prelude.{◌≡◌, ℕ, List, Option, Ok, true}
-use Rattle.aas_command.specs.Commands.{IsWellFormed}
+use Rattle.std.specs.Prelude.{◌≡◌, ℕ, List, Option, None, Some, Ok, true}
+use Rattle.std.specs.List.{last_or}
+use Rattle.aas_command.specs.Commands.{IsWellFormed, tagged_of}
 use Rattle.aas_command.specs.declared.command.Command.{Command}
 use Rattle.aas_command.specs.declared.refusal.Refusal.{Refusal}
 use Rattle.aas_command.specs.declared.refusal.Refusal.TheVariants as refusal
@@ -17,7 +18,7 @@ use Rattle.aas_api.specs.declared.ask.Ask.{Ask}
 use Rattle.aas_api.specs.declared.ask.Metadata.{Metadata}
 use Rattle.aas_api_service.specs.Described.{IsDescribed}
 use Rattle.aas_api_service.specs.Replies.{refusal_reply}
-use Rattle.aas_api_service.specs.Turns.{Turns}
+use Rattle.aas_api_service.specs.Turns.{Turns, success_reply}
 use Rattle.aas_api_service.specs.WellFormed.{IsWellFormedAsk, IsWellFormedMetadata}
 
 -- where documents are valid, a request comes to one thing alone
@@ -54,3 +55,8 @@ pub record OwnRepliesAreOfRefusals : Type 0 where
   pub too_large : own.too_large ≡ closing_reply refusal.TooLarge
   pub not_implemented : own.not_implemented ≡ closing_reply refusal.NotImplemented
   pub storage_fault : own.storage_fault ≡ closing_reply refusal.StorageFault
+
+-- What a command creates is kept by the very text that is replied: it is the last field of the payload.
+abbrev pub RepliesAreKept : Type 0
+RepliesAreKept = (c : Command) → (success_reply c).status ≡ 201
+    → last_or None (tagged_of c).fields ≡ Some (success_reply c).body

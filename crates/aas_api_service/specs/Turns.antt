@@ -2,14 +2,10 @@
 -- a command is done. Which status and which body a reply has is this profile's own rule.
 use Rattle.std.specs.Prelude.{◌≡◌, ◌^◌, ℕ, nat_lt, List, [], ◌∷◌, length, false, Option, Some, None, Result, Ok, Err}
 use Rattle.std.specs.Prelude.{⊤, if◌then◌else◌}
-use Rattle.aas_json_spelling.specs.Spells.{canonical_text}
-use Rattle.aas_json_mapping.specs.Trees.{concepts, elements, shells, submodels}
-use Rattle.aas_reference.specs.Trees.{references}
-use Rattle.aas_command.specs.Commands.{IsWellFormed, payload_of}
+use Rattle.std.specs.Option.{option_map_or}
+use Rattle.aas_command.specs.Commands.{IsWellFormed, created_text, payload_of}
 use Rattle.aas_command.specs.Encoding.{HasFields}
 use Rattle.aas_command.specs.declared.command.Command.{Command}
-use Rattle.aas_command.specs.declared.command.Command.TheVariants.{CreateShell, CreateSubmodel, CreateConcept}
-use Rattle.aas_command.specs.declared.command.Command.TheVariants.{AddReference, InsertElement}
 use Rattle.aas_command.specs.declared.refusal.Refusal.{Refusal}
 use Rattle.aas_http.specs.FirstRequest.{Message}
 use Rattle.aas_http.specs.declared.replies.Reply.{Reply}
@@ -44,12 +40,7 @@ answer_reply q (Err refusal) = refusal_reply refusal
 
 -- the reply to a command that is accepted: 201 with what it creates, or else 204
 abbrev pub success_reply : Command → Reply
-success_reply (CreateShell d) = reply_with 201 (canonical_text shells d)
-success_reply (CreateSubmodel d) = reply_with 201 (canonical_text submodels d)
-success_reply (CreateConcept d) = reply_with 201 (canonical_text concepts d)
-success_reply (AddReference id r) = reply_with 201 (canonical_text references r)
-success_reply (InsertElement id p e) = reply_with 201 (canonical_text elements e)
-success_reply c = reply_with 204 []
+success_reply c = option_map_or (reply_with 201) (created_text c) (reply_with 204 [])
 
 -- ---- outcomes
 

@@ -1,6 +1,6 @@
 // The functions here do nothing: their contracts are the laws of requests and sessions.
 ghost use Rattle.aas_api_service.specs.Laws.{AsksWellFormed, DescribedIsWellFormed, OneOutcome};
-ghost use Rattle.aas_api_service.specs.Laws.{OwnRepliesAreOfRefusals, SessionsStayValid};
+ghost use Rattle.aas_api_service.specs.Laws.{OwnRepliesAreOfRefusals, RepliesAreKept, SessionsStayValid};
 ghost use Rattle.aas_api_service.specs.MetadataUpdates.{UpdatesPutMetadata};
 
 use aas_edit_faults::inserted_elements_have_the_faults;
@@ -52,4 +52,9 @@ pub fn sessions_stay_valid()
 /// What a connection replies by itself has the code, the text and the status of a refusal.
 pub fn own_replies_are_of_refusals()
     ensures { OwnRepliesAreOfRefusals }
+{}
+
+/// What a command creates is kept by the very text that is replied.
+pub fn replies_are_kept()
+    ensures { RepliesAreKept }
 {}

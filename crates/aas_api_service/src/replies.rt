@@ -1,6 +1,6 @@
 // The replies to questions, commands and refusals.
 ghost use Rattle.std.specs.Prelude.{◌≡◌, ◌≢◌, ◌↔◌, false, Err, IfOk, IsSome};
-ghost use Rattle.aas_command.specs.Commands.{IsWellFormed};
+ghost use Rattle.aas_command.specs.Commands.{IsCreatedText};
 ghost use Rattle.aas_http.specs.ReplyText.{phrase};
 ghost use Rattle.aas_answer.specs.Plans.{is_planned};
 ghost use Rattle.aas_question.specs.declared.question.Question.{Question};
@@ -8,9 +8,8 @@ ghost use Rattle.aas_api_service.specs.Finished.{Finishes, IsRefused, IsReply};
 ghost use Rattle.aas_api_service.specs.Turns.{answer_reply, reply_with, success_reply};
 
 use crate::refusals::refusal_reply;
-use aas_command::{Command, Refusal};
+use aas_command::{Command, Refusal, created_text};
 use aas_http::Reply;
-use aas_json_write::{concept_text, element_text, reference_text, shell_text, submodel_text};
 use aas_model::{Many, NoMemory, Text};
 use aas_repo::Done;
 use aas_session::Stop;
@@ -32,44 +31,17 @@ pub(crate) fn answer_reply(alloc: Global, answer: Result<Many<u8>, Refusal>) -> 
     }
 }
 
-/// The reply to a command that is accepted.
-#[tactic(auto, unfolding(aas_command::specs::Commands::IsWellFormed))]
+/// The reply to a command that is accepted, with the text of what it creates.
 pub(crate) fn success(alloc: Global, command: &Command) -> Result<Reply, NoMemory>
-    requires { IsWellFormed command.now }
     ensures reply { IfOk result (λ reply. reply ≡ success_reply command.now) }
+    ensures created { IfOk result (λ reply. IsCreatedText command.now reply.body) }
     ensures phrase { IfOk result (λ reply. IsSome (phrase reply.status)) }
     ensures later { IfOk result (λ reply. reply.later ≡ 0) }
 {
-    match command {
-        Command::CreateShell { document } => created_reply(
-            alloc,
-            shell_text(alloc, document.get())?,
-        ),
-        Command::CreateSubmodel { document } => created_reply(
-            alloc,
-            submodel_text(alloc, document.get())?,
-        ),
-        Command::CreateConcept { document } => created_reply(
-            alloc,
-            concept_text(alloc, document.get())?,
-        ),
-        Command::AddReference { reference, .. } => {
-            created_reply(alloc, reference_text(alloc, reference)?)
-        }
-        Command::InsertElement { element, .. } => {
-            created_reply(alloc, element_text(alloc, element.get())?)
-        }
-        _ => open_reply(alloc, 204, Many::new(alloc)),
+    match created_text(alloc, command)? {
+        Some(text) => open_reply(alloc, 201, text),
+        None => open_reply(alloc, 204, Many::new(alloc)),
     }
-}
-
-/// The reply that has the text of what was created.
-fn created_reply(alloc: Global, text: Vec<u8>) -> Result<Reply, NoMemory>
-    ensures reply { IfOk result (λ reply. reply ≡ reply_with 201 text.items) }
-    ensures status { IfOk result (λ reply. reply.status ≡ 201) }
-    ensures later { IfOk result (λ reply. reply.later ≡ 0) }
-{
-    open_reply(alloc, 201, text.into())
 }
 
 /// What is answered by what became of a command, with the reply that was made for its success.

@@ -82,7 +82,7 @@ impl<S: Lookup, K: Keeper> Machine for Service<S, K> {
 
 /// Does what is asked, unless it is asked through a shell that doesn't reach the submodel, and answers the reply, whose
 /// `close` is false, and what is poured behind its body. The success reply to a command is made before the command is
-/// taken, so that nothing is kept which can't be answered.
+/// taken, so that nothing is kept which can't be answered; the text in it of what is created is the one that is kept.
 ///
 /// # Errors
 ///
@@ -187,7 +187,10 @@ fn act<S: Store, K: Keeper>(
         (machine_state K.state repo.old) (machine_state K.state repo.new) }
 {
     match success(alloc, &command) {
-        Ok(reply) => finish(alloc, repo.act(command), reply),
+        Ok(reply) => {
+            let done = repo.act_with_text(command, reply.body.as_slice());
+            finish(alloc, done, reply)
+        }
         Err(NoMemory) => {
             drop(command);
             Err(Stop::NoMemory)

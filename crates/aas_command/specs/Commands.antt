@@ -1,9 +1,9 @@
 -- Which commands are well formed, and the payloads in which they are kept: a tag byte, and then fields, each with its
 -- length as four bytes, greatest first, before it. Documents, environments, elements and references are canonical
 -- texts, values compact ones, identifiers and paths are UTF-8. This profile's own rule.
-use Rattle.std.specs.Prelude.{ℕ, ◌+◌, ◌≤◌, List, [], ◌∷◌, ◌++◌, length, flat_map, ⊤}
+use Rattle.std.specs.Prelude.{◌≡◌, ℕ, ◌+◌, ◌≤◌, List, [], ◌∷◌, ◌++◌, length, flat_map, Option, Some, None, IfSome, ⊤}
 use Rattle.std.specs.Int.{to_be_bytes, w32}
-use Rattle.std.specs.Str.{encode_utf8_all}
+use Rattle.std.specs.Str.{IsUtf8, encode_utf8_all}
 use Rattle.serde_json.specs.Data.{Data, depth}
 use Rattle.serde_json.specs.Read.{max_depth}
 use Rattle.serde_json.specs.Written.{compact_text}
@@ -90,3 +90,16 @@ bytes_of t = t.tag ∷ flat_map field t.fields
 
 unfoldable pub payload_of : Command → List ℕ
 payload_of c = bytes_of (tagged_of c)
+
+-- the text of the document, the reference or the element that a command creates, if it creates one
+abbrev pub created_text : Command → Option (List ℕ)
+created_text (CreateShell d) = Some (canonical_text shells d)
+created_text (CreateSubmodel d) = Some (canonical_text submodels d)
+created_text (CreateConcept d) = Some (canonical_text concepts d)
+created_text (AddReference shell reference) = Some (canonical_text references reference)
+created_text (InsertElement id p e) = Some (canonical_text elements e)
+created_text c = None
+
+-- it is that text, in UTF-8, or the command creates nothing
+abbrev pub IsCreatedText : Command → List ℕ → Type 0
+IsCreatedText c text = IfSome (created_text c) (λ created. (text ≡ created) × IsUtf8 text)

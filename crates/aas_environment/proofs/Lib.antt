@@ -1,6 +1,5 @@
 pub mod Blamed
 mod LineFeed
-mod Payload
 mod Poured
 mod Put
 mod ReadBack

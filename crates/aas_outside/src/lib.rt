@@ -8,12 +8,13 @@
 //! What is said over these ends stands in the crates above, and the real ones in the program.
 //!
 //! Proved, by the contract of `MemLink`, `MemWire`, `MemKeeper`: `new`, `take`, `give`, `add`, `add_again`,
-//! `sent`, `listen`, `next`, `room`, `keep`; `Frame::new`, `len`, `bytes`; `give_all`:
+//! `sent`, `listen`, `next`, `room`, `keep`; `FrameWriter`: `new`, `write`, `finish`; `Frame`: `len`, `bytes`;
+//! `give_all`:
 //!
 //! - The ends in memory begin as they are made, and fail at the calls they were told, at a give past the capacity
 //!   or without a visit, and nowhere else.
 //! - A wire in memory counts the clients that it has begun, and begins none that it wasn't asked for.
-//! - A frame is the payload between its length and a zero byte.
+//! - A frame is the payload between its length and a zero byte. It is written piece by piece.
 //! - A keeper in memory keeps each payload behind the others, and at each moment a stop leaves those kept by
 //!   then.
 //! - All bytes are given, or a front of them where the link fails.
@@ -33,7 +34,7 @@ mod reserved;
 mod visit;
 mod wire;
 
-pub use frame::Frame;
+pub use frame::{Frame, FrameWriter};
 pub use giving::give_all;
 pub use keeper::Keeper;
 pub use link::{Failed, Link};

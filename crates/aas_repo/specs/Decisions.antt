@@ -6,8 +6,9 @@ use Rattle.std.specs.Str.{encode_utf8_all}
 use Rattle.aas_model_names.specs.declared.collection.Collection.{Collection}
 use Rattle.aas_constraint_rules.specs.Faults.{shell}
 use Rattle.aas_command.specs.Commands.{payload_of}
-use Rattle.aas_command.specs.Encoding.{HasFields}
+use Rattle.aas_command.specs.Encoding.{HasFields, IsFaultOf}
 use Rattle.aas_command.specs.declared.command.Command.{Command}
+use Rattle.aas_command.specs.declared.encoding.EncodeFault.{EncodeFault}
 use Rattle.aas_command.specs.declared.refusal.Refusal.{Refusal}
 use Rattle.aas_command.specs.declared.refusal.Refusal.TheVariants.{NoMemory, StorageFault}
 use Rattle.aas_model.specs.declared.asset.AssetInformation.{AssetInformation}
@@ -23,6 +24,11 @@ use Rattle.aas_repo.specs.declared.taking.Taken.TheVariants as taken
 -- for a payload that has no frame there is none
 abbrev pub has_room_for : (has_room : ℕ → Bool) → Command → Bool
 has_room_for has_room c = nat_lt (length (payload_of c)) (2 ^ 32) && has_room (length (payload_of c))
+
+-- it is the frame of the command's payload, which can be read again, or why there is none
+abbrev pub IsEncoded : Command → Result (List ℕ) EncodeFault → Type 0
+IsEncoded c (Ok frame) = (frame ≡ payload_of c) × HasFields c
+IsEncoded c (Err fault) = IsFaultOf (payload_of c) fault
 
 -- with the documents before and after
 abbrev pub IsTaken : (has_room : ℕ → Bool) → Documents → Command → Documents → Taken → Type 0

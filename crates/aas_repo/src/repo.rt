@@ -1,19 +1,19 @@
 // Documents in a store, and the commands that made them in a keeper.
 ghost use Rattle.std.specs.Prelude.{◌≡◌, ◌≢◌, None, Some, true, false, Err, IfErr, MatchResult};
-ghost use Rattle.aas_command.specs.Commands.{IsWellFormed};
+ghost use Rattle.aas_command.specs.Commands.{IsCreatedText, IsWellFormed};
 ghost use Rattle.aas_command.specs.declared.refusal.Refusal.TheVariants.{StorageFault};
 ghost use Rattle.aas_rule.specs.State.{GoesOn, WhereSettled};
 ghost use Rattle.aas_step.specs.Causes.{first_of, reference_causes};
 ghost use Rattle.aas_step.specs.Valid.{AreValid};
 ghost use Rattle.aas_repo.specs.Acts.{Acts, ComesOut, done_of};
-ghost use Rattle.aas_repo.specs.Decisions.{has_room_for};
+ghost use Rattle.aas_repo.specs.Decisions.{IsEncoded, has_room_for};
 ghost use Rattle.aas_repo.specs.Held.{machine_state};
 
 use crate::references::referring_shell;
 use crate::taking::{Taken, take};
-use aas_command::{Command, Refusal};
+use aas_command::{Command, EncodeFault, Refusal, encode, encode_with_text};
 use aas_model::Text;
-use aas_outside::{Failed, Keeper};
+use aas_outside::{Failed, Frame, Keeper};
 use aas_store::Store;
 use std::alloc::Global;
 use std::marker::Model;
@@ -115,8 +115,51 @@ impl<S: Store, K: Keeper> Repo<S, K> {
             self.old.documents command self.new.documents result }
         ensures unchanged { IfErr result (λ refusal. refusal ≢ StorageFault → self.new ≡ self.old) }
     {
+        let encoded = encode(self.alloc, &command);
+        self.carry_out(command, encoded)
+    }
+
+    /// Does what [`Repo::act`] does. The text of what the command creates is at hand, and is kept as it is; where the
+    /// command creates nothing, the text may be any.
+    pub fn act_with_text(&mut self, command: Command, text: &[u8]) -> Result<Done, Refusal>
+        requires open { self.old.stopped ≡ false }
+        requires well_formed { IsWellFormed command }
+        requires text { IsCreatedText command text.now }
+        ensures acts { WhereSettled K.stands_for (machine_state K.state self.old).held (λ r.
+            Acts (K.state self.old.keeper).room_behind K.stands_for r command
+            (K.state self.old.keeper).moment (machine_state K.state self.new).held result) }
+        ensures goes_on { GoesOn (result ≡ Err StorageFault)
+            (machine_state K.state self.old) (machine_state K.state self.new) }
+        ensures stops { result ≡ Err StorageFault → self.new.stopped ≡ true }
+        ensures outcome { ComesOut (has_room_for (K.state self.old.keeper).has_room command)
+            self.old.documents command self.new.documents result }
+        ensures unchanged { IfErr result (λ refusal. refusal ≢ StorageFault → self.new ≡ self.old) }
+    {
+        let encoded = encode_with_text(self.alloc, &command, text);
+        self.carry_out(command, encoded)
+    }
+
+    /// Does what a command asks for, with its frame, or refuses it.
+    fn carry_out(
+        &mut self,
+        command: Command,
+        encoded: Result<Frame, EncodeFault>,
+    ) -> Result<Done, Refusal>
+        requires open { self.old.stopped ≡ false }
+        requires well_formed { IsWellFormed command }
+        requires encoded { IsEncoded command encoded }
+        ensures acts { WhereSettled K.stands_for (machine_state K.state self.old).held (λ r.
+            Acts (K.state self.old.keeper).room_behind K.stands_for r command
+            (K.state self.old.keeper).moment (machine_state K.state self.new).held result) }
+        ensures goes_on { GoesOn (result ≡ Err StorageFault)
+            (machine_state K.state self.old) (machine_state K.state self.new) }
+        ensures stops { result ≡ Err StorageFault → self.new.stopped ≡ true }
+        ensures outcome { ComesOut (has_room_for (K.state self.old.keeper).has_room command)
+            self.old.documents command self.new.documents result }
+        ensures unchanged { IfErr result (λ refusal. refusal ≢ StorageFault → self.new ≡ self.old) }
+    {
         let done = done_of(&command);
-        match take(self.alloc, &mut self.store, &self.keeper, command) {
+        match take(self.alloc, &mut self.store, &self.keeper, command, encoded) {
             Taken::Made(frame) => match self.keeper.keep(&frame) {
                 Ok(()) => Ok(done),
                 Err(Failed) => {

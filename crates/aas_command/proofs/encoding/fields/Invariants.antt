@@ -8,4 +8,4 @@ use Rattle.aas_command.proofs.encoding.fields.Given as goal
 abbrev pub invariant-loop-content : goal.invariant-loop-content
 invariant-loop-content l =
     let so_far = lent (take l.content-index l.contents) in
-    (l.payload.items ≡ l.fn.tag ∷ flat_map field so_far) × Each IsField so_far
+    (l.frame ≡ l.fn.tag ∷ flat_map field so_far) × Each IsField so_far

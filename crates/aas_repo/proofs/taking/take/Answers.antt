@@ -1,25 +1,26 @@
 use Rattle.std.proofs.Common.{subst}
-use Rattle.aas_command.specs.Commands.{payload_of}
-use Rattle.aas_command.specs.Encoding.{IsFaultOf}
-use Rattle.aas_repo.proofs.Taken.{made_is_taken, refused_is_taken, too_long_is_refused}
+use Rattle.aas_repo.specs.Decisions.{IsEncoded}
+use Rattle.aas_repo.proofs.Taken.{made_is_taken, refused_is_taken}
 use Rattle.aas_repo.proofs.taking.take.Goals as goal
 
 pub returns-in-Made-clause-taken : goal.returns-in-Made-clause-taken
 returns-in-Made-clause-taken g c =
+    let encoded = subst (IsEncoded c.args.command) c.in-Ok.is c.requires.encoded in
     made_is_taken (g.K.Keeper.state c.args.keeper.now).has_room _ _ c.args.command
-    c.in-Ok.frame c.len.result c.room-has_room.result c.in-Ok.ensures.payload
+    c.in-Ok.frame c.len.result c.room-has_room.result encoded.0
     c.len.ensures.value c.room-has_room.ensures.value
-    c.room-has_room.ensures.limit c.in-Ok.ensures.fields c.in-Made.ensures.decision
+    c.room-has_room.ensures.limit encoded.1 c.in-Made.ensures.decision
 
 pub returns-in-Refused-clause-taken : goal.returns-in-Refused-clause-taken
 returns-in-Refused-clause-taken g c =
+    let encoded = subst (IsEncoded c.args.command) c.in-Ok.is c.requires.encoded in
     refused_is_taken (g.K.Keeper.state c.args.keeper.now).has_room _ _ c.args.command
     c.in-Ok.frame c.len.result c.room-has_room.result c.in-Refused.refusal
-    c.in-Ok.ensures.payload c.len.ensures.value c.room-has_room.ensures.value
+    encoded.0 c.len.ensures.value c.room-has_room.ensures.value
     c.room-has_room.ensures.limit c.in-Refused.ensures.decision
 
-pub returns-in-Refused-change-clause-taken : goal.returns-in-Refused-change-clause-taken
-returns-in-Refused-change-clause-taken g c =
-    too_long_is_refused (g.K.Keeper.state c.args.keeper.now).has_room _ _ c.args.command c.in-Refused-change.refusal
-    (subst (IsFaultOf (payload_of c.args.command)) c.in-Err-TooLong.field-0-is c.in-Err-TooLong.ensures.payload)
-    c.in-Refused-change.ensures.decision
+pub take_without_frame-requires-clause-fault : goal.take_without_frame-requires-clause-fault
+take_without_frame-requires-clause-fault g c = subst (IsEncoded c.args.command) c.in-Err.is c.requires.encoded
+
+pub returns-in-Err-clause-taken : goal.returns-in-Err-clause-taken
+returns-in-Err-clause-taken g c = c.take_without_frame.ensures.taken (g.K.Keeper.state c.args.keeper.now).has_room
