@@ -28,10 +28,10 @@ pub(crate) enum Work {
 /// The path that the text writes, printed.
 pub(crate) fn print_parsed(alloc: Global, path: &str) -> Result<String, Refusal> {
     let path = parse_path(alloc, path.as_bytes())?;
-    Ok(print_path(alloc, &path)?)
+    Ok(path_text(alloc, &path)?)
 }
 
-fn print_path(alloc: Global, path: &Path) -> Result<String, NoMemory> {
+fn path_text(alloc: Global, path: &Path) -> Result<String, NoMemory> {
     let mut out = Vec::new(alloc);
     print_path(path, &mut out)?;
     text_of(alloc, out)

@@ -21,6 +21,9 @@ pub(crate) trait Document: Duplicate {
     /// The one that the JSON text spells; an element stands at level 1.
     fn read(alloc: Global, json: &str) -> Result<Self, ReadFault>;
 
+    /// The one whose canonical text the bytes seem to be.
+    fn read_canonical(alloc: Global, bytes: &[u8]) -> Result<Option<Self>, NoMemory>;
+
     /// Appends its canonical text.
     fn write(&self, alloc: Global, out: &mut Vec<u8>) -> Result<(), NoMemory>;
 }
@@ -28,6 +31,10 @@ pub(crate) trait Document: Duplicate {
 impl Document for Shell {
     fn read(alloc: Global, json: &str) -> Result<Shell, ReadFault> {
         read_shell(alloc, json.as_bytes())
+    }
+
+    fn read_canonical(alloc: Global, bytes: &[u8]) -> Result<Option<Shell>, NoMemory> {
+        aas_canonical_read::read_shell(alloc, bytes)
     }
 
     fn write(&self, alloc: Global, out: &mut Vec<u8>) -> Result<(), NoMemory> {
@@ -40,6 +47,10 @@ impl Document for Submodel {
         read_submodel(alloc, json.as_bytes())
     }
 
+    fn read_canonical(alloc: Global, bytes: &[u8]) -> Result<Option<Submodel>, NoMemory> {
+        aas_canonical_read::read_submodel(alloc, bytes)
+    }
+
     fn write(&self, alloc: Global, out: &mut Vec<u8>) -> Result<(), NoMemory> {
         write_submodel(alloc, self, out)
     }
@@ -48,6 +59,10 @@ impl Document for Submodel {
 impl Document for Concept {
     fn read(alloc: Global, json: &str) -> Result<Concept, ReadFault> {
         read_concept(alloc, json.as_bytes())
+    }
+
+    fn read_canonical(alloc: Global, bytes: &[u8]) -> Result<Option<Concept>, NoMemory> {
+        aas_canonical_read::read_concept(alloc, bytes)
     }
 
     fn write(&self, alloc: Global, out: &mut Vec<u8>) -> Result<(), NoMemory> {
@@ -60,6 +75,10 @@ impl Document for Environment {
         read_environment(alloc, json.as_bytes())
     }
 
+    fn read_canonical(alloc: Global, bytes: &[u8]) -> Result<Option<Environment>, NoMemory> {
+        aas_canonical_read::read_environment(alloc, bytes)
+    }
+
     fn write(&self, alloc: Global, out: &mut Vec<u8>) -> Result<(), NoMemory> {
         write_environment(alloc, self, out)
     }
@@ -68,6 +87,10 @@ impl Document for Environment {
 impl Document for Element {
     fn read(alloc: Global, json: &str) -> Result<Element, ReadFault> {
         read_element(alloc, json.as_bytes(), 1)
+    }
+
+    fn read_canonical(alloc: Global, bytes: &[u8]) -> Result<Option<Element>, NoMemory> {
+        aas_canonical_read::read_element(alloc, bytes, 1)
     }
 
     fn write(&self, alloc: Global, out: &mut Vec<u8>) -> Result<(), NoMemory> {
@@ -80,16 +103,33 @@ impl Document for AssetInformation {
         read_asset_information(alloc, json.as_bytes())
     }
 
+    fn read_canonical(alloc: Global, bytes: &[u8]) -> Result<Option<AssetInformation>, NoMemory> {
+        aas_canonical_read::read_asset_information(alloc, bytes)
+    }
+
     fn write(&self, alloc: Global, out: &mut Vec<u8>) -> Result<(), NoMemory> {
         write_asset_information(alloc, self, out)
     }
 }
 
 /// What a copy of the document is written as: `as sent` where that is
-/// the JSON value that was sent, with its members in byte order.
+/// the JSON value that was sent, with its members in byte order; `not read back` where it isn't read from this text again.
 pub(crate) fn write_document<D: Document>(alloc: Global, json: &str) -> Result<String, Refusal> {
     let document = D::read(alloc, json)?;
-    as_sent(alloc, json, copy_written(alloc, &document)?)
+    let written = copy_written(alloc, &document)?;
+    if is_read_back::<D>(alloc, &written)? {
+        as_sent(alloc, json, written)
+    } else {
+        Ok(text(alloc, "not read back")?)
+    }
+}
+
+/// Whether a canonical text is read as a document that is written so.
+fn is_read_back<D: Document>(alloc: Global, canonical: &[u8]) -> Result<bool, NoMemory> {
+    match D::read_canonical(alloc, canonical)? {
+        Some(document) => Ok(copy_written(alloc, &document)?.as_slice() == canonical),
+        None => Ok(false),
+    }
 }
 
 fn copy_written<D: Document>(alloc: Global, document: &D) -> Result<Vec<u8>, NoMemory> {

@@ -1,5 +1,6 @@
 // What a field of a payload holds.
-ghost use Rattle.std.specs.Prelude.{◌≡◌, ◌≤◌, ◌⊎◌, ℕ, List, Ok, Err, IfOk, MatchOption, ⊤};
+ghost use Rattle.std.specs.Prelude.{◌≡◌, ◌≤◌, ◌⊎◌, ℕ, List, Ok, Err, IfOk, IfSome, MatchOption, ⊤};
+ghost use Rattle.std.specs.Bool.{OnTrue};
 ghost use Rattle.std.specs.Str.{IsUtf8, encode_utf8_all};
 ghost use Rattle.aas_json_table.specs.TooDeep.{Levels, limits};
 ghost use Rattle.aas_json_spelling.specs.Reads.{ReadsBytes};
@@ -20,9 +21,11 @@ use aas_json_input::read_value;
 use aas_json_read::{
     read_asset_information, read_concept, read_element, read_environment, read_shell, read_submodel,
 };
+use aas_json_whole::{Whole, is_whole_element};
 use aas_json_write::{
-    asset_text, concept_text, element_text, environment_text, reference_text, shell_text,
-    submodel_text,
+    asset_text, concept_text, element_text, environment_text, is_asset_text, is_concept_text,
+    is_element_text, is_environment_text, is_reference_text, is_shell_text, is_submodel_text,
+    reference_text, shell_text, submodel_text,
 };
 use aas_model::{
     AssetInformation, Boxed, Concept, Element, Environment, Many, NoMemory, Path, ReadFault,
@@ -55,6 +58,18 @@ pub(crate) trait Tree: Drop + Sized {
     /// The levels that are left for one at a level. Only an element stands at one.
     ghost left: { ℕ → Levels };
 
+    /// A tree whose canonical text the bytes may be, if one is found without a JSON value. It may be any.
+    fn guess(alloc: Global, bytes: &[u8], level: u32) -> Result<Option<Self>, NoMemory>;
+
+    /// Whether the tree is whole at a level.
+    fn is_whole_at(&self, level: u32) -> bool
+        ensures { OnTrue result (trees.IsWhole (left level) self.now) };
+
+    /// Whether the bytes are its canonical text. Where it says so, they are.
+    fn has_text(&self, bytes: &[u8]) -> bool
+        ensures text { OnTrue result (bytes.now ≡ canonical_text trees self.now) }
+        ensures utf8 { OnTrue result (IsUtf8 bytes.now) };
+
     /// The tree whose canonical text the bytes are; where they are none, any tree or any fault.
     fn read(alloc: Global, bytes: &[u8], level: u32) -> Result<Self, ReadFault>
         requires { 1 ≤ level }
@@ -69,6 +84,24 @@ pub(crate) trait Tree: Drop + Sized {
         ensures utf8 { IfOk result (λ text. IsUtf8 text.items) };
 }
 
+/// The tree, for a place at a level, whose canonical text the bytes are, where one is found without a JSON value.
+fn find_tree<T: Tree>(alloc: Global, bytes: &[u8], level: u32) -> Result<Option<T>, NoMemory>
+    ensures { IfOk result (λ found. IfSome found
+        (λ tree. T.trees.IsWhole (T.left level) tree × IsCanonical T.trees (T.left level) bytes.now
+        × (bytes.now ≡ canonical_text T.trees tree))) }
+{
+    let Some(tree) = <T as Tree>::guess(alloc, bytes, level)? else {
+        return Ok(None);
+    };
+    if !tree.is_whole_at(level) {
+        return Ok(None);
+    }
+    if !tree.has_text(bytes) {
+        return Ok(None);
+    }
+    Ok(Some(tree))
+}
+
 /// The tree, for a place at a level, whose canonical text the bytes are, if there is one.
 pub(crate) fn read_tree<T: Tree>(
     alloc: Global,
@@ -81,6 +114,9 @@ pub(crate) fn read_tree<T: Tree>(
         (λ tree. T.trees.IsWhole (T.left level) tree × IsCanonical T.trees (T.left level) bytes.now
         × (bytes.now ≡ canonical_text T.trees tree))) }
 {
+    if let Some(tree) = find_tree(alloc, bytes, level)? {
+        return Ok(Some(tree));
+    }
     let tree = match <T as Tree>::read(alloc, bytes, level) {
         Ok(tree) => tree,
         Err(ReadFault::NotJson) => return Ok(None),
@@ -196,6 +232,21 @@ impl<T: Tree> Tree for Boxed<T> {
 
     ghost left = { T.left };
 
+    fn guess(alloc: Global, bytes: &[u8], level: u32) -> Result<Option<Boxed<T>>, NoMemory> {
+        match <T as Tree>::guess(alloc, bytes, level)? {
+            Some(tree) => Ok(Some(Boxed::new(alloc, tree)?)),
+            None => Ok(None),
+        }
+    }
+
+    fn is_whole_at(&self, level: u32) -> bool {
+        self.get().is_whole_at(level)
+    }
+
+    fn has_text(&self, bytes: &[u8]) -> bool {
+        self.get().has_text(bytes)
+    }
+
     fn read(alloc: Global, bytes: &[u8], level: u32) -> Result<Boxed<T>, ReadFault> {
         match <T as Tree>::read(alloc, bytes, level) {
             Ok(tree) => match Boxed::new(alloc, tree) {
@@ -216,6 +267,18 @@ impl Tree for Shell {
 
     ghost left = { λ _. limits };
 
+    fn guess(alloc: Global, bytes: &[u8], _level: u32) -> Result<Option<Shell>, NoMemory> {
+        aas_canonical_read::read_shell(alloc, bytes)
+    }
+
+    fn is_whole_at(&self, _level: u32) -> bool {
+        self.is_whole()
+    }
+
+    fn has_text(&self, bytes: &[u8]) -> bool {
+        is_shell_text(self, bytes)
+    }
+
     fn read(alloc: Global, bytes: &[u8], _level: u32) -> Result<Shell, ReadFault> {
         read_shell(alloc, bytes)
     }
@@ -229,6 +292,18 @@ impl Tree for Submodel {
     ghost trees = { submodels };
 
     ghost left = { λ _. limits };
+
+    fn guess(alloc: Global, bytes: &[u8], _level: u32) -> Result<Option<Submodel>, NoMemory> {
+        aas_canonical_read::read_submodel(alloc, bytes)
+    }
+
+    fn is_whole_at(&self, _level: u32) -> bool {
+        self.is_whole()
+    }
+
+    fn has_text(&self, bytes: &[u8]) -> bool {
+        is_submodel_text(self, bytes)
+    }
 
     fn read(alloc: Global, bytes: &[u8], _level: u32) -> Result<Submodel, ReadFault> {
         read_submodel(alloc, bytes)
@@ -244,6 +319,18 @@ impl Tree for Concept {
 
     ghost left = { λ _. limits };
 
+    fn guess(alloc: Global, bytes: &[u8], _level: u32) -> Result<Option<Concept>, NoMemory> {
+        aas_canonical_read::read_concept(alloc, bytes)
+    }
+
+    fn is_whole_at(&self, _level: u32) -> bool {
+        self.is_whole()
+    }
+
+    fn has_text(&self, bytes: &[u8]) -> bool {
+        is_concept_text(self, bytes)
+    }
+
     fn read(alloc: Global, bytes: &[u8], _level: u32) -> Result<Concept, ReadFault> {
         read_concept(alloc, bytes)
     }
@@ -257,6 +344,18 @@ impl Tree for Environment {
     ghost trees = { environments };
 
     ghost left = { λ _. limits };
+
+    fn guess(alloc: Global, bytes: &[u8], _level: u32) -> Result<Option<Environment>, NoMemory> {
+        aas_canonical_read::read_environment(alloc, bytes)
+    }
+
+    fn is_whole_at(&self, _level: u32) -> bool {
+        self.is_whole()
+    }
+
+    fn has_text(&self, bytes: &[u8]) -> bool {
+        is_environment_text(self, bytes)
+    }
 
     fn read(alloc: Global, bytes: &[u8], _level: u32) -> Result<Environment, ReadFault> {
         read_environment(alloc, bytes)
@@ -272,6 +371,22 @@ impl Tree for AssetInformation {
 
     ghost left = { λ _. limits };
 
+    fn guess(
+        alloc: Global,
+        bytes: &[u8],
+        _level: u32,
+    ) -> Result<Option<AssetInformation>, NoMemory> {
+        aas_canonical_read::read_asset_information(alloc, bytes)
+    }
+
+    fn is_whole_at(&self, _level: u32) -> bool {
+        self.is_whole()
+    }
+
+    fn has_text(&self, bytes: &[u8]) -> bool {
+        is_asset_text(self, bytes)
+    }
+
     fn read(alloc: Global, bytes: &[u8], _level: u32) -> Result<AssetInformation, ReadFault> {
         read_asset_information(alloc, bytes)
     }
@@ -285,6 +400,18 @@ impl Tree for Reference {
     ghost trees = { references };
 
     ghost left = { λ _. limits };
+
+    fn guess(alloc: Global, bytes: &[u8], _level: u32) -> Result<Option<Reference>, NoMemory> {
+        aas_canonical_read::read_reference(alloc, bytes)
+    }
+
+    fn is_whole_at(&self, _level: u32) -> bool {
+        self.is_whole()
+    }
+
+    fn has_text(&self, bytes: &[u8]) -> bool {
+        is_reference_text(self, bytes)
+    }
 
     fn read(alloc: Global, bytes: &[u8], _level: u32) -> Result<Reference, ReadFault> {
         let value = read_value(alloc, bytes)?;
@@ -300,6 +427,18 @@ impl Tree for Element {
     ghost trees = { elements };
 
     ghost left = { at_level };
+
+    fn guess(alloc: Global, bytes: &[u8], level: u32) -> Result<Option<Element>, NoMemory> {
+        aas_canonical_read::read_element(alloc, bytes, level)
+    }
+
+    fn is_whole_at(&self, level: u32) -> bool {
+        is_whole_element(self, level)
+    }
+
+    fn has_text(&self, bytes: &[u8]) -> bool {
+        is_element_text(self, bytes)
+    }
 
     fn read(alloc: Global, bytes: &[u8], level: u32) -> Result<Element, ReadFault> {
         read_element(alloc, bytes, level)

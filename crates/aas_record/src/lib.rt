@@ -5,6 +5,9 @@
 //! written belong to `aas_command`; the journal that keeps payloads, and what a command comes to, belong to other
 //! crates.
 //!
+//! A document or an element is first read along its canonical text, with no JSON value, and taken where it is whole and
+//! its text is that of the field. Where none is found so, the field is read as JSON, and its text is made and compared.
+//!
 //! Proved: a payload is read as the command whose payload it is, or it is that of none, and this is the exact
 //! place where it goes wrong; a payload is that of one command alone, so what `encode` wrote is read as the
 //! command that was written. By the contract of `decode`; `payloads_read_back`, `records_are_of_one_command`,

@@ -1,0 +1,3 @@
+pub mod KeptData
+pub mod Nesting
+pub mod Within
