@@ -23,12 +23,13 @@ use crate::status::Status;
 use aas_command::EncodeFault;
 use aas_environment::{exports_come_back, import_frame};
 use aas_journal::{CheckpointFault, Journal, have_one_list};
+use aas_model::NoMemory;
 use aas_outside::{Frame, Keeper, Link};
 use aas_outside_disk::Disk;
 use aas_repo_replay::payloads_replay_to_one_state;
 use aas_store::Store;
 use itoa::Buffer;
-use std::alloc::{AllocError, Global};
+use std::alloc::Global;
 
 /// The bytes of the file besides the payload: the header, the gate, the length and the closed gate.
 const BYTES_BESIDES: u64 = 14;
@@ -119,7 +120,7 @@ fn prepare<S: Store>(alloc: Global, store: &S) -> Result<Prepared, EncodeFault>
 }
 
 /// The line that says how many bytes the file has with a payload of this length.
-fn line_of(alloc: Global, length: u64) -> Result<Vec<u8>, AllocError>
+fn line_of(alloc: Global, length: u64) -> Result<Vec<u8>, NoMemory>
     requires { length < 2 ^ 32 }
     ensures { IfOk result (λ line. line.items ≡ size_line (length + 14)) }
 {
