@@ -1,5 +1,5 @@
 #!/usr/bin/env python3
-"""Time and memory of `aasd import`, `export` and `checkpoint` over growing files, and time of `aasd conform`.
+"""Time and memory of `aasd import`, `export` and `checkpoint` over growing files, and of opening a large journal; time of `aasd conform`.
 
 A file is an environment in its canonical text: one submodel with so many properties, or so many small submodels. It is imported into a new folder, and
 exported and made a checkpoint of in a folder that has it. Each run opens the journal first; the record of an import is read back by the next command, so
@@ -34,6 +34,8 @@ CREATED = 100_000
 # How many properties a template has, and a submodel that conforms to it; and in how many seconds it is to be told.
 WANTED, COMPARED = 1_000, 65_536
 LONGEST = 1
+# A large journal: so many imports, each of so many submodels of as many properties as a submodel may have.
+IMPORTS, SUBMODELS, PROPERTIES = 7, 7, 65_536
 # What a record of an import and the file around it have beside the text: the tag, its length, and header, gates and length.
 AROUND = 19
 
@@ -55,10 +57,16 @@ def listed(item, count):
         yield (',' if number else '') + item(number)
 
 
-def one_submodel(count):
-    yield '{"submodels":[{"id":"https://example.com/submodels/0","modelType":"Submodel","submodelElements":['
+def large_submodel(number, count):
+    yield f'{{"id":"https://example.com/submodels/{number}","modelType":"Submodel","submodelElements":['
     yield from listed(property_text, count)
-    yield ']}]}'
+    yield ']}'
+
+
+def one_submodel(count):
+    yield '{"submodels":['
+    yield from large_submodel(0, count)
+    yield ']}'
 
 
 def small_submodels(count):
@@ -185,6 +193,37 @@ def created_in_any_order(options):
     return took
 
 
+def opened_large(options):
+    """The bytes of a large journal, the seconds that the program runs to open it, and its peak memory then."""
+    name = base64.urlsafe_b64encode(f'https://example.com/submodels/{IMPORTS * SUBMODELS - 1}'.encode()).decode()
+    request = f'GET /submodels/{name}/submodel-elements/P{PROPERTIES - 1}/$value HTTP/1.1\r\n\r\n'
+    with tempfile.TemporaryDirectory(dir=FOLDER) as folder:
+        subprocess.run([options.program, 'init'], cwd=folder, stdout=subprocess.DEVNULL, check=True)
+        for first in range(0, IMPORTS * SUBMODELS, SUBMODELS):
+            with open(os.path.join(folder, 'given'), 'w+b') as given:
+                pieces = (''.join(large_submodel(number, PROPERTIES)) for number in range(first, first + SUBMODELS))
+                given.write(b'{"submodels":[')
+                given.writelines((b',' if place else b'') + piece.encode() for place, piece in enumerate(pieces))
+                given.write(b']}')
+                given.seek(0)
+                subprocess.run([options.program, 'import'], cwd=folder, stdin=given, stdout=subprocess.DEVNULL, check=True)
+        size, most = os.path.getsize(os.path.join(folder, 'aas.journal')), 0
+        with open(os.path.join(folder, 'given'), 'w+b') as given, open(os.path.join(folder, 'printed'), 'w+b') as printed:
+            given.write(request.encode())
+            given.seek(0)
+            process = subprocess.Popen([options.program, 'pipe'], cwd=folder, stdin=given, stdout=printed)
+            ended = 0
+            while not ended:
+                most = max(most, memory(process.pid))
+                time.sleep(0.001)
+                ended, status, used = os.wait4(process.pid, os.WNOHANG)
+            process.returncode = os.WEXITSTATUS(status) if os.WIFEXITED(status) else -os.WTERMSIG(status)
+            printed.seek(0)
+            if process.returncode != 0 or not printed.read().startswith(b'HTTP/1.1 200 OK\r\n'):
+                sys.exit('the large journal was not opened')
+    return size, used.ru_utime + used.ru_stime, most
+
+
 def template_property_text(number):
     cardinality = '{"type":"SMT/Cardinality","value":"OneToMany","valueType":"xs:string"}'
     return f'{{"idShort":"P{number}","modelType":"Property","qualifiers":[{cardinality}],"valueType":"xs:int"}}'
@@ -250,6 +289,8 @@ def main():
             print(f'  grew for a byte {time_grew:.2f} times in time, {memory_grew:.2f} times in memory')
     created, opened = created_in_any_order(options)
     print(f'{CREATED} submodels created in an order of chance: {created / CREATED * 1e6:.1f} us run for each, and {opened:.2f} s to open their journal')
+    size, ran, most = opened_large(options)
+    print(f'a journal of {size} bytes opened: {ran:.2f} s run, {ran / size * 1e9:.1f} ns a byte, {most / 1e6:.0f} MB peak, {most / size:.1f} times the journal')
     passed, ran = conforming(options)
     print(f'conform, {COMPARED} properties and a template with {WANTED}: {passed * 1000:.1f} ms, {ran * 1000:.1f} of them run, without the replay')
     sys.exit(0 if good and passed < LONGEST else 1)
