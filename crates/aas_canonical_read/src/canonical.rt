@@ -37,24 +37,42 @@ pub(crate) fn read_list<T: Canonical>(source: &mut Source<'_>, key: &str) -> Man
     }
 }
 
+/// What stands between two brackets, or none where `or` is next: of things that are read one after another, with commas
+/// between.
+macro_rules! read_between {
+    ($source:ident, $open:literal, $close:literal, $read:expr) => {{
+        let mut items = Many::new($source.alloc());
+        $source.expect($open);
+        for _ in 0..$source.len() {
+            let Some(item) = $read else {
+                $source.stop();
+                break;
+            };
+            if items.push(item).is_err() {
+                $source.stop_for_memory();
+            }
+            if !$source.skip(",") {
+                break;
+            }
+        }
+        $source.expect($close);
+        items
+    }};
+    ($source:ident, $open:literal, $close:literal, $read:expr, or $none:literal) => {
+        if $source.skip($none) {
+            Many::new($source.alloc())
+        } else {
+            read_between!($source, $open, $close, $read)
+        }
+    };
+}
+
+pub(crate) use read_between;
+
 /// The items of an array that has some.
 #[inline(never)]
 fn read_items<T: Canonical>(source: &mut Source<'_>) -> Many<T> {
-    let mut items = Many::new(source.alloc());
-    source.expect("[");
-    for _ in 0..source.len() {
-        let Some(item) = source.read() else {
-            break;
-        };
-        if items.push(item).is_err() {
-            source.stop_for_memory();
-        }
-        if !source.skip(",") {
-            break;
-        }
-    }
-    source.expect("]");
-    items
+    read_between!(source, "[", "]", source.read())
 }
 
 /// The value of an enumeration that the member of a key names, where it is next.

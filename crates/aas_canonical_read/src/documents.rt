@@ -8,11 +8,7 @@ use aas_model::{
     Administration, Concept, Environment, Head, Many, Role, Semantics, Shell, Submodel, Text,
 };
 
-const SUBMODEL_ELEMENTS: Place = Place {
-    key: key::SUBMODEL_ELEMENTS,
-    role: Role::Member,
-    is_variable: false,
-};
+const SUBMODEL_ELEMENTS: Place = Place(key::SUBMODEL_ELEMENTS, Role::Member);
 
 /// What all documents have, of which these members are read and those from `description` to `idShort` are next.
 fn read_head(
@@ -20,22 +16,23 @@ fn read_head(
     administration: Option<Administration>,
     category: Option<Text>,
 ) -> Option<Head> {
-    let description = read_list(source, key::DESCRIPTION);
-    let display_name = read_list(source, key::DISPLAY_NAME);
-    let embedded_data_specifications = read_list(source, key::EMBEDDED_DATA_SPECIFICATIONS);
-    let extensions = read_list(source, key::EXTENSIONS);
-    let id = read_member(source, key::ID)?;
-    let id_short = read_member(source, key::ID_SHORT);
     Some(Head {
-        id,
         administration,
-        id_short,
         category,
-        description,
-        display_name,
-        extensions,
-        embedded_data_specifications,
+        description: read_list(source, key::DESCRIPTION),
+        display_name: read_list(source, key::DISPLAY_NAME),
+        embedded_data_specifications: read_list(source, key::EMBEDDED_DATA_SPECIFICATIONS),
+        extensions: read_list(source, key::EXTENSIONS),
+        id: read_member(source, key::ID)?,
+        id_short: read_member(source, key::ID_SHORT),
     })
+}
+
+/// The same, of which all is next: none of a document's own members stands between.
+fn read_undivided_head(source: &mut Source<'_>) -> Option<Head> {
+    let administration = read_member(source, key::ADMINISTRATION);
+    let category = read_member(source, key::CATEGORY);
+    read_head(source, administration, category)
 }
 
 impl Canonical for Shell {
@@ -59,9 +56,7 @@ impl Canonical for Shell {
 
 impl Canonical for Concept {
     fn read(source: &mut Source<'_>) -> Option<Concept> {
-        let administration = read_member(source, key::ADMINISTRATION);
-        let category = read_member(source, key::CATEGORY);
-        let head = read_head(source, administration, category)?;
+        let head = read_undivided_head(source)?;
         let is_case_of = read_list(source, key::IS_CASE_OF);
         source.skip_model_type();
         source.end_object();
@@ -71,9 +66,7 @@ impl Canonical for Concept {
 
 impl Canonical for Submodel {
     fn read(source: &mut Source<'_>) -> Option<Submodel> {
-        let administration = read_member(source, key::ADMINISTRATION);
-        let category = read_member(source, key::CATEGORY);
-        let head = read_head(source, administration, category)?;
+        let head = read_undivided_head(source)?;
         let kind = read_word(source, key::KIND);
         source.skip_model_type();
         let qualifiers = read_list(source, key::QUALIFIERS);
@@ -96,14 +89,12 @@ impl Canonical for Submodel {
 
 impl Canonical for Environment {
     fn read(source: &mut Source<'_>) -> Option<Environment> {
-        let shells = read_list(source, key::ASSET_ADMINISTRATION_SHELLS);
-        let concepts = read_list(source, key::CONCEPT_DESCRIPTIONS);
-        let submodels = read_list(source, key::SUBMODELS);
+        let environment = Environment {
+            shells: read_list(source, key::ASSET_ADMINISTRATION_SHELLS),
+            concepts: read_list(source, key::CONCEPT_DESCRIPTIONS),
+            submodels: read_list(source, key::SUBMODELS),
+        };
         source.end_any_object();
-        Some(Environment {
-            shells,
-            submodels,
-            concepts,
-        })
+        Some(environment)
     }
 }

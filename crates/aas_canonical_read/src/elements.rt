@@ -10,49 +10,21 @@ use aas_json_write_members::key;
 use aas_model::{Common, Element, Kind, Many, Payload, Role, Semantics};
 use std::alloc::Global;
 
-/// A member whose items are children: its key, the role of each, and whether each is the value of a variable.
+/// A member whose items are children: its key, and the role of each.
 #[derive(Clone, Copy)]
-pub(crate) struct Place {
-    pub(crate) key: &'static str,
-    pub(crate) role: Role,
-    pub(crate) is_variable: bool,
-}
+pub(crate) struct Place(pub(crate) &'static str, pub(crate) Role);
 
-const ANNOTATIONS: Place = Place {
-    key: ",\"annotations\":",
-    role: Role::Annotation,
-    is_variable: false,
-};
+const ANNOTATIONS: Place = Place(",\"annotations\":", Role::Annotation);
 
-const INOUTPUT: Place = Place {
-    key: ",\"inoutputVariables\":",
-    role: Role::Inoutput,
-    is_variable: true,
-};
+const INOUTPUT: Place = Place(",\"inoutputVariables\":", Role::Inoutput);
 
-const INPUT: Place = Place {
-    key: ",\"inputVariables\":",
-    role: Role::Input,
-    is_variable: true,
-};
+const INPUT: Place = Place(",\"inputVariables\":", Role::Input);
 
-const OUTPUT: Place = Place {
-    key: ",\"outputVariables\":",
-    role: Role::Output,
-    is_variable: true,
-};
+const OUTPUT: Place = Place(",\"outputVariables\":", Role::Output);
 
-const STATEMENTS: Place = Place {
-    key: ",\"statements\":",
-    role: Role::Statement,
-    is_variable: false,
-};
+const STATEMENTS: Place = Place(",\"statements\":", Role::Statement);
 
-const MEMBERS: Place = Place {
-    key: key::VALUE,
-    role: Role::Member,
-    is_variable: false,
-};
+const MEMBERS: Place = Place(key::VALUE, Role::Member);
 
 /// An element in a role that has nothing yet. It is filled where it stands, since elements are large.
 pub(crate) fn empty_element(alloc: Global, role: Role) -> Element {
@@ -94,22 +66,21 @@ pub(crate) fn read_element(
     Some(())
 }
 
-/// The children in a place, if this is next, for which so many levels are left.
+/// The children in a place, if this is next, for which so many levels are left. Variables have theirs as their value.
 #[cycle(element)]
 pub(crate) fn read_children(source: &mut Source<'_>, place: Place, left: u32) -> Vec<Element> {
+    let Place(key, role) = place;
     let mut children = Vec::new(source.alloc());
-    if !source.skip_key(place.key) {
+    if !source.skip_key(key) {
         return children;
     }
+    let is_variable = matches!(role, Role::Input | Role::Output | Role::Inoutput);
     source.expect("[");
     for _ in 0..source.len() {
-        if children
-            .push(empty_element(source.alloc(), place.role))
-            .is_err()
-        {
+        if children.push(empty_element(source.alloc(), role)).is_err() {
             source.stop_for_memory();
         }
-        if place.is_variable {
+        if is_variable {
             source.expect("{\"value\":");
         }
         let Some(child) = children.last_mut() else {
@@ -118,7 +89,7 @@ pub(crate) fn read_children(source: &mut Source<'_>, place: Place, left: u32) ->
         if read_element(source, child, left).is_none() {
             source.stop();
         }
-        if place.is_variable {
+        if is_variable {
             source.end_object();
         }
         if !source.skip(",") {

@@ -1,5 +1,5 @@
 // Kept data, as it is.
-use crate::canonical::Canonical;
+use crate::canonical::{Canonical, read_between};
 use crate::source::Source;
 use aas_json_table::too_deep::Levels;
 use aas_model::{Many, Plain, PlainPair};
@@ -29,49 +29,13 @@ fn read_plain(source: &mut Source<'_>, left: u32) -> Option<Plain> {
 /// The items of an array.
 #[cycle(plain)]
 fn read_plains(source: &mut Source<'_>, left: u32) -> Many<Plain> {
-    let mut items = Many::new(source.alloc());
-    if source.skip("[]") {
-        return items;
-    }
-    source.expect("[");
-    for _ in 0..source.len() {
-        let Some(item) = read_plain(source, left) else {
-            source.stop();
-            break;
-        };
-        if items.push(item).is_err() {
-            source.stop_for_memory();
-        }
-        if !source.skip(",") {
-            break;
-        }
-    }
-    source.expect("]");
-    items
+    read_between!(source, "[", "]", read_plain(source, left), or "[]")
 }
 
 /// The members of an object.
 #[cycle(plain)]
 fn read_pairs(source: &mut Source<'_>, left: u32) -> Many<PlainPair> {
-    let mut pairs = Many::new(source.alloc());
-    if source.skip("{}") {
-        return pairs;
-    }
-    source.expect("{");
-    for _ in 0..source.len() {
-        let Some(pair) = read_pair(source, left) else {
-            source.stop();
-            break;
-        };
-        if pairs.push(pair).is_err() {
-            source.stop_for_memory();
-        }
-        if !source.skip(",") {
-            break;
-        }
-    }
-    source.expect("}");
-    pairs
+    read_between!(source, "{", "}", read_pair(source, left), or "{}")
 }
 
 #[cycle(plain)]

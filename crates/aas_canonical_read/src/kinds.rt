@@ -8,13 +8,10 @@ use aas_model::{Element, Kind, Payload, Reference, Text};
 /// The members of a Property behind `modelType`.
 pub(crate) fn read_property(source: &mut Source<'_>, element: &mut Element) -> Option<()> {
     read_meaning(source, &mut element.common);
-    let value = read_member(source, key::VALUE);
-    let value_id = read_member(source, key::VALUE_ID);
-    let value_type = read_word(source, key::VALUE_TYPE)?;
     element.payload = Payload::Property {
-        value_type,
-        value,
-        value_id,
+        value: read_member(source, key::VALUE),
+        value_id: read_member(source, key::VALUE_ID),
+        value_type: read_word(source, key::VALUE_TYPE)?,
     };
     Some(())
 }
@@ -25,9 +22,10 @@ pub(crate) fn read_multi_language_property(
     element: &mut Element,
 ) -> Option<()> {
     read_meaning(source, &mut element.common);
-    let value = read_list(source, key::VALUE);
-    let value_id = read_member(source, key::VALUE_ID);
-    element.payload = Payload::MultiLanguageProperty { value, value_id };
+    element.payload = Payload::MultiLanguageProperty {
+        value: read_list(source, key::VALUE),
+        value_id: read_member(source, key::VALUE_ID),
+    };
     Some(())
 }
 
@@ -47,9 +45,8 @@ pub(crate) fn read_range(
     max: Option<Text>,
 ) -> Option<()> {
     read_meaning(source, &mut element.common);
-    let value_type = read_word(source, key::VALUE_TYPE)?;
     element.payload = Payload::Range {
-        value_type,
+        value_type: read_word(source, key::VALUE_TYPE)?,
         min,
         max,
     };

@@ -9,10 +9,12 @@ use aas_model::{
 
 impl Canonical for LangText {
     fn read(source: &mut Source<'_>) -> Option<LangText> {
-        let language = read_member(source, key::LANGUAGE)?;
-        let text = read_member(source, key::TEXT)?;
+        let lang_text = LangText {
+            language: read_member(source, key::LANGUAGE)?,
+            text: read_member(source, key::TEXT)?,
+        };
         source.end_object();
-        Some(LangText { language, text })
+        Some(lang_text)
     }
 }
 
@@ -28,99 +30,81 @@ fn read_semantics(source: &mut Source<'_>) -> Semantics {
 
 impl Canonical for Extension {
     fn read(source: &mut Source<'_>) -> Option<Extension> {
-        let name = read_member(source, key::NAME)?;
-        let refers_to = read_list(source, key::REFERS_TO);
-        let semantics = read_semantics(source);
-        let value = read_member(source, key::VALUE);
-        let value_type = read_word(source, key::VALUE_TYPE);
+        let extension = Extension {
+            name: read_member(source, key::NAME)?,
+            refers_to: read_list(source, key::REFERS_TO),
+            semantics: read_semantics(source),
+            value: read_member(source, key::VALUE),
+            value_type: read_word(source, key::VALUE_TYPE),
+        };
         source.end_object();
-        Some(Extension {
-            name,
-            value_type,
-            value,
-            refers_to,
-            semantics,
-        })
+        Some(extension)
     }
 }
 
 impl Canonical for Qualifier {
     fn read(source: &mut Source<'_>) -> Option<Qualifier> {
-        let kind = read_word(source, key::KIND);
-        let semantics = read_semantics(source);
-        let qualifier_type = read_member(source, key::TYPE)?;
-        let value = read_member(source, key::VALUE);
-        let value_id = read_member(source, key::VALUE_ID);
-        let value_type = read_word(source, key::VALUE_TYPE)?;
+        let qualifier = Qualifier {
+            kind: read_word(source, key::KIND),
+            semantics: read_semantics(source),
+            qualifier_type: read_member(source, key::TYPE)?,
+            value: read_member(source, key::VALUE),
+            value_id: read_member(source, key::VALUE_ID),
+            value_type: read_word(source, key::VALUE_TYPE)?,
+        };
         source.end_object();
-        Some(Qualifier {
-            kind,
-            qualifier_type,
-            value_type,
-            value,
-            value_id,
-            semantics,
-        })
+        Some(qualifier)
     }
 }
 
 impl Canonical for SpecificAssetId {
     fn read(source: &mut Source<'_>) -> Option<SpecificAssetId> {
-        let external_subject_id = read_member(source, key::EXTERNAL_SUBJECT_ID);
-        let name = read_member(source, key::NAME)?;
-        let semantics = read_semantics(source);
-        let value = read_member(source, key::VALUE)?;
+        let specific_asset_id = SpecificAssetId {
+            external_subject_id: read_member(source, key::EXTERNAL_SUBJECT_ID),
+            name: read_member(source, key::NAME)?,
+            semantics: read_semantics(source),
+            value: read_member(source, key::VALUE)?,
+        };
         source.end_object();
-        Some(SpecificAssetId {
-            name,
-            value,
-            external_subject_id,
-            semantics,
-        })
+        Some(specific_asset_id)
     }
 }
 
 impl Canonical for Administration {
     fn read(source: &mut Source<'_>) -> Option<Administration> {
-        let creator = read_member(source, key::CREATOR);
-        let embedded_data_specifications = read_list(source, key::EMBEDDED_DATA_SPECIFICATIONS);
-        let revision = read_member(source, key::REVISION);
-        let template_id = read_member(source, key::TEMPLATE_ID);
-        let version = read_member(source, key::VERSION);
+        let administration = Administration {
+            creator: read_member(source, key::CREATOR),
+            embedded_data_specifications: read_list(source, key::EMBEDDED_DATA_SPECIFICATIONS),
+            revision: read_member(source, key::REVISION),
+            template_id: read_member(source, key::TEMPLATE_ID),
+            version: read_member(source, key::VERSION),
+        };
         source.end_any_object();
-        Some(Administration {
-            version,
-            revision,
-            creator,
-            template_id,
-            embedded_data_specifications,
-        })
+        Some(administration)
     }
 }
 
 impl Canonical for Resource {
     fn read(source: &mut Source<'_>) -> Option<Resource> {
-        let content_type = read_member(source, key::CONTENT_TYPE);
-        let path = read_member(source, key::PATH)?;
+        let resource = Resource {
+            content_type: read_member(source, key::CONTENT_TYPE),
+            path: read_member(source, key::PATH)?,
+        };
         source.end_object();
-        Some(Resource { path, content_type })
+        Some(resource)
     }
 }
 
 impl Canonical for AssetInformation {
     fn read(source: &mut Source<'_>) -> Option<AssetInformation> {
-        let asset_kind = read_word(source, key::ASSET_KIND)?;
-        let asset_type = read_member(source, key::ASSET_TYPE);
-        let default_thumbnail = read_member(source, key::DEFAULT_THUMBNAIL);
-        let global_asset_id = read_member(source, key::GLOBAL_ASSET_ID);
-        let specific_asset_ids = read_list(source, key::SPECIFIC_ASSET_IDS);
+        let asset_information = AssetInformation {
+            asset_kind: read_word(source, key::ASSET_KIND)?,
+            asset_type: read_member(source, key::ASSET_TYPE),
+            default_thumbnail: read_member(source, key::DEFAULT_THUMBNAIL),
+            global_asset_id: read_member(source, key::GLOBAL_ASSET_ID),
+            specific_asset_ids: read_list(source, key::SPECIFIC_ASSET_IDS),
+        };
         source.end_object();
-        Some(AssetInformation {
-            asset_kind,
-            global_asset_id,
-            specific_asset_ids,
-            asset_type,
-            default_thumbnail,
-        })
+        Some(asset_information)
     }
 }

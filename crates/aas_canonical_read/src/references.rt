@@ -7,10 +7,12 @@ use aas_model::{Boxed, Key, NoMemory, Reference};
 
 impl Canonical for Key {
     fn read(source: &mut Source<'_>) -> Option<Key> {
-        let key_type = read_word(source, key::TYPE)?;
-        let value = read_member(source, key::VALUE)?;
+        let key = Key {
+            key_type: read_word(source, key::TYPE)?,
+            value: read_member(source, key::VALUE)?,
+        };
         source.end_object();
-        Some(Key { key_type, value })
+        Some(key)
     }
 }
 

@@ -83,33 +83,29 @@ module _ {S : Type 0} {g : _} where
   not_parting : (parting : Parted S g) (client : Client S g) → ◌≡◌ {A = Place S g} (Parting parting) (Open client) → ⊥
   not_parting parting client e = cc
 
+  -- where no client lies, none is opened, joins the line or is visited
+  moves_away : (old new : Place S g) (next next_now : ℕ) → is_open new ≡ false → is_large new ≡ false
+      → turn_of new ≡ None → ((client : Client S g) → new ≡ Open client → ⊥) → next ≤ next_now
+      → Moves old new next next_now
+  moves_away old new next next_now closed small waits none rises = record {
+    changes = record {
+      opens = λ is. absurd (let e : false ≡ true = sym closed ∙ is in cc);
+      counts = λ is. absurd (let e : false ≡ true = sym closed ∙ is in cc);
+      rises = rises;
+      stays = λ n at is. absurd (let e : false ≡ true = sym closed ∙ is in cc);
+      line = λ n is. absurd (none-some n (sym waits ∙ is));
+      visited = λ (client, is, turn). absurd (none client is);
+      stood = λ client is. absurd (none client is);
+    };
+    large = λ is. absurd (let e : false ≡ true = sym small ∙ is in cc);
+  }
+
   pub moves_closed : (old new : Place S g) (next next_now : ℕ)
       → is_open new ≡ false → next ≤ next_now → Moves old new next next_now
   moves_closed old (Open client) next next_now closed rises = absurd (let e : true ≡ false = closed in cc)
-  moves_closed old Free next next_now closed rises = record {
-    changes = record {
-      opens = λ is. absurd (let e : false ≡ true = is in cc);
-      counts = λ is. absurd (let e : false ≡ true = is in cc);
-      rises = rises;
-      stays = λ n at is. absurd (let e : false ≡ true = is in cc);
-      line = λ n is. absurd (none-some n is);
-      visited = λ (client, is, turn). absurd (not_free client is);
-      stood = λ client is. absurd (not_free client is);
-    };
-    large = λ is. absurd (let e : false ≡ true = is in cc);
-  }
-  moves_closed old (Parting parting) next next_now closed rises = record {
-    changes = record {
-      opens = λ is. absurd (let e : false ≡ true = is in cc);
-      counts = λ is. absurd (let e : false ≡ true = is in cc);
-      rises = rises;
-      stays = λ n at is. absurd (let e : false ≡ true = is in cc);
-      line = λ n is. absurd (none-some n is);
-      visited = λ (client, is, turn). absurd (not_parting _ client is);
-      stood = λ client is. absurd (not_parting _ client is);
-    };
-    large = λ is. absurd (let e : false ≡ true = is in cc);
-  }
+  moves_closed old Free next next_now closed rises = moves_away old Free next next_now refl refl refl not_free rises
+  moves_closed old (Parting parting) next next_now closed rises =
+      moves_away old (Parting parting) next next_now refl refl refl (not_parting parting) rises
 
   changes_open : (client client_now : Client S g) (next next_now : ℕ)
       → (client_now.requests ≡ client.requests) × (client_now.handed ≡ client.handed)
@@ -307,6 +303,12 @@ module _ {S : Type 0} {g : _} where
   pub at_place : (places : List (Place S g)) (k size : ℕ) (place : Place S g)
       → size ≡ length places → k < size → place ≡ slice_index_or places k place → slice_get places k ≡ Some place
   at_place places k size place all within is = slice_get_read places size k place all within is
+
+  -- the same, and that there is such a place
+  pub lies_at : (places : List (Place S g)) (k size : ℕ) (place : Place S g)
+      → size ≡ length places → k < size → place ≡ slice_index_or places k place
+      → (k < length places) × (slice_get places k ≡ Some place)
+  lies_at places k size place all within is = (omega (arith, all, within), at_place places k size place all within is)
 
   pub stood_at : (places : List (Place S g)) (k next : ℕ) (present : Option ℕ) (place : Place S g)
       → slice_get places k ≡ Some place → AreRight places next present → HasStoodHere place

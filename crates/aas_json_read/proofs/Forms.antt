@@ -30,51 +30,15 @@ all_shown k = referable ++ (has_semantics ++ (qualifiable ++ shown_rows k))
 
 sorted_shown : (k : Kind) → sorted (all_shown k) ≡ shown (sorted (rows_for (name_of k)))
 sorted_shown kind.Property = refl
-sorted_shown kind.MultiLanguageProperty = refl
-sorted_shown kind.Range = refl
-sorted_shown kind.File = refl
-sorted_shown kind.Blob = refl
-sorted_shown kind.ReferenceElement = refl
-sorted_shown kind.RelationshipElement = refl
-sorted_shown kind.AnnotatedRelationshipElement = refl
-sorted_shown kind.Entity = refl
-sorted_shown kind.BasicEventElement = refl
-sorted_shown kind.Capability = refl
-sorted_shown kind.Operation = refl
-sorted_shown kind.SubmodelElementCollection = refl
-sorted_shown kind.SubmodelElementList = refl
+sorted_shown k = refl
 
 shown_rise : (k : Kind) → rising (sorted (shown_rows k)) ≡ true
 shown_rise kind.Property = refl
-shown_rise kind.MultiLanguageProperty = refl
-shown_rise kind.Range = refl
-shown_rise kind.File = refl
-shown_rise kind.Blob = refl
-shown_rise kind.ReferenceElement = refl
-shown_rise kind.RelationshipElement = refl
-shown_rise kind.AnnotatedRelationshipElement = refl
-shown_rise kind.Entity = refl
-shown_rise kind.BasicEventElement = refl
-shown_rise kind.Capability = refl
-shown_rise kind.Operation = refl
-shown_rise kind.SubmodelElementCollection = refl
-shown_rise kind.SubmodelElementList = refl
+shown_rise k = refl
 
 found_own : (find : List ℕ → MemberType → Option Data) (c : Common) (x : Payload) → Found (shown_rows (kind_of x)) (own_attributes x []) find → Found (shown_rows (kind_of x)) (element_attributes c x []) find
 found_own find e (p.Property t v i) own = record { agree = own.agree; there = own.there }
-found_own find e (p.MultiLanguageProperty v i) own = record { agree = own.agree; there = own.there }
-found_own find e (p.Range t min max) own = record { agree = own.agree; there = own.there }
-found_own find e (p.File t v) own = record { agree = own.agree; there = own.there }
-found_own find e (p.Blob t v) own = record { agree = own.agree; there = own.there }
-found_own find e (p.ReferenceElement v) own = record { agree = own.agree; there = own.there }
-found_own find e (p.RelationshipElement first second) own = record { agree = own.agree; there = own.there }
-found_own find e (p.AnnotatedRelationshipElement first second) own = record { agree = own.agree; there = own.there }
-found_own find e (p.Entity t g ids) own = record { agree = own.agree; there = own.there }
-found_own find e (p.BasicEventElement observed d s topic broker last min max) own = record { agree = own.agree; there = own.there }
-found_own find e p.Capability own = record { agree = own.agree; there = own.there }
-found_own find e p.Operation own = record { agree = own.agree; there = own.there }
-found_own find e p.SubmodelElementCollection own = record { agree = own.agree; there = own.there }
-found_own find e (p.SubmodelElementList o s t v) own = record { agree = own.agree; there = own.there }
+found_own find e x own = record { agree = own.agree; there = own.there }
 
 -- What is found spells the form.
 pub form_is : (find : List ℕ → MemberType → Option Data) (c : Common) (x : Payload) (k : Kind) → kind_of x ≡ k → without_values x ≡ x → FindsCommon find c

@@ -52,19 +52,7 @@ found_level find c (p.SubmodelElementList o s t v) kids f name own below = with_
 
 own_rise : (k : Kind) → rising (sorted (own_rows k)) ≡ true
 own_rise kind.Property = refl
-own_rise kind.MultiLanguageProperty = refl
-own_rise kind.Range = refl
-own_rise kind.File = refl
-own_rise kind.Blob = refl
-own_rise kind.ReferenceElement = refl
-own_rise kind.RelationshipElement = refl
-own_rise kind.AnnotatedRelationshipElement = refl
-own_rise kind.Entity = refl
-own_rise kind.BasicEventElement = refl
-own_rise kind.Capability = refl
-own_rise kind.Operation = refl
-own_rise kind.SubmodelElementCollection = refl
-own_rise kind.SubmodelElementList = refl
+own_rise k = refl
 
 -- What is found spells the element.
 pub element_is : (find : List ℕ → MemberType → Option Data) (r : Role) (c : Common) (x : Payload) (kids : List Element) (k : Kind) → kind_of x ≡ k → FindsCommon find c

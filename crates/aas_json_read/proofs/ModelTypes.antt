@@ -80,19 +80,7 @@ no_rows r ms e = sym (ap (option_map sorted) (unnamed (get_member (codes "modelT
 
 kind_rows : (k : Kind) → find (name_of k) (model_types element) ≡ Some (rows_for (name_of k))
 kind_rows kind.Property = refl
-kind_rows kind.MultiLanguageProperty = refl
-kind_rows kind.Range = refl
-kind_rows kind.File = refl
-kind_rows kind.Blob = refl
-kind_rows kind.ReferenceElement = refl
-kind_rows kind.RelationshipElement = refl
-kind_rows kind.AnnotatedRelationshipElement = refl
-kind_rows kind.Entity = refl
-kind_rows kind.BasicEventElement = refl
-kind_rows kind.Capability = refl
-kind_rows kind.Operation = refl
-kind_rows kind.SubmodelElementCollection = refl
-kind_rows kind.SubmodelElementList = refl
+kind_rows k = refl
 
 data_rows : (k : Kind) → is_data_element k ≡ true → find (name_of k) (model_types data_element) ≡ Some (rows_for (name_of k))
 data_rows kind.Property e = refl
@@ -110,14 +98,7 @@ no_data_rows kind.Range e = absurd (true≢false e)
 no_data_rows kind.File e = absurd (true≢false e)
 no_data_rows kind.Blob e = absurd (true≢false e)
 no_data_rows kind.ReferenceElement e = absurd (true≢false e)
-no_data_rows kind.RelationshipElement e = refl
-no_data_rows kind.AnnotatedRelationshipElement e = refl
-no_data_rows kind.Entity e = refl
-no_data_rows kind.BasicEventElement e = refl
-no_data_rows kind.Capability e = refl
-no_data_rows kind.Operation e = refl
-no_data_rows kind.SubmodelElementCollection e = refl
-no_data_rows kind.SubmodelElementList e = refl
+no_data_rows k e = refl
 
 -- where modelType names a kind that may have the role, its rows are those of the kind
 pub rows_are : (r : Role) (ms : Members) (k : Kind) → may_have k r ≡ true → Some (string (name_of k)) ≡ canonical_member ms (codes "modelType") (word names)

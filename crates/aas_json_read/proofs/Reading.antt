@@ -1,5 +1,6 @@
 -- From what a value says to the whole tree that it spells.
 use Rattle.std.proofs.Common.{◌≡◌, ℕ, List, Option, Some, None, Result, Ok, Err, refl}
+use Rattle.std.specs.Prelude.{⊤}
 use Rattle.serde_json.specs.Data.{Data}
 use Rattle.aas_json_table.specs.TooDeep.{Levels}
 use Rattle.aas_model.specs.declared.read_fault.ReadFault.{ReadFault}
@@ -7,8 +8,9 @@ use Rattle.aas_model.specs.declared.read_fault.ReadFault.TheVariants.{NotJson, N
 use Rattle.aas_json_spelling.specs.Values.{IsOrdered}
 use Rattle.aas_json_spelling.specs.Spells.{Trees}
 use Rattle.aas_json_spelling.specs.Reading.{reading}
-use Rattle.aas_json_spelling.specs.Reads.{Reads, ReadsIf, ReadsBytes}
-use Rattle.aas_json_spelling.proofs.Laws.{Laws, spells_said}
+use Rattle.aas_json_spelling.specs.Mapped.{AnyShape}
+use Rattle.aas_json_spelling.specs.Reads.{Reads, ReadsIf, ReadsBytes, ReadsEachOfBytes}
+use Rattle.aas_json_spelling.proofs.Laws.{Laws, spells_said, reads_each_of_bytes}
 use Rattle.aas_json_spelling.proofs.Reading.{reading_ordered}
 use Rattle.aas_json_read.specs.Shaped.{shaped}
 
@@ -27,3 +29,19 @@ module _ {A : Type 0} (trees : Trees A) (Shape : A → Type 0) (laws : Laws tree
       by_reading : (o : Option Data) → reading bytes ≡ o → ReadsIf (shaped trees.sort trees.spell Known) l result o → ReadsIf trees l result o
       by_reading None is r = r
       by_reading (Some j) is r = read_whole l result j (reading_ordered bytes j is) r
+
+-- where the shape is all that is known
+module _ {A : Type 0} (trees : Trees A) (Shape : A → Type 0) (laws : Laws trees Shape) where
+  pub reads_shaped : (l : Levels) (result : Result A ReadFault) (bytes : List ℕ) → ReadsBytes (shaped trees.sort trees.spell Shape) l result bytes → ReadsBytes trees l result bytes
+  reads_shaped l result bytes r = reads_whole trees Shape laws Shape (λ t s. s) l result bytes r
+
+  pub reads_each_shaped : (l : Levels) (result : Result A ReadFault) (bytes : List ℕ) → ReadsBytes (shaped trees.sort trees.spell Shape) l result bytes → ReadsEachOfBytes trees l result bytes
+  reads_each_shaped l result bytes r = reads_each_of_bytes trees Shape laws l result bytes (reads_shaped l result bytes r)
+
+-- where the spelling shows all of a tree
+module _ {A : Type 0} (trees : Trees A) (laws : Laws trees AnyShape) where
+  pub reads_any : (l : Levels) (result : Result A ReadFault) (bytes : List ℕ) → ReadsBytes (shaped trees.sort trees.spell (λ t. ⊤)) l result bytes → ReadsBytes trees l result bytes
+  reads_any l result bytes r = reads_whole trees AnyShape laws (λ t. ⊤) (λ t s. tt) l result bytes r
+
+  pub reads_each_any : (l : Levels) (result : Result A ReadFault) (bytes : List ℕ) → ReadsBytes (shaped trees.sort trees.spell (λ t. ⊤)) l result bytes → ReadsEachOfBytes trees l result bytes
+  reads_each_any l result bytes r = reads_each_of_bytes trees AnyShape laws l result bytes (reads_any l result bytes r)

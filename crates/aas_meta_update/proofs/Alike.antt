@@ -57,27 +57,7 @@ values_put extent x y kids alike = absurd (other_kinds alike.kind)
     other_kinds : kind_of x ≡ kind_of y → ⊥
     other_kinds e = cc
 
--- The kind stays.
-pub kind_put : (x y : Payload) → AreAlike x y → kind_of (with_shown x y) ≡ kind_of x
-kind_put (p.Property t v i) y alike = refl
-kind_put (p.MultiLanguageProperty v i) y alike = refl
-kind_put (p.Range t min max) y alike = refl
-kind_put (p.File t v) y alike = refl
-kind_put (p.Blob t v) y alike = refl
-kind_put (p.ReferenceElement v) y alike = refl
-kind_put (p.RelationshipElement first second) y alike = refl
-kind_put (p.AnnotatedRelationshipElement first second) y alike = refl
-kind_put (p.Entity t g ids) y alike = refl
-kind_put (p.BasicEventElement observed d s topic broker last min max) (p.BasicEventElement observed' d' s' topic' broker' last' min' max') alike = refl
-kind_put p.Capability y alike = refl
-kind_put p.Operation y alike = refl
-kind_put p.SubmodelElementCollection y alike = refl
-kind_put (p.SubmodelElementList o s t v) (p.SubmodelElementList o' s' t' v') alike = refl
-kind_put x y alike = absurd (other_kinds alike.kind)
-  where
-    other_kinds : kind_of x ≡ kind_of y → ⊥
-    other_kinds e = cc
-
+-- A list stays one, and nothing else becomes one.
 pub list_put : (x y : Payload) → AreAlike x y → is_list_payload (with_shown x y) ≡ is_list_payload x
 list_put (p.Property t v i) y alike = refl
 list_put (p.MultiLanguageProperty v i) y alike = refl

@@ -134,6 +134,15 @@ pub record Halves (ss : List Side) (ranks front back : List ℕ) (place at rest 
   pub behind : AllByRecursion (λ r. is_less ss r middle ≡ false) back
   pub whole : ranks ≡ take at front ++ middle ∷ back
 
+-- a list that two lists in order make up is in order on both sides of their seam
+sides_sorted : (ss : List Side) (ranks one two : List ℕ) (place : ℕ) → ranks ≡ one ++ two → length one ≡ place
+    → IsSorted (order ss) one → IsSorted (order ss) two
+    → IsSorted (order ss) (take place ranks) × IsSorted (order ss) (drop place ranks)
+sides_sorted ss ranks one two place is ends one_sorted two_sorted = (
+  subst (IsSorted (order ss)) (sym (take_seam ranks one two place is ends)) one_sorted,
+  subst (IsSorted (order ss)) (sym (drop_seam ranks one two place is ends)) two_sorted,
+)
+
 pub halves : (ss : List Side) (ranks front back : List ℕ) (place at rest : ℕ) (d : Divided ss ranks place at rest)
     → front ≡ take (at + 1) ranks → back ≡ drop (at + 1) ranks → Halves ss ranks front back place at rest d.middle
 halves ss ranks front back place at rest d front_is back_is =
@@ -159,25 +168,19 @@ halves ss ranks front back place at rest d front_is back_is =
     let front_long : length (take at front) ≡ at = ap length front_one ∙ stands in
     let back_long : length back ≡ length (three ++ four) = ap length back_parts in
     let two_parts = length-append one two in
-    let four_parts = length-append three four in record {
+    let four_parts = length-append three four in
+    let ahead = sides_sorted ss (take at front) one two place front_one ends d.one_sorted d.two_sorted in
+    let behind = sides_sorted ss back three four rest back_parts goes_on d.three_sorted d.four_sorted in record {
       within = omega (arith, all_long);
       one_more = drop_seam front (one ++ two) (x ∷ []) at front_parts stands;
       shorter = omega (arith, all_long, front_long);
       low = omega (arith, front_long, two_parts, ends, stands);
-      one =
-          subst (IsSorted (order ss))
-          (sym (ap (take place) front_one ∙ take_seam (one ++ two) one two place refl ends)) d.one_sorted;
-      two =
-          subst (IsSorted (order ss))
-          (sym (ap (drop place) front_one ∙ drop_seam (one ++ two) one two place refl ends)) d.two_sorted;
+      one = ahead.0;
+      two = ahead.1;
       short = omega (arith, all_long, back_long);
       high = omega (arith, back_long, four_parts, goes_on);
-      three =
-          subst (IsSorted (order ss))
-          (sym (ap (take rest) back_parts ∙ take_seam (three ++ four) three four rest refl goes_on)) d.three_sorted;
-      four =
-          subst (IsSorted (order ss))
-          (sym (ap (drop rest) back_parts ∙ drop_seam (three ++ four) three four rest refl goes_on)) d.four_sorted;
+      three = behind.0;
+      four = behind.1;
       before = subst (AllByRecursion (λ r. is_less ss x r ≡ false)) (sym front_one) d.before;
       behind = subst (AllByRecursion (λ r. is_less ss r x ≡ false)) (sym back_parts) d.behind;
       whole = d.whole ∙ ap₂ (λ a b. a ++ x ∷ b) (sym front_one) (sym back_parts);

@@ -63,9 +63,21 @@ pub(crate) fn first_named(
         (position (is_named_below level (chars name.now)) (take (end - first) (drop first sides.now))) }
 {
     if first <= end && end <= sides.len() && end - first <= FEW {
-        first_named_walked(sides, first, end, level, name)
+        return first_named_walked(sides, first, end, level, name);
+    }
+    let key = Key::new(u64::from(level) + 1, name);
+    let place = place_of_key(sides, ranks, &key, first);
+    if place >= ranks.len() {
+        return None;
+    }
+    let rank = ranks[place] as usize;
+    if rank >= end {
+        return None;
+    }
+    if is_named_below(&sides[rank], level, name) {
+        Some(rank)
     } else {
-        first_named_indexed(sides, ranks, first, end, level, name)
+        None
     }
 }
 
@@ -86,37 +98,6 @@ fn first_named_walked(
     match place_named(&sides[first..end], level, name) {
         Some(place) => Some(first + place),
         None => None,
-    }
-}
-
-/// The same by the index.
-fn first_named_indexed(
-    sides: &[Side],
-    ranks: &[u32],
-    first: usize,
-    end: usize,
-    level: u32,
-    name: &str,
-) -> Option<usize>
-    requires index { IsPart sides.now 0 ranks.now }
-    requires keyed { AreKeyed sides.now }
-    ensures { result
-        ≡ option_map (λ i. first + i)
-        (position (is_named_below level (chars name.now)) (take (end - first) (drop first sides.now))) }
-{
-    let key = Key::new(u64::from(level) + 1, name);
-    let place = place_of_key(sides, ranks, &key, first);
-    if place >= ranks.len() {
-        return None;
-    }
-    let rank = ranks[place] as usize;
-    if rank >= end {
-        return None;
-    }
-    if is_named_below(&sides[rank], level, name) {
-        Some(rank)
-    } else {
-        None
     }
 }
 

@@ -1,7 +1,7 @@
 -- Where elements stand in a table.
 use Rattle.std.proofs.Common.{◌≡◌, ℕ, zero, suc, ◌+◌, ◌-◌, ◌<◌, ◌≤◌, Bool, true, false, cond, List, [], ◌∷◌, ◌++◌}
 use Rattle.std.proofs.Common.{length, take, drop, get_or, Option, Some, None, option_map, slice_get, refl, sym, ap, ap₂}
-use Rattle.std.proofs.Common.{◌∙◌, append_assoc, arith, length-append, if◌then◌else◌}
+use Rattle.std.proofs.Common.{◌∙◌, append_assoc, arith, length-append, length-drop, min, if◌then◌else◌}
 use Rattle.std.proofs.lemmas.List.{length-take, length-map}
 use Rattle.aas_model.specs.declared.element.Element.{Element}
 use Rattle.aas_model.specs.declared.path.PathStep.{PathStep}
@@ -84,19 +84,11 @@ lines_take (suc n) (r ∷ rs) (s ∷ ss) = ap (λ ls. line_of r s ∷ ls) (lines
 
 pub same_drop : (n : ℕ) (rs : List Row) (ss : List Side)
     → length rs ≡ length ss → length (drop n rs) ≡ length (drop n ss)
-same_drop zero rs ss e = e
-same_drop (suc n) [] [] e = refl
-same_drop (suc n) [] (s ∷ ss) e = absurd (omega arith)
-same_drop (suc n) (r ∷ rs) [] e = absurd (omega arith)
-same_drop (suc n) (r ∷ rs) (s ∷ ss) e = same_drop n rs ss (omega arith)
+same_drop n rs ss e = length-drop n rs ∙ ap (λ m. m - n) e ∙ sym (length-drop n ss)
 
 pub same_take : (n : ℕ) (rs : List Row) (ss : List Side)
     → length rs ≡ length ss → length (take n rs) ≡ length (take n ss)
-same_take zero rs ss e = refl
-same_take (suc n) [] [] e = refl
-same_take (suc n) [] (s ∷ ss) e = absurd (omega arith)
-same_take (suc n) (r ∷ rs) [] e = absurd (omega arith)
-same_take (suc n) (r ∷ rs) (s ∷ ss) e = ap suc (same_take n rs ss (omega arith))
+same_take n rs ss e = length-take n rs ∙ ap (min n) e ∙ sym (length-take n ss)
 
 cut_out : (b m a : List Line) (first n : ℕ) → length b ≡ first → length m ≡ n → take n (drop first (b ++ (m ++ a))) ≡ m
 cut_out b m a first n is long = ap₂ (λ n k. take n (drop k (b ++ (m ++ a)))) (sym long) (sym is) ∙ behind b ∙ front m

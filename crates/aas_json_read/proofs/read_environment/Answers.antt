@@ -2,14 +2,11 @@ use Rattle.aas_json_table.specs.TooDeep.{limits}
 use Rattle.aas_json_mapping.specs.Trees.{environments}
 use Rattle.aas_json_mapping.specs.Shape.{IsShapedEnvironment}
 use Rattle.aas_json_mapping.proofs.DocumentsLaws.{environments_laws}
-use Rattle.aas_json_spelling.proofs.Laws.{reads_each_of_bytes}
-use Rattle.aas_json_read.proofs.Reading.{reads_whole}
+use Rattle.aas_json_read.proofs.Reading.{reads_shaped, reads_each_shaped}
 use Rattle.aas_json_read.proofs.read_environment.Goals as goal
 
 pub returns-clause-reads : goal.returns-clause-reads
-returns-clause-reads c = reads_whole environments IsShapedEnvironment environments_laws IsShapedEnvironment (λ t s. s) limits c.read_shaped.result c.args.bytes.now c.read_shaped.ensures
+returns-clause-reads c = reads_shaped environments IsShapedEnvironment environments_laws limits c.read_shaped.result c.args.bytes.now c.read_shaped.ensures
 
 pub returns-clause-each : goal.returns-clause-each
-returns-clause-each c =
-    reads_each_of_bytes environments IsShapedEnvironment environments_laws limits c.read_shaped.result c.args.bytes.now
-    (returns-clause-reads c)
+returns-clause-each c = reads_each_shaped environments IsShapedEnvironment environments_laws limits c.read_shaped.result c.args.bytes.now c.read_shaped.ensures

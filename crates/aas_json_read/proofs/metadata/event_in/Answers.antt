@@ -10,12 +10,7 @@ use Rattle.aas_json_read.proofs.metadata.event_in.Goals as goal
 
 pub returns-clause-says : goal.returns-clause-says
 returns-clause-says c =
-    let topic = c.in_ok-string_member.field-0 in
-    let broker = c.in_ok-one_member.field-0 in
-    let last = c.in_ok-string_member-2.field-0 in
-    let min = c.in_ok-string_member-3.field-0 in
-    let max = c.in_ok-string_member-4.field-0 in
-    spelled_as (shown_rows kind.BasicEventElement) (own_attributes (p.BasicEventElement None c.in-Some.direction c.in-Some-word_member.state topic broker last min max) [])
+    spelled_as (shown_rows kind.BasicEventElement) (own_attributes (p.BasicEventElement None c.in-Some.direction c.in-Some-word_member.state c.in_ok-string_member.field-0 c.in_ok-one_member.field-0 c.in_ok-string_member-2.field-0 c.in_ok-string_member-3.field-0 c.in_ok-string_member-4.field-0) [])
     (canonical_member (members_view c.args.members.now.entries)) refl (
       c.in-Some.ensures,
       (

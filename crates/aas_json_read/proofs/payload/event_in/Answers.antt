@@ -11,13 +11,8 @@ use Rattle.aas_json_read.proofs.payload.event_in.Goals as goal
 
 pub returns-clause-says : goal.returns-clause-says
 returns-clause-says c =
-    let topic = c.in_ok-string_member.field-0 in
-    let broker = c.in_ok-one_member.field-0 in
-    let last = c.in_ok-string_member-2.field-0 in
-    let min = c.in_ok-string_member-3.field-0 in
-    let max = c.in_ok-string_member-4.field-0 in
     spelled_as (own_rows kind.BasicEventElement)
-    (own_attributes (p.BasicEventElement (Some c.in-Some-2.observed) c.in-Some.direction c.in-Some-word_member.state topic broker last min max) [])
+    (own_attributes (p.BasicEventElement (Some c.in-Some-2.observed) c.in-Some.direction c.in-Some-word_member.state c.in_ok-string_member.field-0 c.in_ok-one_member.field-0 c.in_ok-string_member-2.field-0 c.in_ok-string_member-3.field-0 c.in_ok-string_member-4.field-0) [])
     (canonical_member (members_view c.args.members.now.entries)) refl (
       c.in-Some.ensures,
       (

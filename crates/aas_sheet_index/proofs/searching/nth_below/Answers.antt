@@ -7,6 +7,7 @@ use Rattle.aas_sheet_index.proofs.Counted.{deeper_is_not_below, found_here, nth_
 use Rattle.aas_sheet_index.proofs.Counted.{passed_by, size_within}
 use Rattle.aas_sheet_index.proofs.searching.nth_below.Goals as goal
 use Rattle.aas_sheet_index.proofs.searching.nth_below.Goals.{then-is_below+else-left-eq0, else-is_below}
+use Rattle.aas_sheet_index.proofs.searching.nth_below.Goals.{After-index-sides-rank, Joined-is_below}
 
 there : (ss : List Side) (rank : ℕ) (s : Side) → rank < length ss → s ≡ get_or ss rank s → slice_get ss rank ≡ Some s
 there ss rank s inside is = slice_get-get_or ss rank s inside ∙ ap (λ (s : Side). Some s) (sym is)
@@ -23,14 +24,18 @@ returns-then-left-eq0-clause-value c =
     ∙ found_here (is_below c.args.level) ss c.args.end l.rank c.index-sides-rank.result inside at
     (sym c.is_below.ensures ∙ c.if-is_below.true))
 
+-- the side counts itself, and what it counts is within the sides
+fits : (c : After-index-sides-rank) → (0 < c.index-sides-rank.result.size)
+    × (c.loop-rank.rank + c.index-sides-rank.result.size ≤ length c.args.sides.now)
+fits c =
+    let inside = c.loop-rank-test.true in
+    size_within c.args.sides.now c.loop-rank.rank c.index-sides-rank.result c.requires.sized
+    (there c.args.sides.now c.loop-rank.rank c.index-sides-rank.result
+    (omega (arith, inside, c.requires.within)) c.index-sides-rank.is)
+
 pub overflow_add-rank : goal.overflow_add-rank
 overflow_add-rank c =
-    let ss : List Side = c.args.sides.now in
-    let inside = c.loop-rank-test.true in
-    let fits = size_within ss c.loop-rank.rank c.index-sides-rank.result c.requires.sized
-    (there ss c.loop-rank.rank c.index-sides-rank.result
-    (omega (arith, inside, c.requires.within)) c.index-sides-rank.is) in
-    let sum = fits.1 in
+    let sum = (fits (goal.at.overflow_add-rank c).After-index-sides-rank).1 in
     let small : c.loop-rank.rank + c.index-sides-rank.result.size ≤ 18446744073709551615 =
     omega (arith, sum, c.requires.few) in
     search rules
@@ -61,33 +66,25 @@ loop-left-init c =
       }
     ]
 
+-- behind a side that counts itself the rank is further on
+further : (c : Joined-is_below) → 0 < c.index-sides-rank.result.size → c.loop-rank.rank < c.if-is_below.rank
+further c some =
+    elim c.if-is_below.branch [
+      | then-is_below+else-left-eq0 w ↦ let is = w.rank-is in omega (arith, is, some)
+      | else-is_below w ↦ let is = w.rank-is in omega (arith, is)
+    ]
+
 pub loop-rank-smaller-else-is_leaf_below : goal.loop-rank-smaller-else-is_leaf_below
 loop-rank-smaller-else-is_leaf_below c =
-    let ss : List Side = c.args.sides.now in
-    let inside = c.loop-rank-test.true in
-    let on = c.loop-left.invariant.on in
-    let fits = size_within ss c.loop-rank.rank c.index-sides-rank.result c.requires.sized
-    (there ss c.loop-rank.rank c.index-sides-rank.result
-    (omega (arith, inside, c.requires.within)) c.index-sides-rank.is) in
-    let some = fits.0 in
-    elim c.if-is_below.branch [
-      | then-is_below+else-left-eq0 w ↦ let is = w.rank-is in omega (arith, inside, on, is, some)
-      | else-is_below w ↦ let is = w.rank-is in omega (arith, inside, on, is)
-    ]
+    let at = goal.at.loop-rank-smaller-else-is_leaf_below c in
+    let more = further at.Joined-is_below (fits at.After-index-sides-rank).0 in
+    omega (arith, c.loop-rank-test.true, c.loop-left.invariant.on, more)
 
 pub loop-rank-smaller : goal.loop-rank-smaller
 loop-rank-smaller c =
-    let ss : List Side = c.args.sides.now in
-    let inside = c.loop-rank-test.true in
-    let on = c.loop-left.invariant.on in
-    let fits = size_within ss c.loop-rank.rank c.index-sides-rank.result c.requires.sized
-    (there ss c.loop-rank.rank c.index-sides-rank.result
-    (omega (arith, inside, c.requires.within)) c.index-sides-rank.is) in
-    let some = fits.0 in
-    elim c.if-is_below.branch [
-      | then-is_below+else-left-eq0 w ↦ let is = w.rank-is in omega (arith, inside, on, is, some)
-      | else-is_below w ↦ let is = w.rank-is in omega (arith, inside, on, is)
-    ]
+    let at = goal.at.loop-rank-smaller c in
+    let more = further at.Joined-is_below (fits at.After-index-sides-rank).0 in
+    omega (arith, c.loop-rank-test.true, c.loop-left.invariant.on, more)
 
 pub loop-left-preserved : goal.loop-left-preserved
 loop-left-preserved c =

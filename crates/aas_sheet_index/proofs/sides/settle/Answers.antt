@@ -46,19 +46,18 @@ overflow_sub-kept c =
     let long : c.len.result ≡ length c.renumber.new.ranks.items = c.len.ensures ∙ c.renumber.new.ranks.ok.0 in
     omega arith
 
-pub merge-requires-clause-front : goal.merge-requires-clause-front
-merge-requires-clause-front c =
-    part_sorted (take (c.len.result - c.args.added))
-    (next (goal.at.merge-requires-clause-front c).After-len) c.as_slice-3.result.now
-    c.renumber.new.ranks.items c.as_mut_slice.result.now (c.as_slice-3.ensures ∙ c.splice.ensures)
-    c.as_mut_slice.ensures.value (met (goal.at.merge-requires-clause-front c).After-len).front
-
-pub merge-requires-clause-back : goal.merge-requires-clause-back
-merge-requires-clause-back c =
-    part_sorted (drop (c.len.result - c.args.added))
-    (next (goal.at.merge-requires-clause-back c).After-len) c.as_slice-3.result.now
-    c.renumber.new.ranks.items c.as_mut_slice.result.now (c.as_slice-3.ensures ∙ c.splice.ensures)
-    c.as_mut_slice.ensures.value (met (goal.at.merge-requires-clause-back c).After-len).back
+pub merge-requires : goal.merge-requires
+merge-requires c =
+    let m = met (goal.at.merge-requires c).After-len in
+    let sides_are = c.as_slice-3.ensures ∙ c.splice.ensures in
+    let ranks_are = c.as_mut_slice.ensures.value in
+    let long = ap length ranks_are in
+    let inside = m.inside in
+    record {
+      inside = omega arith;
+      front = part_sorted (take (c.len.result - c.args.added)) _ _ _ _ sides_are ranks_are m.front;
+      back = part_sorted (drop (c.len.result - c.args.added)) _ _ _ _ sides_are ranks_are m.back;
+    }
 
 pub measure_edited-requires-clause-levels : goal.measure_edited-requires-clause-levels
 measure_edited-requires-clause-levels c =

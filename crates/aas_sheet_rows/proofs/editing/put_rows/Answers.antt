@@ -1,4 +1,4 @@
-use Rattle.std.proofs.Common.{◌≡◌, ◌≤◌, ◌^◌, ℕ, List, [], ◌∷◌, ◌++◌, sym, ap, ap₂, ◌∙◌, subst}
+use Rattle.std.proofs.Common.{◌≡◌, ◌≤◌, ◌^◌, ℕ, List, [], ◌∷◌, ◌++◌, length, sym, ap, ap₂, ◌∙◌, subst}
 use Rattle.std.specs.List.{replace_range}
 use Rattle.std.proofs.lemmas.List.{append-nil}
 use Rattle.aas_model.specs.declared.element.Element.{Element}
@@ -11,7 +11,7 @@ use Rattle.aas_sheet_rows.proofs.Columns.{put_lines, put_long}
 use Rattle.aas_sheet_index.proofs.Measures.{sized_measured}
 use Rattle.aas_sheet_rows.proofs.Made.{laid_deep}
 use Rattle.aas_sheet_rows.proofs.editing.put_rows.Goals as goal
-use Rattle.aas_sheet_rows.proofs.editing.put_rows.Goals.{In_ok-lay_all}
+use Rattle.aas_sheet_rows.proofs.editing.put_rows.Goals.{In_ok-lay_all, After-splice}
 
 -- the rows that are laid out are those of the element
 laid : (e : Element) (k : ℕ) (es₀ es : List Element) (rs₀ rs : List Row) (ss₀ ss : List Side) → es₀ ≡ []
@@ -43,13 +43,21 @@ replace-requires-clause-levels c =
     laid_deep (e ∷ []) k c.lay_all.new.rows c.lay_all.new.sides c.requires.high c.in_ok-lay_all.ensures.long
     (own (goal.at.replace-requires-clause-levels c).In_ok-lay_all ∙ sym (append-nil (rows e k)))
 
-pub returns-in-Ok-clause-lines : goal.returns-in-Ok-clause-lines
-returns-in-Ok-clause-lines c =
-    (put_lines c.args.rows.now c.lay_all.new.rows c.append.new.items
+-- the lines that are put, and the columns, which are of one length
+put : (c : After-splice) → lines_of c.lay_all.new.rows c.lay_all.new.sides ≡ rows c.args.element c.args.level
+    → (lines_of c.splice.new.items c.replace.new.self
+    ≡ replace_range (lines_of c.args.rows.now c.args.sides.now) c.args.first c.args.end (rows c.args.element c.args.level))
+    × (length c.splice.new.items ≡ length c.replace.new.self)
+put c own =
+    put_lines c.args.rows.now c.lay_all.new.rows c.append.new.items
     c.splice.new.items c.args.sides.now c.lay_all.new.sides c.replace.new.self
     (rows c.args.element c.args.level) c.len-count.result c.args.first c.args.end c.len-count.ensures
-    c.requires.long c.in_ok-lay_all.ensures.long (own (goal.at.returns-in-Ok-clause-lines c).In_ok-lay_all)
-    c.in_ok-append.ensures.ok c.splice.ensures c.in-Ok.ensures.ok).0
+    c.requires.long c.in_ok-lay_all.ensures.long own
+    c.in_ok-append.ensures.ok c.splice.ensures c.in-Ok.ensures.ok
+
+pub returns-in-Ok-clause-lines : goal.returns-in-Ok-clause-lines
+returns-in-Ok-clause-lines c =
+    let at = goal.at.returns-in-Ok-clause-lines c in (put at.After-splice (own at.In_ok-lay_all)).0
 
 pub returns-in-Ok-clause-sized : goal.returns-in-Ok-clause-sized
 returns-in-Ok-clause-sized c =
@@ -58,8 +66,4 @@ returns-in-Ok-clause-sized c =
 
 pub returns-in-Ok-clause-long : goal.returns-in-Ok-clause-long
 returns-in-Ok-clause-long c =
-    (put_lines c.args.rows.now c.lay_all.new.rows c.append.new.items
-    c.splice.new.items c.args.sides.now c.lay_all.new.sides c.replace.new.self
-    (rows c.args.element c.args.level) c.len-count.result c.args.first c.args.end c.len-count.ensures
-    c.requires.long c.in_ok-lay_all.ensures.long (own (goal.at.returns-in-Ok-clause-long c).In_ok-lay_all)
-    c.in_ok-append.ensures.ok c.splice.ensures c.in-Ok.ensures.ok).1
+    let at = goal.at.returns-in-Ok-clause-long c in (put at.After-splice (own at.In_ok-lay_all)).1

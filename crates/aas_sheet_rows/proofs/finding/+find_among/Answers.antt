@@ -1,34 +1,36 @@
-use Rattle.std.proofs.Common.{◌≡◌, ℕ, ◌+◌, ◌-◌, ◌<◌, ◌∙◌, ap, sym, List, Some, get_or, length, slice_get, take, drop}
+use Rattle.std.proofs.Common.{◌≡◌, ℕ, ◌+◌, ◌-◌, ◌<◌, ◌∙◌, ap, sym, List, None, Some, get_or, length, slice_get, take, drop}
 use Rattle.std.proofs.Common.{option_map, rules}
 use Rattle.aas_model.specs.declared.element.Element.{Element}
 use Rattle.aas_path_trees.specs.Children.{is_list_payload}
+use Rattle.aas_path_trees.specs.ElementAt.{depth_among}
+use Rattle.aas_rows.specs.Edits.{rank_among}
 use Rattle.aas_sheet_rows.specs.Found.{side_of_step, Among}
 use Rattle.aas_sheet_rows.specs.declared.row.Row.{Row}
 use Rattle.aas_sheet_index.specs.Sides.{sizes_of}
 use Rattle.aas_sheet_index.specs.declared.side.Side.{Side}
 use Rattle.aas_sheet_rows.proofs.Found.{leads_on, path_ends, path_lost, stepped, LeadsOn}
 use Rattle.aas_sheet_rows.proofs.finding.+find_among.Goals as goal
-use Rattle.aas_sheet_rows.proofs.finding.+find_among.Goals.{After-index-all-rank}
+use Rattle.aas_sheet_rows.proofs.finding.+find_among.Goals.{After-index-all-rank, In_default}
+
+-- where the step leads to no row, the path leads nowhere
+lost : (t : _) (c : In_default t) (ks : List Element)
+    → Among c.args.rows.now c.args.sides.now c.args.span.first c.args.span.end c.args.span.level ks
+    → (None ≡ option_map (λ r. c.args.span.first + r) (rank_among c.args.in_list c.args.step.now c.args.path.now ks))
+    × (0 ≡ depth_among c.args.in_list c.args.step.now c.args.path.now ks)
+lost t c ks a =
+    let ss : List Side = c.args.sides.now in
+    path_lost c.args.rows.now ss c.args.span.first c.args.span.end c.args.span.level
+    ks c.args.in_list c.args.step.now c.args.path.now c.requires.table a
+    (c.in_default.ensures.value
+    ∙ ap (λ s. option_map (λ i. c.args.span.first + i) (side_of_step c.args.in_list s c.args.span.level
+    (take (c.args.span.end - c.args.span.first) (drop c.args.span.first ss))))
+    c.step_ref.ensures)
 
 pub returns-in_default-clause-value : goal.returns-in_default-clause-value
-returns-in_default-clause-value t c = λ ks a.
-    let ss : List Side = c.args.sides.now in
-    (path_lost c.args.rows.now ss c.args.span.first c.args.span.end c.args.span.level
-    ks c.args.in_list c.args.step.now c.args.path.now c.requires.table a
-    (c.in_default.ensures.value
-    ∙ ap (λ s. option_map (λ i. c.args.span.first + i) (side_of_step c.args.in_list s c.args.span.level
-    (take (c.args.span.end - c.args.span.first) (drop c.args.span.first ss))))
-    c.step_ref.ensures)).0
+returns-in_default-clause-value t c = λ ks a. (lost t (goal.at.returns-in_default-clause-value t c).In_default ks a).0
 
 pub returns-in_default-clause-depth : goal.returns-in_default-clause-depth
-returns-in_default-clause-depth t c = λ ks a.
-    let ss : List Side = c.args.sides.now in
-    (path_lost c.args.rows.now ss c.args.span.first c.args.span.end c.args.span.level
-    ks c.args.in_list c.args.step.now c.args.path.now c.requires.table a
-    (c.in_default.ensures.value
-    ∙ ap (λ s. option_map (λ i. c.args.span.first + i) (side_of_step c.args.in_list s c.args.span.level
-    (take (c.args.span.end - c.args.span.first) (drop c.args.span.first ss))))
-    c.step_ref.ensures)).1
+returns-in_default-clause-depth t c = λ ks a. (lost t (goal.at.returns-in_default-clause-depth t c).In_default ks a).1
 
 pub returns-in-None-clause-value : goal.returns-in-None-clause-value
 returns-in-None-clause-value t c = λ ks a.

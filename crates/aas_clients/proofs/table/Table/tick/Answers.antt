@@ -1,8 +1,9 @@
-use Rattle.std.proofs.Common.{◌<◌, Bool, length, ap, subst, ◌∙◌, arith}
+use Rattle.std.proofs.Common.{◌<◌, ℕ, Bool, length, ap, subst, ◌∙◌, arith}
 use Rattle.aas_clients.specs.Places.{AreInTime}
 use Rattle.aas_clients.proofs.Places.{keeps_both}
 use Rattle.aas_clients.proofs.Tables.{in_time_step, only_from_step, quiet_step}
 use Rattle.aas_clients.proofs.table.Table.tick.Goals as goal
+use Rattle.aas_clients.proofs.table.Table.tick.Goals.{After-loop-number}
 
 pub loop-number-preserved : goal.loop-number-preserved
 loop-number-preserved g c =
@@ -19,33 +20,28 @@ loop-number-preserved g c =
       in_time = in_time_step _ now n c.args.now _ before.in_time T.only T.in_time;
     }
 
+-- the loop has come to each place
+seen : (g : _) (c : After-loop-number g) (k : ℕ)
+    → k < length c.loop-number.self.places.items → k < c.loop-number.number
+seen g c k below = omega (
+  arith,
+  below,
+  c.loop-number.invariant.keeps.size,
+  c.loop-number-test.false,
+  c.len-number-end.ensures,
+  c.is_over-is_over.new.self.places.ok.0,
+  ap length (ap (λ v. v.items) c.is_over-is_over.ensures.places.0),
+)
+
 pub returns-clause-in_time : goal.returns-clause-in_time
 returns-clause-in_time g c = λ k below.
     let now = c.loop-number.self.places.items in
     let before = c.loop-number.invariant in
     let in_time = subst (λ (b : Bool). AreInTime now c.loop-number.number b c.args.now)
     c.is_over-is_over.ensures.over before.in_time in
-    let seen : k < c.loop-number.number = omega (
-      arith,
-      below,
-      before.keeps.size,
-      c.loop-number-test.false,
-      c.len-number-end.ensures,
-      c.is_over-is_over.new.self.places.ok.0,
-      ap length (ap (λ v. v.items) c.is_over-is_over.ensures.places.0),
-    ) in
-    in_time k seen
+    in_time k (seen g (goal.at.returns-clause-in_time g c).After-loop-number k below)
 
 pub returns-clause-quiet : goal.returns-clause-quiet
 returns-clause-quiet g c = λ not_over k below.
-    let before = c.loop-number.invariant in
-    let seen : k < c.loop-number.number = omega (
-      arith,
-      below,
-      before.keeps.size,
-      c.loop-number-test.false,
-      c.len-number-end.ensures,
-      c.is_over-is_over.new.self.places.ok.0,
-      ap length (ap (λ v. v.items) c.is_over-is_over.ensures.places.0),
-    ) in
-    before.quiet (c.is_over-is_over.ensures.over ∙ not_over) k seen
+    c.loop-number.invariant.quiet (c.is_over-is_over.ensures.over ∙ not_over) k
+    (seen g (goal.at.returns-clause-quiet g c).After-loop-number k below)

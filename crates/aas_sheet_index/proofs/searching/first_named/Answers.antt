@@ -8,8 +8,8 @@ use Rattle.aas_sheet_index.specs.Keys.{listed}
 use Rattle.aas_sheet_index.specs.declared.order.Key.{Key}
 use Rattle.aas_sheet_index.specs.declared.side.Side.{Side}
 use Rattle.aas_sheet_index.proofs.Searched.{none_behind, none_other, none_past, some_there, Sought}
-use Rattle.aas_sheet_index.proofs.searching.first_named_indexed.Goals as goal
-use Rattle.aas_sheet_index.proofs.searching.first_named_indexed.Goals.{After-place_of_key-place}
+use Rattle.aas_sheet_index.proofs.searching.first_named.Goals as goal
+use Rattle.aas_sheet_index.proofs.searching.first_named.Goals.{After-place_of_key-place}
 
 -- what was looked for by a key that the code made
 sought : (ss : List Side) (ranks : List ℕ) (k k' : ℕ) (name : List ℕ) (first place : ℕ) (made : Key)
