@@ -14,7 +14,7 @@ ghost use Rattle.aas_api.specs.declared.ask.Ask.TheVariants.{Act};
 use crate::ask::Ask;
 use crate::segments::{given_by, identifier, shown_by};
 use aas_command::{Command, Refusal};
-use aas_json_read::{read_concept, read_shell, read_submodel};
+use aas_document_read::read_tree;
 use aas_model::{Boxed, Concept, NoMemory, ReadFault, Shell, Submodel, Text};
 use aas_question::Question;
 use aas_target::{Given, Method, Resource, Shown};
@@ -54,7 +54,7 @@ impl Document for Shell {
     ghost interface = { shell_interface };
 
     fn read(alloc: Global, bytes: &[u8]) -> Result<Shell, ReadFault> {
-        read_shell(alloc, bytes)
+        read_tree(alloc, bytes, 1)
     }
 
     fn id(&self) -> &Text {
@@ -92,7 +92,7 @@ impl Document for Submodel {
     ghost interface = { submodel_interface };
 
     fn read(alloc: Global, bytes: &[u8]) -> Result<Submodel, ReadFault> {
-        read_submodel(alloc, bytes)
+        read_tree(alloc, bytes, 1)
     }
 
     fn id(&self) -> &Text {
@@ -137,7 +137,7 @@ impl Document for Concept {
     ghost interface = { concept_interface };
 
     fn read(alloc: Global, bytes: &[u8]) -> Result<Concept, ReadFault> {
-        read_concept(alloc, bytes)
+        read_tree(alloc, bytes, 1)
     }
 
     fn id(&self) -> &Text {

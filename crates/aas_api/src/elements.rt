@@ -16,7 +16,7 @@ ghost use Rattle.aas_api.specs.Asked.{OrNoMemory, Replaces, Shows, has_last, if_
 use crate::ask::Ask;
 use crate::segments::{element_path, given_by, identifier, shown_by};
 use aas_command::{Command, Refusal};
-use aas_json_read::read_element;
+use aas_document_read::read_tree;
 use aas_model::{Boxed, Element, Many, Path, PathStep, Text};
 use aas_question::Question;
 use aas_target::{Method, Resource, Texts};
@@ -208,7 +208,7 @@ fn delete_element(alloc: Global, texts: Texts<'_>) -> Result<Ask, Refusal>
 fn insert(alloc: Global, submodel: Text, path: Path, body: &[u8]) -> Result<Ask, Refusal>
     ensures { OrNoMemory (Inserts submodel path body.now) result }
 {
-    match read_element(alloc, body, level_below(path.steps.len())) {
+    match read_tree::<Element>(alloc, body, level_below(path.steps.len())) {
         Ok(element) => Ok(Ask::Act {
             command: Command::InsertElement {
                 submodel,
@@ -224,7 +224,7 @@ fn insert(alloc: Global, submodel: Text, path: Path, body: &[u8]) -> Result<Ask,
 fn replace(alloc: Global, submodel: Text, path: Path, body: &[u8]) -> Result<Ask, Refusal>
     ensures { OrNoMemory (Replaces submodel path body.now) result }
 {
-    match read_element(alloc, body, level(path.steps.len())) {
+    match read_tree::<Element>(alloc, body, level(path.steps.len())) {
         Ok(element) => if_same(submodel, path, Boxed::new(alloc, element)?),
         Err(fault) => Err(fault.into()),
     }

@@ -1,7 +1,6 @@
 // What is asked of shells beside the documents themselves. The segments are those of identifiers.
 ghost use Rattle.std.specs.Prelude.{◌∷◌, [], Ok};
 ghost use Rattle.aas_json_table.specs.TooDeep.{limits};
-ghost use Rattle.aas_json_spelling.specs.Reads.{ReadsBytes};
 ghost use Rattle.aas_json_mapping.specs.Trees.{asset_informations};
 ghost use Rattle.aas_reference.specs.Trees.{references};
 ghost use Rattle.aas_command.specs.declared.command.Command.TheVariants.{AddReference, DropReference, SetAsset};
@@ -17,11 +16,9 @@ ghost use Rattle.aas_api.specs.declared.ask.Ask.TheVariants.{Act};
 use crate::ask::Ask;
 use crate::segments::{given_by, identifier};
 use aas_command::{Command, Refusal};
-use aas_json_input::read_value;
-use aas_json_read::read_asset_information;
-use aas_model::{Boxed, ReadFault, Reference};
+use aas_document_read::read_tree;
+use aas_model::{AssetInformation, Boxed, Reference};
 use aas_question::Question;
-use aas_reference::read_reference;
 use aas_target::{Method, Resource};
 use std::alloc::Global;
 
@@ -127,7 +124,7 @@ fn set_asset(alloc: Global, shell: &[u8], body: &[u8]) -> Result<Ask, Refusal>
         result }
 {
     let shell = identifier(alloc, shell)?;
-    match read_asset_information(alloc, body) {
+    match read_tree::<AssetInformation>(alloc, body, 1) {
         Ok(asset) => Ok(Ask::Act {
             command: Command::SetAsset {
                 shell,
@@ -157,18 +154,10 @@ fn add_reference(alloc: Global, shell: &[u8], body: &[u8]) -> Result<Ask, Refusa
         (λ reference. Ok (Act (AddReference id reference))))) result }
 {
     let shell = identifier(alloc, shell)?;
-    match reference_in(alloc, body) {
+    match read_tree::<Reference>(alloc, body, 1) {
         Ok(reference) => Ok(Ask::Act {
             command: Command::AddReference { shell, reference },
         }),
         Err(fault) => Err(fault.into()),
     }
-}
-
-/// The reference that the bytes spell as a JSON text.
-fn reference_in(alloc: Global, bytes: &[u8]) -> Result<Reference, ReadFault>
-    ensures { ReadsBytes references limits result bytes.now }
-{
-    let value = read_value(alloc, bytes)?;
-    read_reference(alloc, &value)
 }

@@ -9,7 +9,8 @@ use Rattle.aas_path.specs.PathText.{path_text}
 use Rattle.aas_path_trees.specs.PathRule.{KeepsRule}
 use Rattle.aas_command.specs.Commands.{IsPlace}
 use Rattle.aas_command.proofs.PathTexts.{is_place}
-use Rattle.aas_record.specs.FieldTypes.{HasType, IsCanonical, child, element}
+use Rattle.aas_document_read.specs.Canonical.{IsCanonical}
+use Rattle.aas_record.specs.FieldTypes.{HasType, child, element}
 use Rattle.aas_record.specs.Reading.{IsLastFault}
 use Rattle.aas_record.specs.declared.fault.RecordFault.{RecordFault}
 use Rattle.aas_record.specs.declared.fault.RecordFault.TheVariants.{NotARecord, NoMemory}
@@ -57,20 +58,14 @@ module _ (F G : List ℕ → Type 0) (to : (content : List ℕ) → F content �
       fails
   same_fault at bytes NoMemory fails = tt
 
-pub fault_below : (id bytes : List ℕ) (p : List PathStep) (l at : ℕ) (fault : RecordFault)
-    → IsPlace p → at_level l ≡ at_level (length p + 1)
-    → IsLastFault (IsCanonical elements (at_level l)) at bytes fault
-    → IsLastFault (HasType child (id ∷ path_text p ∷ [])) at bytes fault
-fault_below id bytes p l at fault keeps same fails =
-    same_fault (HasType child (id ∷ path_text p ∷ [])) (IsCanonical elements (at_level l))
-    (λ content. child_form id content p l keeps same)
-    (λ content. is_child id content p l keeps same) at bytes fault fails
+module _ (id bytes : List ℕ) (p : List PathStep) (l at : ℕ) (fault : RecordFault)
+    (fails : IsLastFault (IsCanonical elements (at_level l)) at bytes fault) where
+  pub fault_below : IsPlace p → at_level l ≡ at_level (length p + 1)
+      → IsLastFault (HasType child (id ∷ path_text p ∷ [])) at bytes fault
+  fault_below keeps same = same_fault _ _ (λ content. child_form id content p l keeps same)
+      (λ content. is_child id content p l keeps same) at bytes fault fails
 
-pub fault_here : (id bytes : List ℕ) (p : List PathStep) (l at : ℕ) (fault : RecordFault)
-    → KeepsRule p → at_level l ≡ at_level (length p)
-    → IsLastFault (IsCanonical elements (at_level l)) at bytes fault
-    → IsLastFault (HasType element (id ∷ path_text p ∷ [])) at bytes fault
-fault_here id bytes p l at fault keeps same fails =
-    same_fault (HasType element (id ∷ path_text p ∷ [])) (IsCanonical elements (at_level l))
-    (λ content. element_form id content p l keeps same)
-    (λ content. is_element id content p l keeps same) at bytes fault fails
+  pub fault_here : KeepsRule p → at_level l ≡ at_level (length p)
+      → IsLastFault (HasType element (id ∷ path_text p ∷ [])) at bytes fault
+  fault_here keeps same = same_fault _ _ (λ content. element_form id content p l keeps same)
+      (λ content. is_element id content p l keeps same) at bytes fault fails

@@ -6,6 +6,9 @@ use Rattle.std.proofs.lemmas.Str.{encodes_same}
 use Rattle.aas_lemmas.proofs.Lists.{same_heads, same_tails}
 use Rattle.aas_json_spelling.specs.Lists.{Each}
 use Rattle.aas_json_spelling.specs.Mapped.{AnyShape}
+use Rattle.aas_json_table.specs.TooDeep.{limits}
+use Rattle.aas_json_spelling.specs.Spells.{Trees, canonical_text}
+use Rattle.aas_json_spelling.proofs.Laws.{Laws}
 use Rattle.aas_json_mapping.specs.Shape.{IsShaped, IsShapedEnvironment, IsShapedSubmodel}
 use Rattle.aas_json_mapping.specs.Trees.{asset_informations, concepts, elements, environments, shells, submodels}
 use Rattle.aas_json_mapping.proofs.DocumentsLaws.{concepts_laws, environments_laws, shells_laws, submodels_laws}
@@ -44,25 +47,33 @@ same_fields (f ∷ fs) (g ∷ gs) a b e =
     (record { short = a.0.short; bytes_are = refl }) (record { short = b.0.short; bytes_are = e }) in
     ap (λ x. x ∷ fs) s.0 ∙ ap (λ xs. g ∷ xs) (same_fields fs gs a.1 b.1 s.1)
 
+-- documents are the same whose texts are those of one field
+abbrev SameAlone : {A : Type 0} → Trees A → Type 0
+SameAlone {A} trees = (s t : A) → trees.IsWhole limits s → trees.IsWhole limits t
+    → IsField (canonical_text trees s) → canonical_text trees s ∷ [] ≡ canonical_text trees t ∷ [] → s ≡ t
+
+same_alone : {A : Type 0} (trees : Trees A) (Shape : A → Type 0) → Laws trees Shape → SameAlone trees
+same_alone trees Shape laws s t a b is e =
+    same_by_text trees Shape laws limits at_limits s t a b is.utf8 (same_heads _ _ _ _ e)
+
+one_shell : SameAlone shells
+one_shell = same_alone shells AnyShape shells_laws
+
+one_submodel : SameAlone submodels
+one_submodel = same_alone submodels IsShapedSubmodel submodels_laws
+
 -- commands of one tag, with the same fields, are the same
 same_tagged : (c d : Command) → IsWellFormed c → IsWellFormed d → HasFields c
     → (tagged_of c).tag ≡ (tagged_of d).tag → (tagged_of c).fields ≡ (tagged_of d).fields → c ≡ d
 unfolding IsWellFormed HasFields
-same_tagged (CreateShell s) (CreateShell t) a b is tags e =
-    ap CreateShell (same_by_text shells AnyShape shells_laws _ at_limits s t a b is.0.utf8 (same_heads _ _ _ _ e))
-same_tagged (CreateSubmodel s) (CreateSubmodel t) a b is tags e =
-    ap CreateSubmodel
-    (same_by_text submodels IsShapedSubmodel submodels_laws _ at_limits s t a b is.0.utf8 (same_heads _ _ _ _ e))
+same_tagged (CreateShell s) (CreateShell t) a b is tags e = ap CreateShell (one_shell s t a b is.0 e)
+same_tagged (CreateSubmodel s) (CreateSubmodel t) a b is tags e = ap CreateSubmodel (one_submodel s t a b is.0 e)
 same_tagged (CreateConcept s) (CreateConcept t) a b is tags e =
-    ap CreateConcept (same_by_text concepts AnyShape concepts_laws _ at_limits s t a b is.0.utf8 (same_heads _ _ _ _ e))
-same_tagged (ReplaceShell s) (ReplaceShell t) a b is tags e =
-    ap ReplaceShell (same_by_text shells AnyShape shells_laws _ at_limits s t a b is.0.utf8 (same_heads _ _ _ _ e))
-same_tagged (ReplaceSubmodel s) (ReplaceSubmodel t) a b is tags e =
-    ap ReplaceSubmodel
-    (same_by_text submodels IsShapedSubmodel submodels_laws _ at_limits s t a b is.0.utf8 (same_heads _ _ _ _ e))
+    ap CreateConcept (same_alone concepts AnyShape concepts_laws s t a b is.0 e)
+same_tagged (ReplaceShell s) (ReplaceShell t) a b is tags e = ap ReplaceShell (one_shell s t a b is.0 e)
+same_tagged (ReplaceSubmodel s) (ReplaceSubmodel t) a b is tags e = ap ReplaceSubmodel (one_submodel s t a b is.0 e)
 same_tagged (ReplaceConcept s) (ReplaceConcept t) a b is tags e =
-    ap ReplaceConcept
-    (same_by_text concepts AnyShape concepts_laws _ at_limits s t a b is.0.utf8 (same_heads _ _ _ _ e))
+    ap ReplaceConcept (same_alone concepts AnyShape concepts_laws s t a b is.0 e)
 same_tagged (DeleteShell s) (DeleteShell t) a b is tags e = ap DeleteShell (encodes_same s t (same_heads _ _ _ _ e))
 same_tagged (DeleteSubmodel s) (DeleteSubmodel t) a b is tags e =
     ap DeleteSubmodel (encodes_same s t (same_heads _ _ _ _ e))
@@ -114,8 +125,8 @@ same_tagged (UpdateValue i p v) (UpdateValue j q w) a b is tags e =
     ∙ ap (λ (o : List PathStep). UpdateValue j (record { steps = o }) v) paths
     ∙ ap (UpdateValue j q)
     (same_value v w a.1 b.1 is.1.1.0.utf8 (same_heads _ _ _ _ (same_tails _ _ _ _ (same_tails _ _ _ _ e))))
-same_tagged (Import s) (Import t) a b is tags e = ap Import (same_by_text environments
-    IsShapedEnvironment environments_laws _ at_limits s t a b is.0.utf8 (same_heads _ _ _ _ e))
+same_tagged (Import s) (Import t) a b is tags e =
+    ap Import (same_alone environments IsShapedEnvironment environments_laws s t a b is.0 e)
 same_tagged c d a b is tags e = absurd (omega (arith, tags))
 
 pub one_command : (payload : List ℕ) (c d : Command) → IsRecord payload c → IsRecord payload d → c ≡ d

@@ -3,11 +3,11 @@ use Rattle.std.specs.Prelude.{◌≡◌, ◌==◌, ◌+◌, ℕ, List, [], ◌�
 use Rattle.std.specs.Str.{IsUtf8}
 use Rattle.serde_json.specs.Data.{Data}
 use Rattle.serde_json.specs.Written.{compact_text}
-use Rattle.aas_json_table.specs.TooDeep.{Levels, limits}
-use Rattle.aas_json_spelling.specs.Spells.{Trees, canonical_text}
+use Rattle.aas_json_table.specs.TooDeep.{limits}
 use Rattle.aas_json_mapping.specs.Trees.{asset_informations, concepts, elements, environments, shells, submodels}
 use Rattle.aas_model.specs.declared.path.PathStep.{PathStep}
 use Rattle.aas_edit_laws.specs.Laws.{at_level}
+use Rattle.aas_document_read.specs.Canonical.{IsCanonical}
 use Rattle.aas_path.specs.PathText.{IsPath, path_text}
 use Rattle.aas_path_trees.specs.PathRule.{KeepsRule}
 use Rattle.aas_command.specs.Commands.{IsPlace, IsSendable}
@@ -32,11 +32,6 @@ pub data FieldType : Type 0 where
   -- a JSON value
   value : FieldType
   environment : FieldType
-
--- the canonical text of a whole tree, in UTF-8
-abbrev pub IsCanonical : {A : Type 0} → Trees A → Levels → List ℕ → Type 0
-IsCanonical {A = A} trees levels content =
-    IsUtf8 content × ((t : A) × trees.IsWhole levels t × (content ≡ canonical_text trees t))
 
 -- the compact text of a value that can be sent, in UTF-8
 abbrev pub IsCompact : List ℕ → Type 0

@@ -1,5 +1,6 @@
 -- What is read of one field. This profile's own rule.
-use Rattle.std.specs.Prelude.{◌≡◌, ◌+◌, ℕ, List, length, ⊤}
+use Rattle.std.specs.Prelude.{◌≡◌, ◌+◌, ℕ, List, [], length, ⊤}
+use Rattle.std.specs.Str.{IsUtf8, encode_utf8_all}
 use Rattle.aas_record.specs.Fields.{Begins, LacksField}
 use Rattle.aas_record.specs.Records.{GoesWrong, IsMore}
 use Rattle.aas_record.specs.declared.fault.RecordFault.{RecordFault}
@@ -22,3 +23,16 @@ abbrev pub IsLastFault : (List ℕ → Type 0) → ℕ → List ℕ → RecordFa
 IsLastFault HasType place bytes (NotARecord at) =
     GoesWrong HasType (λ content rest. IsMore (place + 4 + length content) rest at) place bytes at
 IsLastFault HasType place bytes NoMemory = ⊤
+
+-- the bytes begin with the fields of an identifier and of a whole value, behind which there is the rest
+pub record HasTwo {A : Type 0} (IsWhole : A → Type 0) (bytes_of : A → List ℕ) (HasType : List ℕ → Type 0)
+    (bytes id : List ℕ) (value : A) (rest : List ℕ) : Type 0 where
+  pub between : List ℕ
+  pub first : HasField (λ (_ : List ℕ). ⊤) encode_utf8_all IsUtf8 bytes id between
+  pub second : HasField IsWhole bytes_of HasType between value rest
+
+-- the bytes behind a tag don't begin so, with such a fault of what is behind the identifier,
+-- and go wrong at this place of the payload
+abbrev pub LacksTwo : (ℕ → List ℕ → RecordFault → Type 0) → List ℕ → ℕ → Type 0
+LacksTwo IsFault bytes at =
+    GoesWrong IsUtf8 (λ id rest. IsFault (1 + 4 + length id) rest (NotARecord at)) 1 bytes at

@@ -4,7 +4,7 @@ ghost use Rattle.aas_record.specs.Records.{IsRecord, IsRecordFault};
 
 use crate::RecordFault;
 use crate::elements::{deletion, insertion, replacement, update};
-use crate::fields::{field, last_field};
+use crate::fields::{last_field, last_tree, two_fields};
 use crate::references::{addition, removal};
 use aas_command::Command;
 use std::alloc::Global;
@@ -49,12 +49,8 @@ pub fn decode(alloc: Global, payload: &[u8]) -> Result<Command, RecordFault>
             id: last_field(alloc, fields, 1)?,
         }),
         10 => {
-            let (shell, rest) = field(alloc, fields, 1)?;
-            let at = (payload.len() - rest.len()) as u64;
-            Ok(Command::SetAsset {
-                shell,
-                asset: last_field(alloc, rest, at)?,
-            })
+            let (shell, asset) = two_fields(alloc, payload, fields)?;
+            Ok(Command::SetAsset { shell, asset })
         }
         11 => addition(alloc, payload, fields),
         12 => removal(alloc, payload, fields),
@@ -63,7 +59,7 @@ pub fn decode(alloc: Global, payload: &[u8]) -> Result<Command, RecordFault>
         15 => deletion(alloc, payload, fields),
         16 => update(alloc, payload, fields),
         17 => Ok(Command::Import {
-            environment: last_field(alloc, fields, 1)?,
+            environment: last_tree(alloc, fields, 1, 1)?,
         }),
         _ => Err(RecordFault::NotARecord { at: 0 }),
     }

@@ -6,9 +6,9 @@ ghost use Rattle.aas_record.specs.Records.{IsRecord, IsRecordFault};
 
 use crate::RecordFault;
 use crate::content::Place;
-use crate::fields::{field, last_field, last_tree};
+use crate::fields::{last_field, last_tree, two_before, two_fields};
 use aas_command::{Command, SentValue};
-use aas_model::{Boxed, Element, Path, Text};
+use aas_model::{Boxed, Element, Path};
 use std::alloc::Global;
 
 /// A level at which no element can stand.
@@ -23,9 +23,7 @@ pub(crate) fn insertion(
     requires { IsFirstAndRest payload.now 13 fields.now }
     ensures { MatchResult result (IsRecord payload.now) (IsRecordFault payload.now) }
 {
-    let (submodel, rest) = field::<Text>(alloc, fields, 1)?;
-    let at = (payload.len() - rest.len()) as u64;
-    let (place, last) = field::<Place>(alloc, rest, at)?;
+    let (submodel, place, last) = two_before::<Place>(alloc, payload, fields)?;
     let at = (payload.len() - last.len()) as u64;
     let element = last_tree::<Boxed<Element>>(alloc, last, at, level(&place.path) + 1)?;
     Ok(Command::InsertElement {
@@ -44,9 +42,7 @@ pub(crate) fn replacement(
     requires { IsFirstAndRest payload.now 14 fields.now }
     ensures { MatchResult result (IsRecord payload.now) (IsRecordFault payload.now) }
 {
-    let (submodel, rest) = field::<Text>(alloc, fields, 1)?;
-    let at = (payload.len() - rest.len()) as u64;
-    let (path, last) = field::<Path>(alloc, rest, at)?;
+    let (submodel, path, last) = two_before::<Path>(alloc, payload, fields)?;
     let at = (payload.len() - last.len()) as u64;
     let element = last_tree::<Boxed<Element>>(alloc, last, at, level(&path))?;
     Ok(Command::ReplaceElement {
@@ -61,9 +57,7 @@ pub(crate) fn deletion(alloc: Global, payload: &[u8], fields: &[u8]) -> Result<C
     requires { IsFirstAndRest payload.now 15 fields.now }
     ensures { MatchResult result (IsRecord payload.now) (IsRecordFault payload.now) }
 {
-    let (submodel, rest) = field::<Text>(alloc, fields, 1)?;
-    let at = (payload.len() - rest.len()) as u64;
-    let path = last_field::<Path>(alloc, rest, at)?;
+    let (submodel, path) = two_fields::<Path>(alloc, payload, fields)?;
     Ok(Command::DeleteElement { submodel, path })
 }
 
@@ -72,9 +66,7 @@ pub(crate) fn update(alloc: Global, payload: &[u8], fields: &[u8]) -> Result<Com
     requires { IsFirstAndRest payload.now 16 fields.now }
     ensures { MatchResult result (IsRecord payload.now) (IsRecordFault payload.now) }
 {
-    let (submodel, rest) = field::<Text>(alloc, fields, 1)?;
-    let at = (payload.len() - rest.len()) as u64;
-    let (place, last) = field::<Place>(alloc, rest, at)?;
+    let (submodel, place, last) = two_before::<Place>(alloc, payload, fields)?;
     let at = (payload.len() - last.len()) as u64;
     let value = last_field::<SentValue>(alloc, last, at)?;
     Ok(Command::UpdateValue {

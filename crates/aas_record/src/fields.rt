@@ -1,12 +1,15 @@
 // The fields of a payload.
-ghost use Rattle.std.specs.Prelude.{◌≡◌, ◌+◌, ◌-◌, ◌<◌, ◌≤◌, ◌^◌, [], length, MatchOption, MatchResult};
+ghost use Rattle.std.specs.Prelude.{ℕ, ◌≡◌, ◌+◌, ◌-◌, ◌<◌, ◌≤◌, ◌^◌, [], length, MatchOption, MatchResult};
 ghost use Rattle.aas_json_spelling.specs.Spells.{canonical_text};
-ghost use Rattle.aas_record.specs.FieldTypes.{IsCanonical};
+ghost use Rattle.aas_document_read.specs.Canonical.{IsCanonical};
 ghost use Rattle.aas_record.specs.Fields.{Begins, IsCut};
-ghost use Rattle.aas_record.specs.Reading.{HasField, IsFieldFault, IsLastFault};
+ghost use Rattle.aas_record.specs.Reading.{HasField, HasTwo, IsFieldFault, IsLastFault, LacksTwo};
+ghost use Rattle.aas_record.specs.Records.{IsNoRecord, IsRecordFault};
 
 use crate::RecordFault;
-use crate::content::{Content, Tree, read_tree};
+use crate::content::{Content, read_canonical};
+use aas_document_read::Tree;
+use aas_model::Text;
 use std::alloc::Global;
 
 /// The content of the first field of some bytes, and what is behind it; none where they end within it.
@@ -54,6 +57,42 @@ pub(crate) fn last_field<C: Content>(alloc: Global, bytes: &[u8], at: u64) -> Re
     value_at_end(value, bytes, rest, at)
 }
 
+/// The identifier and what the field behind it holds, and what is behind both: they begin what stands behind the tag
+/// of a payload.
+pub(crate) fn two_before<'a, C: Content>(
+    alloc: Global,
+    payload: &[u8],
+    fields: &'a [u8],
+) -> Result<(Text, C, &'a [u8]), RecordFault>
+    requires behind { length fields.now + 1 ≡ length payload.now }
+    requires types { (at : ℕ) → LacksTwo (IsFieldFault C.has_type) fields.now at → IsNoRecord payload.now at }
+    ensures { MatchResult result
+        (λ r. HasTwo C.is_whole C.bytes_of C.has_type fields.now r.0 r.1 r.2.now)
+        (IsRecordFault payload.now) }
+{
+    let (id, rest) = field::<Text>(alloc, fields, 1)?;
+    let (second, behind) = field(alloc, rest, (payload.len() - rest.len()) as u64)?;
+    Ok((id, second, behind))
+}
+
+/// The identifier and what the one field behind it holds: they are all that stands behind the tag of a payload.
+pub(crate) fn two_fields<C: Content>(
+    alloc: Global,
+    payload: &[u8],
+    fields: &[u8],
+) -> Result<(Text, C), RecordFault>
+    requires behind { length fields.now + 1 ≡ length payload.now }
+    requires types { (at : ℕ) → LacksTwo (IsLastFault C.has_type) fields.now at → IsNoRecord payload.now at }
+    ensures { MatchResult result
+        (λ r. HasTwo C.is_whole C.bytes_of C.has_type fields.now r.0 r.1 [])
+        (IsRecordFault payload.now) }
+{
+    let (id, rest) = field::<Text>(alloc, fields, 1)?;
+    let at = (payload.len() - rest.len()) as u64;
+    let value = last_field(alloc, rest, at)?;
+    Ok((id, value))
+}
+
 /// The tree at a level that the first field of some bytes holds, and what is behind it. The bytes stand at the place
 /// `at` of a payload.
 fn tree_field<T: Tree>(
@@ -71,7 +110,7 @@ fn tree_field<T: Tree>(
     let Some((content, rest)) = first_field(bytes) else {
         return Err(RecordFault::NotARecord { at });
     };
-    match read_tree(alloc, content, level)? {
+    match read_canonical(alloc, content, level)? {
         Some(tree) => Ok((tree, rest)),
         None => Err(RecordFault::NotARecord { at }),
     }

@@ -4,7 +4,7 @@ ghost use Rattle.std.specs.Prelude.{MatchResult};
 ghost use Rattle.aas_record.specs.Records.{IsRecord, IsRecordFault};
 
 use crate::RecordFault;
-use crate::fields::{field, last_field};
+use crate::fields::two_fields;
 use aas_command::Command;
 use aas_model::{Reference, Text};
 use std::alloc::Global;
@@ -14,9 +14,7 @@ pub(crate) fn addition(alloc: Global, payload: &[u8], fields: &[u8]) -> Result<C
     requires { IsFirstAndRest payload.now 11 fields.now }
     ensures { MatchResult result (IsRecord payload.now) (IsRecordFault payload.now) }
 {
-    let (shell, rest) = field::<Text>(alloc, fields, 1)?;
-    let at = (payload.len() - rest.len()) as u64;
-    let reference = last_field::<Reference>(alloc, rest, at)?;
+    let (shell, reference) = two_fields::<Reference>(alloc, payload, fields)?;
     Ok(Command::AddReference { shell, reference })
 }
 
@@ -25,8 +23,6 @@ pub(crate) fn removal(alloc: Global, payload: &[u8], fields: &[u8]) -> Result<Co
     requires { IsFirstAndRest payload.now 12 fields.now }
     ensures { MatchResult result (IsRecord payload.now) (IsRecordFault payload.now) }
 {
-    let (shell, rest) = field::<Text>(alloc, fields, 1)?;
-    let at = (payload.len() - rest.len()) as u64;
-    let submodel = last_field::<Text>(alloc, rest, at)?;
+    let (shell, submodel) = two_fields::<Text>(alloc, payload, fields)?;
     Ok(Command::DropReference { shell, submodel })
 }

@@ -8,8 +8,8 @@ ghost use Rattle.aas_server.specs.ValueAnswer.{element_answer, IsValueAnswer};
 
 use aas_command::Refusal;
 use aas_constraints::check_element;
+use aas_document_read::read_tree;
 use aas_json_members::Exact;
-use aas_json_read::read_element;
 use aas_model::{Element, Extent, NoMemory};
 use aas_value::{has_value_form, value_form};
 use std::alloc::Global;
@@ -20,7 +20,7 @@ pub fn answer_value(alloc: Global, input: &[u8]) -> Result<Vec<u8>, Refusal>
     ensures done { IfOk result (λ text. IsValueAnswer input.now (done text.items)) }
     ensures refused { IfErr result (λ refusal. refusal ≢ Refusal.NoMemory → IsValueAnswer input.now (refused refusal)) }
 {
-    let element = read_element(alloc, input, 1)?;
+    let element = read_tree(alloc, input, 1)?;
     answer_element(alloc, &element)
 }
 

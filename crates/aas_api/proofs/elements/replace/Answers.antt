@@ -20,7 +20,7 @@ returns-in_ok-new-in-Ok c =
     let same : c.in_ok-new-in-Ok.field-0 ≡ c.in-Ok.element = c.in_ok-new-in-Ok.ensures in
     inr (
       result,
-      subst (λ n. ReadsBytes elements (with_levels n) result c.args.body.now) left c.in-Ok.ensures.reads,
+      subst (λ n. ReadsBytes elements (with_levels n) result c.args.body.now) left c.in-Ok.ensures,
       c.if_same.ensures ∙ ap (λ (id : List ℕ). asks id c.in_ok-new-in-Ok.field-0) c.submodel.view_is
           ∙ ap (asks c.args.submodel) same,
     )

@@ -1,9 +1,9 @@
-use Rattle.std.proofs.Common.{refl, subst, ℕ, [], ◌∷◌, arith}
+use Rattle.std.proofs.Common.{ap, refl, subst, ℕ, [], ◌∷◌, arith}
 use Rattle.std.specs.List.{IsFirstAndRest}
 use Rattle.std.proofs.lemmas.Bool.Decides.{nat_tests}
 use Rattle.aas_command.specs.Commands.{IsWellFormed}
-use Rattle.aas_record.specs.FieldTypes.{asset_information, concept, environment, identifier, shell, submodel}
-use Rattle.aas_record.proofs.Payloads.{no_row, nothing, read_one, read_two, wrong_first, wrong_one, wrong_second}
+use Rattle.aas_record.specs.FieldTypes.{asset_information, concept, environment, identifier, shell, submodel, types_of}
+use Rattle.aas_record.proofs.Payloads.{no_row, nothing, read_one, read_two, wrong, wrong_one}
 use Rattle.aas_record.proofs.decoding.decode.Goals as goal
 
 pub returns-in_default : goal.returns-in_default
@@ -68,18 +68,15 @@ returns-in_ok-last_field-in-9 c =
     let f = c.in_ok-last_field-in-9.ensures in
     read_one _ _ _ _ 9 _ c.in-Some.ensures.cases c.in-9.is refl f.whole f.begins f.type
 
-pub returns-in_ok-last_field-in-10 : goal.returns-in_ok-last_field-in-10
+pub returns-in_ok-shell-in-10 : goal.returns-in_ok-shell-in-10
 unfolding IsWellFormed
-returns-in_ok-last_field-in-10 c =
-    let first = c.in_ok-shell-in-10.ensures in
-    let last = c.in_ok-last_field-in-10.ensures in
-    read_two _ _ _ _ _ _ 10 _ c.in-Some.ensures.cases c.in-10.is
-    refl last.whole first.begins first.type last.begins last.type.0
+returns-in_ok-shell-in-10 c = let two = c.in_ok-shell-in-10.ensures in
+    read_two _ _ 10 _ two c.in-Some.ensures.cases c.in-10.is refl two.second.whole two.second.type.0
 
-pub returns-in_ok-last_field-in-17 : goal.returns-in_ok-last_field-in-17
+pub returns-in_ok-last_tree-in-17 : goal.returns-in_ok-last_tree-in-17
 unfolding IsWellFormed
-returns-in_ok-last_field-in-17 c =
-    let f = c.in_ok-last_field-in-17.ensures in
+returns-in_ok-last_tree-in-17 c =
+    let f = c.in_ok-last_tree-in-17.ensures in
     read_one _ _ _ _ 17 _ c.in-Some.ensures.cases c.in-17.is refl f.whole f.begins f.type.0
 
 -- ---- what goes wrong
@@ -129,20 +126,14 @@ returns-in_err-last_field-in-9 c =
     wrong_one _ _ _ 9 _ _ c.in-Some.ensures.cases c.in-9.is
     c.from_residual-in_err-last_field-in-9.ensures identifier refl c.in_err-last_field-in-9.ensures
 
-pub returns-in_err-shell-in-10 : goal.returns-in_err-shell-in-10
-returns-in_err-shell-in-10 c =
-    wrong_first _ _ _ 10 _ _ c.in-Some.ensures.cases c.in-10.is c.from_residual-in_err-shell-in-10.ensures identifier
-    (asset_information ∷ []) refl c.in_err-shell-in-10.ensures
+pub two_fields-requires-clause-types : goal.two_fields-requires-clause-types
+two_fields-requires-clause-types c at =
+    wrong _ _ _ at (identifier ∷ asset_information ∷ []) c.in-Some.ensures.cases (ap types_of c.in-10.is)
 
-pub returns-in_err-last_field-in-10 : goal.returns-in_err-last_field-in-10
-returns-in_err-last_field-in-10 c = let first = c.in_ok-shell-in-10.ensures in
-    wrong_second _ _ _ 10 _ _ c.in-Some.ensures.cases c.in-10.is c.from_residual-in_err-last_field-in-10.ensures
-    _ _ _ identifier asset_information refl first.begins first.type refl c.in_err-last_field-in-10.ensures
-
-pub returns-in_err-last_field-in-17 : goal.returns-in_err-last_field-in-17
-returns-in_err-last_field-in-17 c =
+pub returns-in_err-last_tree-in-17 : goal.returns-in_err-last_tree-in-17
+returns-in_err-last_tree-in-17 c =
     wrong_one _ _ _ 17 _ _ c.in-Some.ensures.cases c.in-17.is
-    c.from_residual-in_err-last_field-in-17.ensures environment refl c.in_err-last_field-in-17.ensures
+    c.from_residual-in_err-last_tree-in-17.ensures environment refl c.in_err-last_tree-in-17.ensures
 
 -- ---- the commands on references and on elements
 
