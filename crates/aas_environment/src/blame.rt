@@ -1,65 +1,37 @@
-// For which document of a file its import is refused. Nothing of the file was kept, so it is read again.
-ghost use Rattle.std.specs.Prelude.{◌≡◌, ◌≢◌, None, Some, IfOk};
+// For which document of an environment its import is refused.
+ghost use Rattle.std.specs.Prelude.{◌≡◌, None, Some, IfOk, MatchOption};
 ghost use Rattle.aas_model.specs.declared.documents.Environment as model;
 ghost use Rattle.aas_repo.specs.Faulty.{first_faulty_in};
 ghost use Rattle.aas_step.specs.Causes.{first_repeated_in};
-ghost use Rattle.aas_environment.specs.Imports.{Blames, Place, PointsTo, Spell};
-ghost use Rattle.aas_environment.specs.Refusing.{IsOwn};
-ghost use Rattle.aas_environment.specs.declared.import_fault.ImportFault.TheVariants.{NoMemory as NoMemoryLeft};
+ghost use Rattle.aas_environment.specs.Imports.{Place, PointsTo};
+ghost use Rattle.aas_environment.specs.Refusing.{BlamesDocument, IsOwn};
 
 use crate::import_fault::ImportFault;
 use crate::members::name_of;
 use aas_command::Refusal;
-use aas_json_read::read_environment;
 use aas_json_table::pointer::{Token, Trail, pointer};
-use aas_model::{Collection, Environment, Fault, NoMemory, ReadFault, Text};
+use aas_model::{Collection, Environment, Fault, NoMemory, Text};
 use aas_repo::{first_faulty, first_repeated};
 use std::alloc::Global;
 
-/// Why the environment that the bytes spell isn't imported, where it isn't the keeper that failed.
-pub(crate) fn fault_of(alloc: Global, bytes: &[u8]) -> ImportFault
-    requires { (e : model.Environment) × Spell bytes.now e }
-    ensures { result ≢ NoMemoryLeft → (e : model.Environment) → Spell bytes.now e → Blames e result }
-{
-    match blame_again(alloc, bytes) {
-        Ok(fault) => fault,
-        Err(NoMemory) => ImportFault::NoMemory,
-    }
-}
-
-fn blame_again(alloc: Global, bytes: &[u8]) -> Result<ImportFault, NoMemory>
-    requires { (e : model.Environment) × Spell bytes.now e }
-    ensures { IfOk result (λ fault. (e : model.Environment) → Spell bytes.now e → Blames e fault) }
-{
-    let environment = read_again(alloc, bytes)?;
-    blame(alloc, &environment)
-}
-
-/// The environment that was read of the bytes before.
-fn read_again(alloc: Global, bytes: &[u8]) -> Result<Environment, NoMemory>
-    requires { (e : model.Environment) × Spell bytes.now e }
-    ensures { IfOk result (λ environment. (e : model.Environment) → Spell bytes.now e → e ≡ environment) }
-{
-    match read_environment(alloc, bytes) {
-        Ok(environment) => Ok(environment),
-        Err(ReadFault::NoMemory) => Err(NoMemory),
-        Err(_) => unreachable!(),
-    }
-}
-
-/// Its first document whose identifier is repeated, or else its first faulty one;
-/// where there is none, there is no room.
-fn blame(alloc: Global, environment: &Environment) -> Result<ImportFault, NoMemory>
-    ensures { IfOk result (Blames environment.now) }
+/// Why a cause of its own refuses an environment: its first document whose identifier is repeated, or else its first
+/// faulty one.
+pub(crate) fn blame(
+    alloc: Global,
+    environment: &Environment,
+) -> Result<Option<ImportFault>, NoMemory>
+    ensures { IfOk result (λ fault. MatchOption fault
+        ((first_repeated_in environment.now ≡ None) × (first_faulty_in environment.now ≡ None))
+        (BlamesDocument environment.now)) }
 {
     if let Some(document) = first_repeated(alloc, environment)? {
-        return Ok(ImportFault::Twice {
+        return Ok(Some(ImportFault::Twice {
             pointer: document_pointer(alloc, document)?,
-        });
+        }));
     }
     match first_faulty(alloc, environment)? {
-        Some((document, why)) => Ok(faulty(document_pointer(alloc, document)?, why)),
-        None => Ok(ImportFault::Full),
+        Some((document, why)) => Ok(Some(faulty(document_pointer(alloc, document)?, why))),
+        None => Ok(None),
     }
 }
 
@@ -68,7 +40,7 @@ fn faulty(pointer: Text, why: Refusal) -> ImportFault
     requires { IsOwn why }
     ensures { (e : model.Environment) (document : Place) → first_repeated_in e ≡ None
         → first_faulty_in e ≡ Some (document, why)
-        → PointsTo pointer document → Blames e result }
+        → PointsTo pointer document → BlamesDocument e result }
 {
     match why {
         Refusal::Lexical { path } => ImportFault::Rule {

@@ -1,16 +1,16 @@
 ghost use Rattle.std.specs.Prelude.{◌≡◌, ◌≢◌, Err, IfErr, false, true};
 ghost use Rattle.aas_repo.specs.Held.{machine_state};
 ghost use Rattle.aas_rule.specs.State.{GoesOn, WhereSettled};
-ghost use Rattle.aas_environment.specs.Imports.{ComesOut, Imports, IsFileFault, counts_of};
+ghost use Rattle.aas_environment.specs.Imports.{ComesOut, Imports, IsFileFault};
 ghost use Rattle.aas_environment.specs.declared.import_fault.ImportFault.TheVariants.{Storage};
 
-use crate::blame::fault_of;
+use crate::blame::blame;
 use crate::import_fault::ImportFault;
-use aas_command::{Command, Refusal};
-use aas_json_read::read_environment;
-use aas_model::{Environment, ReadFault};
+use aas_command::Refusal;
+use aas_document_read::read_tree;
+use aas_model::{Environment, NoMemory, ReadFault};
 use aas_outside::Keeper;
-use aas_repo::{Counts, Repo};
+use aas_repo::{Counts, Done, Repo};
 use aas_store::Store;
 use std::alloc::Global;
 
@@ -24,7 +24,7 @@ use std::alloc::Global;
 /// concept descriptions. At `Storage` the keeper failed, and the repository is stopped; its documents are those with
 /// the file's.
 ///
-/// Where a document is refused the bytes are read again, to find its place.
+/// The bytes are read once, and the documents are looked at once.
 pub fn import<S: Store, K: Keeper>(
     alloc: Global,
     repo: &mut Repo<S, K>,
@@ -41,28 +41,22 @@ pub fn import<S: Store, K: Keeper>(
         result }
     ensures unchanged { IfErr result (λ fault. fault ≢ Storage → repo.new ≡ repo.old) }
 {
-    let environment = match read_environment(alloc, bytes) {
+    let environment = match read_tree::<Environment>(alloc, bytes, 1) {
         Ok(environment) => environment,
         Err(ReadFault::NoMemory) => return Err(ImportFault::NoMemory),
         Err(fault) => return Err(ImportFault::Read(fault)),
     };
-    let counts = counts_of(&environment);
-    match repo.act(Command::Import { environment }) {
-        Ok(_) => Ok(counts),
-        Err(refusal) => match refusal {
-            Refusal::StorageFault => Err(ImportFault::Storage),
-            Refusal::NoMemory => Err(ImportFault::NoMemory),
-            _ => Err(fault_of(alloc, bytes)),
-        },
+    match blame(alloc, &environment) {
+        Ok(None) => {}
+        Ok(Some(fault)) => return Err(fault),
+        Err(NoMemory) => return Err(ImportFault::NoMemory),
     }
-}
-
-fn counts_of(environment: &Environment) -> Counts
-    ensures { result ≡ counts_of environment.now }
-{
-    Counts {
-        shells: environment.shells.len() as u64,
-        submodels: environment.submodels.len() as u64,
-        concepts: environment.concepts.len() as u64,
+    match repo.import(environment) {
+        Ok(Done::Imported { counts }) => Ok(counts),
+        Ok(_) => unreachable!(),
+        Err(Refusal::StorageFull) => Err(ImportFault::Full),
+        Err(Refusal::StorageFault) => Err(ImportFault::Storage),
+        Err(Refusal::NoMemory) => Err(ImportFault::NoMemory),
+        Err(_) => unreachable!(),
     }
 }

@@ -1,7 +1,7 @@
 -- What an import comes to, by the causes that were tried.
 use Rattle.std.proofs.Common.{◌≡◌, ◌+◌, ℕ, zero, suc, Bool, true, false, List, [], ◌∷◌, ◌++◌, arith, Option, Some, None}
 use Rattle.std.proofs.Common.{refl, sym, ap, ap₂, ◌∙◌, subst}
-use Rattle.std.specs.Prelude.{◌&&◌, ◌==◌, ◌≢◌, All, not, flat_map, map, option_map}
+use Rattle.std.specs.Prelude.{◌&&◌, ◌==◌, ◌≢◌, All, not, flat_map, is_some, map, option_map}
 use Rattle.std.specs.BTreeMap.{is_at}
 use Rattle.std.specs.BTreeSet.{BTreeSet, insert_key}
 use Rattle.std.specs.Cmp.Lexicographic.{slice_cmp}
@@ -26,6 +26,7 @@ use Rattle.aas_json_table.specs.TooDeep.{limits}
 use Rattle.aas_model.specs.declared.documents.Environment.{Environment}
 use Rattle.aas_model.specs.declared.documents.Submodel.{Submodel}
 use Rattle.aas_model.specs.declared.path.Fault.{Fault}
+use Rattle.aas_model_names.specs.declared.collection.Collection.{Collection}
 use Rattle.aas_model_names.specs.declared.collection.Collection.TheVariants.{Shells, Submodels, Concepts}
 use Rattle.aas_reference.specs.Rules.{first}
 use Rattle.aas_step.proofs.Imported.{with_all_documents}
@@ -33,12 +34,12 @@ use Rattle.aas_step.specs.Causes.{Cause, document_causes, first_of, first_repeat
 use Rattle.aas_step.specs.Causes.{has_too_many, unless, when}
 use Rattle.aas_step.specs.Laws.{ValidIsStorable}
 use Rattle.aas_step.specs.Made.{documents_in, with_documents}
-use Rattle.aas_step.specs.Step.{ComesBy, ComesTo, accepted, later_causes, refused, result_of}
+use Rattle.aas_step.specs.Step.{ComesBy, ComesTo, Result, accepted, later_causes, refused, result_of}
 use Rattle.aas_step.proofs.Validity.{no_cause}
 use Rattle.aas_store.specs.Documents.{Documents, with_all}
 use Rattle.aas_store.specs.Storable.{IsStorable}
 use Rattle.aas_repo_documents.specs.Decisions.{IsDecision}
-use Rattle.aas_repo.specs.Faulty.{first_faulty_from, first_faulty_in, in_list}
+use Rattle.aas_repo.specs.Faulty.{first_faulty_from, first_faulty_in, in_list, own_cause}
 use Rattle.aas_repo_documents.proofs.Decided.{first_in, of_fault}
 use Rattle.aas_repo_documents.specs.declared.decision.Decision.TheVariants as decision
 
@@ -115,14 +116,6 @@ no_storage_fault has_room (x ∷ xs) refusal e is =
 
 -- ---- what it comes to
 
--- all causes of an import, in their order
-abbrev pub import_causes : Bool → Environment → List Cause
-import_causes has_room e = when (has_repeated e) Conflict ∷ later_causes has_room (documents_in e)
-
-later_than : (b : Bool) (later : List Cause) → b ≡ false → first_of (when b Conflict ∷ later) ≡ first_of later
-later_than true later is = absurd (cc)
-later_than false later is = refl
-
 -- why the first faulty document isn't taken
 why_from : (n : ℕ) (xs : List Document)
     → option_map (λ f. f.1) (first_faulty_from n xs) ≡ first_of (flat_map document_causes xs)
@@ -163,14 +156,6 @@ pub later_cause : (has_room : Bool) (e : Environment)
     ≡ option_or (option_map (λ f. f.1) (first_faulty_in e)) (unless has_room StorageFull)
 later_cause has_room e = by_lists has_room e ∙ ap (λ o. option_or o (unless has_room StorageFull)) (sym (why_in e))
 
--- where no identifier is repeated: why the first faulty document isn't taken, and then the room
-pub in_turn : (has_room : Bool) (e : Environment) (own : Cause)
-    → has_repeated e ≡ false → own ≡ option_map (λ f. f.1) (first_faulty_in e)
-    → option_or own (unless has_room StorageFull) ≡ first_of (import_causes has_room e)
-in_turn has_room e own once is =
-    ap (λ o. option_or o (unless has_room StorageFull)) is
-    ∙ sym (later_than (has_repeated e) (later_causes has_room (documents_in e)) once ∙ later_cause has_room e)
-
 -- the first place at which an identifier is repeated, list by list
 pub places : (e : Environment) (a b c : Option ℕ)
     → a ≡ first_repeated (map (λ s. s.head.id) e.shells) → b ≡ first_repeated (map (λ s. s.head.id) e.submodels)
@@ -190,63 +175,72 @@ places e a b c is_a is_b is_c =
     (option_map (λ n. (Concepts, n)) o)))
     is_c
 
-comes : (has_room : Bool) (d : Documents) (e : Environment) (o : Cause)
-    → has_repeated e ≡ false → o ≡ first_of (later_causes has_room (documents_in e))
-    → ComesTo has_room d (Import e) (result_of o (with_documents d (documents_in e)))
-unfolding ComesTo
-comes has_room d e o once is =
-    subst (λ b.
-    ComesBy (first_of (when b Conflict ∷ [])) has_room d (Import e) (result_of o (with_documents d (documents_in e))))
-    (sym once)
-    (documents_in e, refl, ap (λ (o : Cause). result_of o (with_documents d (documents_in e))) is)
+-- an environment's own cause, by what is found in it
+pub own_is : (e : Environment) (repeated : Option (Collection × ℕ)) (faulty : Option ((Collection × ℕ) × Refusal))
+    → first_repeated_in e ≡ repeated → first_faulty_in e ≡ faulty
+    → own_cause e ≡ option_or (when (is_some repeated) Conflict) (option_map (λ f. f.1) faulty)
+own_is e repeated faulty is_repeated is_faulty =
+    ap₂ (λ (r : Option (Collection × ℕ)) (f : Option ((Collection × ℕ) × Refusal)).
+    option_or (when (is_some r) Conflict) (option_map (λ f. f.1) f))
+    is_repeated is_faulty
 
--- an identifier is repeated, or none is
-by_repeated : (b : Bool) (refusal : Refusal) (later : List Cause) → Some refusal ≡ first_of (when b Conflict ∷ later)
-    → (b ≡ true → refusal ≡ Conflict) × (b ≡ false → Some refusal ≡ first_of later)
-by_repeated true refusal later e = (λ is. cc, λ is. absurd (cc))
-by_repeated false refusal later e = (λ is. absurd (cc), λ is. e)
+-- by its own cause, and else by the room
+module _ (has_room : Bool) (d : Documents) (e : Environment) where
+  abbrev came : Cause → Result
+  came own = result_of (option_or own (unless has_room StorageFull)) (with_documents d (documents_in e))
 
-pub refuses : (has_room : Bool) (d new : Documents) (e : Environment) (refusal : Refusal)
-    → Some refusal ≡ first_of (import_causes has_room e) → new ≡ d
-    → IsDecision has_room d (Import e) new (decision.Refused refusal)
-unfolding ComesTo
-refuses has_room d new e refusal why same = by (has_repeated e) refl
-  where
-    told : (has_repeated e ≡ true → refusal ≡ Conflict)
-        × (has_repeated e ≡ false → Some refusal ≡ first_of (later_causes has_room (documents_in e)))
-    told = by_repeated (has_repeated e) refusal (later_causes has_room (documents_in e)) why
+  abbrev Comes : Bool → Result → Type 0
+  Comes b result = ComesBy (first_of (when b Conflict ∷ [])) has_room d (Import e) result
 
-    by : (b : Bool) → has_repeated e ≡ b → IsDecision has_room d (Import e) new (decision.Refused refusal)
-    by true is =
-        let conflict : refusal ≡ Conflict = told.0 is in (
-          same,
-          λ fault. absurd (cc),
-          subst (λ b. ComesBy (first_of (when b Conflict ∷ [])) has_room d (Import e) (refused refusal))
-              (sym is) (ap refused conflict),
-        )
-    by false is =
-        let later = told.1 is in
-        (same, no_storage_fault has_room (documents_in e) refusal later, comes has_room d e (Some refusal) is later)
+  abbrev own_by : Bool → Cause
+  own_by b = option_or (when b Conflict) (option_map (λ f. f.1) (first_faulty_in e))
 
--- no cause is left
-clear : (b has_room : Bool) (new : List Document) → None ≡ first_of (when b Conflict ∷ later_causes has_room new)
-    → (b ≡ false) × (None ≡ first_of (later_causes has_room new)) × (has_room ≡ true)
-clear true has_room new none = absurd (cc)
-clear false true new none = (refl, none, refl)
-clear false false new none =
-    let full = none_in (first_of (flat_map document_causes new)) (Some StorageFull)
-    (none ∙ first_in (flat_map document_causes new) (Some StorageFull ∷ [])) in
-    absurd (cc)
+  to_own : (b : Bool) → Comes b (came (own_by b))
+  to_own true = refl
+  to_own false = (
+    documents_in e,
+    refl,
+    ap (λ (o : Cause). result_of o (with_documents d (documents_in e))) (sym (later_cause has_room e)),
+  )
 
-pub imports : (has_room : Bool) (d new : Documents) (e : Environment)
-    → None ≡ first_of (import_causes has_room e) → new ≡ with_all d e
-    → IsDecision has_room d (Import e) new decision.Made
-imports has_room d new e none same =
-    let is = clear (has_repeated e) has_room (documents_in e) none in (
-      is.2,
-      subst (λ (n : Documents). ComesTo has_room d (Import e) (accepted n))
-          (with_all_documents d e ∙ sym same) (comes has_room d e None is.0 is.1),
-    )
+  pub comes : (own : Cause) → own_cause e ≡ own → ComesTo has_room d (Import e) (came own)
+  unfolding ComesTo
+  comes own is = subst (λ (o : Cause). Comes (has_repeated e) (came o)) is (to_own (has_repeated e))
+
+  from_own : (b : Bool) (result : Result) → Comes b result → result ≡ came (own_by b)
+  from_own true result is = is
+  from_own false result is =
+      is.2 ∙ ap (λ new. result_of (first_of (later_causes has_room new)) (with_documents d new)) is.1
+      ∙ ap (λ (o : Cause). result_of o (with_documents d (documents_in e))) (later_cause has_room e)
+
+  pub only_full : (refusal : Refusal) → own_cause e ≡ None → ComesTo has_room d (Import e) (refused refusal)
+      → refusal ≡ StorageFull
+  unfolding ComesTo
+  only_full refusal none is = by has_room (from_own (has_repeated e) (refused refusal) is ∙ ap came none)
+    where
+      by : (b : Bool) → refused refusal ≡ result_of (unless b StorageFull) (with_documents d (documents_in e))
+          → refusal ≡ StorageFull
+      by true is = absurd (cc)
+      by false is = cc
+
+  no_fault : (b : Bool) (refusal : Refusal) → own_by b ≡ Some refusal → refusal ≢ StorageFault
+  no_fault true refusal is = λ fault. absurd (cc)
+  no_fault false refusal is =
+      no_storage_fault has_room (documents_in e) refusal
+      (sym (later_cause has_room e ∙ ap (λ o. option_or o (unless has_room StorageFull)) is))
+
+  pub refuses : (new : Documents) (refusal : Refusal) → Some refusal ≡ own_cause e → new ≡ d
+      → IsDecision has_room d (Import e) new (decision.Refused refusal)
+  refuses new refusal why same =
+      (same, no_fault (has_repeated e) refusal (sym why), comes (Some refusal) (sym why))
+
+pub imports : (d new : Documents) (e : Environment) → own_cause e ≡ None → new ≡ with_all d e
+    → IsDecision true d (Import e) new decision.Made
+imports d new e none same = (
+  refl,
+  subst (λ (n : Documents). ComesTo true d (Import e) (accepted n))
+      (with_all_documents d e ∙ sym same) (comes true d e None none),
+)
 
 -- ---- submodels that a store takes
 
@@ -266,12 +260,11 @@ all_storable (s ∷ ss) law whole none =
     all_of IsStorable s ss (law s (record { whole = wholes.0; faultless = own.0 }) own.1)
     (all_storable ss law wholes.1 nones.1)
 
-pub storable : (has_room : Bool) (e : Environment) → ValidIsStorable → is_whole_environment limits e ≡ true
-    → None ≡ first_of (import_causes has_room e) → All IsStorable e.submodels
-storable has_room e law whole none =
-    let is = clear (has_repeated e) has_room (documents_in e) none in
-    let lists = none_in _ (unless has_room StorageFull) (is.1 ∙ by_lists has_room e) in
-    let behind = none_in (cause_of shell e.shells) _ (sym lists.0) in
+pub storable : (e : Environment) → ValidIsStorable → is_whole_environment limits e ≡ true
+    → own_cause e ≡ None → All IsStorable e.submodels
+storable e law whole none =
+    let faultless = none_in (when (has_repeated e) Conflict) _ (sym none) in
+    let behind = none_in (cause_of shell e.shells) _ (sym faultless.1 ∙ why_in e) in
     let own = none_in (cause_of submodel e.submodels) _ (sym behind.1) in
     let front = and_parts (list_all (is_whole_shell limits) e.shells && list_all (is_whole_submodel limits) e.submodels)
     (list_all (is_whole_concept limits) e.concepts) whole in

@@ -14,15 +14,23 @@ use Rattle.aas_repo_documents.specs.Decisions.{IsDecision}
 use Rattle.aas_repo.specs.Decisions.{IsTaken, has_room_for}
 use Rattle.aas_repo_documents.specs.declared.decision.Decision.{Decision}
 use Rattle.aas_repo_documents.specs.declared.decision.Decision.TheVariants as decision
+use Rattle.aas_repo.specs.Tasks.{IsTask, command_of}
 use Rattle.aas_repo.specs.declared.taking.Taken.TheVariants as taken
+use Rattle.aas_repo.specs.declared.taking.Task.{Task}
+use Rattle.aas_repo.specs.declared.taking.Task.TheVariants as task
+
+well_formed : (t : Task) → IsTask t → IsWellFormed (command_of t)
+unfolding IsWellFormed
+well_formed (task.Command c) is = is
+well_formed (task.Import e) is = is.0
 
 -- valid documents stay so
-pub decided_valid : (has_room : Bool) (old new : Documents) (c : Command) (made : Decision)
-    → IsWellFormed c → AreValid old
-    → IsDecision has_room old c new made → AreValid new
-decided_valid has_room old new c decision.Made formed valid is = stays_valid has_room old new c formed valid is.1
-decided_valid has_room old new c (decision.Refused refusal) formed valid is = subst AreValid (sym is.0) valid
-decided_valid has_room old new c decision.NoMemory formed valid is = subst AreValid (sym is) valid
+pub decided_valid : (has_room : Bool) (old new : Documents) (t : Task) (made : Decision) → IsTask t → AreValid old
+    → IsDecision has_room old (command_of t) new made → AreValid new
+decided_valid has_room old new t decision.Made is_task valid is =
+    stays_valid has_room old new (command_of t) (well_formed t is_task) valid is.1
+decided_valid has_room old new t (decision.Refused refusal) is_task valid is = subst AreValid (sym is.0) valid
+decided_valid has_room old new t decision.NoMemory is_task valid is = subst AreValid (sym is) valid
 
 -- ---- room
 

@@ -2,3 +2,4 @@ pub mod Acts
 pub mod Decisions
 pub mod Faulty
 pub mod Held
+pub mod Tasks

@@ -1,16 +1,14 @@
 // An environment is imported: all its documents are put in, or none.
-ghost use Rattle.std.specs.Prelude.{◌≡◌, ◌∷◌, [], ◌++◌, ℕ, List, encode_utf8_all, map, IfOk};
+ghost use Rattle.std.specs.Prelude.{◌≡◌, ◌∷◌, [], ◌++◌, ℕ, List, encode_utf8_all, map, None, IfOk};
 ghost use Rattle.aas_command.specs.declared.command.Command.TheVariants.{Import};
-ghost use Rattle.aas_command.specs.declared.refusal.Refusal.TheVariants.{Conflict};
 ghost use Rattle.aas_constraint_parts.specs.Repeats.{HasTexts};
 ghost use Rattle.aas_constraint_rules.specs.Texts.{is_among};
 ghost use Rattle.aas_json_mapping.specs.Trees.{environments};
 ghost use Rattle.aas_json_table.specs.TooDeep.{limits};
-ghost use Rattle.aas_step.specs.Causes.{first_of, first_repeated, first_repeated_in, has_repeated, when};
-ghost use Rattle.aas_step.specs.Made.{documents_in, id_of};
-ghost use Rattle.aas_step.specs.Step.{later_causes};
+ghost use Rattle.aas_step.specs.Causes.{first_repeated, first_repeated_in};
+ghost use Rattle.aas_step.specs.Made.{id_of};
 ghost use Rattle.aas_repo_documents.specs.Decisions.{IsDecision};
-ghost use Rattle.aas_repo.specs.Faulty.{first_faulty_from, first_faulty_in};
+ghost use Rattle.aas_repo.specs.Faulty.{first_faulty_from, first_faulty_in, own_cause};
 
 use aas_command::Refusal;
 use aas_model::{Collection, Environment, NoMemory};
@@ -30,37 +28,45 @@ pub(crate) fn import<S: Store>(
     requires { environments.IsWhole limits environment }
     ensures { IsDecision has_room (S.documents store.old) (Import environment) (S.documents store.new) result }
 {
-    valid_submodels_are_storable();
-    match import_cause(alloc, &environment, has_room) {
-        Ok(None) => match store.put_all(environment) {
-            Ok(()) => Decision::Made,
-            Err(NoMemory) => Decision::NoMemory,
-        },
+    match import_cause(alloc, &environment) {
+        Ok(None) => put_environment(store, environment, has_room),
         Ok(Some(refusal)) => Decision::Refused(refusal),
         Err(NoMemory) => Decision::NoMemory,
     }
 }
 
-/// Why an environment isn't imported: an identifier stands twice, or the first cause of its documents in their order,
-/// or there is no room.
-fn import_cause(
-    alloc: Global,
-    environment: &Environment,
+/// Puts all documents of an environment in that no cause of its own refuses, where there is room.
+pub(crate) fn put_environment<S: Store>(
+    store: &mut S,
+    environment: Environment,
     has_room: bool,
-) -> Result<Option<Refusal>, NoMemory>
-    ensures { IfOk result (λ cause. cause ≡ first_of
-        (when (has_repeated environment.now) Conflict ∷ later_causes has_room (documents_in environment.now))) }
+) -> Decision
+    requires whole { environments.IsWhole limits environment }
+    requires no_cause { own_cause environment ≡ None }
+    ensures { IsDecision has_room (S.documents store.old) (Import environment) (S.documents store.new) result }
+{
+    valid_submodels_are_storable();
+    if !has_room {
+        return Decision::Refused(Refusal::StorageFull);
+    }
+    match store.put_all(environment) {
+        Ok(()) => Decision::Made,
+        Err(NoMemory) => Decision::NoMemory,
+    }
+}
+
+/// The cause of its own that refuses an environment: an identifier stands twice, or the first cause of its documents in
+/// their order.
+fn import_cause(alloc: Global, environment: &Environment) -> Result<Option<Refusal>, NoMemory>
+    ensures { IfOk result (λ cause. cause ≡ own_cause environment.now) }
 {
     if first_repeated(alloc, environment)?.is_some() {
         return Ok(Some(Refusal::Conflict));
     }
-    if let Some((_, refusal)) = first_faulty(alloc, environment)? {
-        return Ok(Some(refusal));
+    match first_faulty(alloc, environment)? {
+        Some((_, refusal)) => Ok(Some(refusal)),
+        None => Ok(None),
     }
-    if !has_room {
-        return Ok(Some(Refusal::StorageFull));
-    }
-    Ok(None)
 }
 
 /// The first document of an environment that has a fault or too many elements: its list and its place there, counted

@@ -9,7 +9,7 @@
 //! neither the documents nor the keeper; where the keeper fails, that is answered, the repository is stopped, and
 //! what a stop may leave then; after every other answer it isn't stopped, and no call of the keeper has failed; every
 //! document stays valid. But for what is kept, this holds also of a keeper that doesn't tell it. By the contract of
-//! `Repo::act`, `act_with_text`, `refers`, `stopped`; `change`.
+//! `Repo::act`, `act_with_text`, `import`, `refers`, `stopped`; `change`.
 #![tactic(auto)]
 
 mod deciding;

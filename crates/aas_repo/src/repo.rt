@@ -1,18 +1,23 @@
 // Documents in a store, and the commands that made them in a keeper.
 ghost use Rattle.std.specs.Prelude.{◌≡◌, ◌≢◌, None, Some, true, false, Err, IfErr, MatchResult};
 ghost use Rattle.aas_command.specs.Commands.{IsCreatedText, IsWellFormed};
-ghost use Rattle.aas_command.specs.declared.refusal.Refusal.TheVariants.{StorageFault};
+ghost use Rattle.aas_command.specs.declared.command.Command.TheVariants.{Import};
+ghost use Rattle.aas_command.specs.declared.refusal.Refusal.TheVariants.{NoMemory, StorageFault, StorageFull};
+ghost use Rattle.aas_json_mapping.specs.Trees.{environments};
+ghost use Rattle.aas_json_table.specs.TooDeep.{limits};
 ghost use Rattle.aas_rule.specs.State.{GoesOn, WhereSettled};
-ghost use Rattle.aas_step.specs.Causes.{first_of, reference_causes};
+ghost use Rattle.aas_step.specs.Causes.{first_of, first_repeated_in, reference_causes};
 ghost use Rattle.aas_step.specs.Valid.{AreValid};
 ghost use Rattle.aas_repo.specs.Acts.{Acts, ComesOut, done_of};
 ghost use Rattle.aas_repo.specs.Decisions.{IsEncoded, has_room_for};
+ghost use Rattle.aas_repo.specs.Faulty.{first_faulty_in};
 ghost use Rattle.aas_repo.specs.Held.{machine_state};
+ghost use Rattle.aas_repo.specs.Tasks.{IsTask, command_of};
 
 use crate::references::referring_shell;
-use crate::taking::{Taken, take};
-use aas_command::{Command, EncodeFault, Refusal, encode, encode_with_text};
-use aas_model::Text;
+use crate::taking::{Taken, Task, take};
+use aas_command::{Command, EncodeFault, Refusal, encode, encode_import, encode_with_text};
+use aas_model::{Environment, Text};
 use aas_outside::{Failed, Frame, Keeper};
 use aas_store::Store;
 use std::alloc::Global;
@@ -116,7 +121,7 @@ impl<S: Store, K: Keeper> Repo<S, K> {
         ensures unchanged { IfErr result (λ refusal. refusal ≢ StorageFault → self.new ≡ self.old) }
     {
         let encoded = encode(self.alloc, &command);
-        self.carry_out(command, encoded)
+        self.carry_out(Task::Command(command), encoded)
     }
 
     /// Does what [`Repo::act`] does. The text of what the command creates is at hand, and is kept as it is; where the
@@ -136,30 +141,54 @@ impl<S: Store, K: Keeper> Repo<S, K> {
         ensures unchanged { IfErr result (λ refusal. refusal ≢ StorageFault → self.new ≡ self.old) }
     {
         let encoded = encode_with_text(self.alloc, &command, text);
-        self.carry_out(command, encoded)
+        self.carry_out(Task::Command(command), encoded)
     }
 
-    /// Does what a command asks for, with its frame, or refuses it.
-    fn carry_out(
-        &mut self,
-        command: Command,
-        encoded: Result<Frame, EncodeFault>,
-    ) -> Result<Done, Refusal>
+    /// Imports an environment of which no identifier stands twice in a list and no document is faulty: [`Repo::act`] of
+    /// its import, without a second look at the documents. But for a fault of the keeper and want of memory the only
+    /// refusal is `StorageFull`.
+    pub fn import(&mut self, environment: Environment) -> Result<Done, Refusal>
         requires open { self.old.stopped ≡ false }
-        requires well_formed { IsWellFormed command }
-        requires encoded { IsEncoded command encoded }
+        requires whole { environments.IsWhole limits environment }
+        requires no_repeat { first_repeated_in environment ≡ None }
+        requires no_fault { first_faulty_in environment ≡ None }
         ensures acts { WhereSettled K.stands_for (machine_state K.state self.old).held (λ r.
-            Acts (K.state self.old.keeper).room_behind K.stands_for r command
+            Acts (K.state self.old.keeper).room_behind K.stands_for r (Import environment)
             (K.state self.old.keeper).moment (machine_state K.state self.new).held result) }
         ensures goes_on { GoesOn (result ≡ Err StorageFault)
             (machine_state K.state self.old) (machine_state K.state self.new) }
         ensures stops { result ≡ Err StorageFault → self.new.stopped ≡ true }
-        ensures outcome { ComesOut (has_room_for (K.state self.old.keeper).has_room command)
-            self.old.documents command self.new.documents result }
+        ensures outcome { ComesOut (has_room_for (K.state self.old.keeper).has_room (Import environment))
+            self.old.documents (Import environment) self.new.documents result }
+        ensures unchanged { IfErr result (λ refusal. refusal ≢ StorageFault → self.new ≡ self.old) }
+        ensures refusal { IfErr result (λ refusal.
+            refusal ≢ StorageFault → refusal ≢ NoMemory → refusal ≡ StorageFull) }
+    {
+        let encoded = encode_import(self.alloc, &environment);
+        self.carry_out(Task::Import(environment), encoded)
+    }
+
+    /// Does what a task asks for, with its frame, or refuses it.
+    fn carry_out(
+        &mut self,
+        task: Task,
+        encoded: Result<Frame, EncodeFault>,
+    ) -> Result<Done, Refusal>
+        requires open { self.old.stopped ≡ false }
+        requires task { IsTask task }
+        requires encoded { IsEncoded (command_of task) encoded }
+        ensures acts { WhereSettled K.stands_for (machine_state K.state self.old).held (λ r.
+            Acts (K.state self.old.keeper).room_behind K.stands_for r (command_of task)
+            (K.state self.old.keeper).moment (machine_state K.state self.new).held result) }
+        ensures goes_on { GoesOn (result ≡ Err StorageFault)
+            (machine_state K.state self.old) (machine_state K.state self.new) }
+        ensures stops { result ≡ Err StorageFault → self.new.stopped ≡ true }
+        ensures outcome { ComesOut (has_room_for (K.state self.old.keeper).has_room (command_of task))
+            self.old.documents (command_of task) self.new.documents result }
         ensures unchanged { IfErr result (λ refusal. refusal ≢ StorageFault → self.new ≡ self.old) }
     {
-        let done = done_of(&command);
-        match take(self.alloc, &mut self.store, &self.keeper, command, encoded) {
+        let done = done_of(&task);
+        match take(self.alloc, &mut self.store, &self.keeper, task, encoded) {
             Taken::Made(frame) => match self.keeper.keep(&frame) {
                 Ok(()) => Ok(done),
                 Err(Failed) => {
@@ -194,8 +223,17 @@ impl<S: Store + Drop, K: Keeper> Repo<S, K> {
     }
 }
 
-/// What the command does where it is accepted.
-fn done_of(command: &Command) -> Done
+/// What the task does where it is accepted.
+fn done_of(task: &Task) -> Done
+    ensures { result ≡ done_of (command_of task.now) }
+{
+    match task {
+        Task::Command(command) => done_of_command(command),
+        Task::Import(environment) => done_of_import(environment),
+    }
+}
+
+fn done_of_command(command: &Command) -> Done
     ensures { result ≡ done_of command.now }
 {
     match command {
@@ -204,13 +242,19 @@ fn done_of(command: &Command) -> Done
         Command::CreateConcept { .. } => Done::Created,
         Command::AddReference { .. } => Done::Created,
         Command::InsertElement { .. } => Done::Created,
-        Command::Import { environment } => Done::Imported {
-            counts: Counts {
-                shells: environment.shells.len() as u64,
-                submodels: environment.submodels.len() as u64,
-                concepts: environment.concepts.len() as u64,
-            },
-        },
+        Command::Import { environment } => done_of_import(environment),
         _ => Done::Changed,
+    }
+}
+
+fn done_of_import(environment: &Environment) -> Done
+    ensures { result ≡ done_of (Import environment.now) }
+{
+    Done::Imported {
+        counts: Counts {
+            shells: environment.shells.len() as u64,
+            submodels: environment.submodels.len() as u64,
+            concepts: environment.concepts.len() as u64,
+        },
     }
 }
