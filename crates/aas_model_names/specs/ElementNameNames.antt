@@ -1,9 +1,8 @@
 -- The names of `ElementName`. IDTA-01001-3-0, enumeration AasSubmodelElements.
-use Rattle.std.specs.Prelude.{◌≡◌, ℕ, List, [], ◌∷◌, Some, codes, bytes_eq, refl}
-use Rattle.std.specs.List.{find}
-use Rattle.aas_model_names.specs.Names.{names_of}
-use Rattle.aas_model_names.specs.declared.element_name.ElementName.{ElementName}
-use Rattle.aas_model_names.specs.declared.element_name.ElementName.TheVariants.{Property, MultiLanguageProperty, Range, File, Blob, ReferenceElement, RelationshipElement, AnnotatedRelationshipElement, Entity, BasicEventElement, Capability, Operation, SubmodelElementCollection, SubmodelElementList, SubmodelElement, DataElement, EventElement}
+use Rattle.std.specs.Prelude.{ℕ, List, [], ◌∷◌, codes, refl}
+use Rattle.aas_model_names.specs.Names.{names_of, FindsEach}
+use Rattle.aas_model_names.specs.declared.kind.ElementName.{ElementName}
+use Rattle.aas_model_names.specs.declared.kind.ElementName.TheVariants.{Property, MultiLanguageProperty, Range, File, Blob, ReferenceElement, RelationshipElement, AnnotatedRelationshipElement, Entity, BasicEventElement, Capability, Operation, SubmodelElementCollection, SubmodelElementList, SubmodelElement, DataElement, EventElement}
 
 abbrev pub name_of : ElementName → List ℕ
 name_of Property = codes "Property"
@@ -26,44 +25,13 @@ name_of EventElement = codes "EventElement"
 
 abbrev pub all : List ElementName
 all =
-    Property ∷
-    MultiLanguageProperty ∷
-    Range ∷
-    File ∷
-    Blob ∷
-    ReferenceElement ∷
-    RelationshipElement ∷
-    AnnotatedRelationshipElement ∷
-    Entity ∷
-    BasicEventElement ∷
-    Capability ∷
-    Operation ∷
-    SubmodelElementCollection ∷
-    SubmodelElementList ∷
-    SubmodelElement ∷
-    DataElement ∷
-    EventElement ∷
-    []
+    Property ∷ MultiLanguageProperty ∷ Range ∷ File ∷ Blob ∷ ReferenceElement ∷ RelationshipElement ∷
+    AnnotatedRelationshipElement ∷ Entity ∷ BasicEventElement ∷ Capability ∷ Operation ∷ SubmodelElementCollection ∷
+    SubmodelElementList ∷ SubmodelElement ∷ DataElement ∷ EventElement ∷ []
 
 abbrev pub names : List (List ℕ)
 names = names_of name_of all
 
--- each value is the first of all that has its name
-pub found : (v : ElementName) → find (λ u. bytes_eq (name_of u) (name_of v)) all ≡ Some v
+pub found : FindsEach name_of all
 found Property = refl
-found MultiLanguageProperty = refl
-found Range = refl
-found File = refl
-found Blob = refl
-found ReferenceElement = refl
-found RelationshipElement = refl
-found AnnotatedRelationshipElement = refl
-found Entity = refl
-found BasicEventElement = refl
-found Capability = refl
-found Operation = refl
-found SubmodelElementCollection = refl
-found SubmodelElementList = refl
-found SubmodelElement = refl
-found DataElement = refl
-found EventElement = refl
+found _ = refl

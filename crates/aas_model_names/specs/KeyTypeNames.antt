@@ -1,9 +1,8 @@
 -- The names of `KeyType`. IDTA-01001-3-0, enumeration KeyTypes.
-use Rattle.std.specs.Prelude.{◌≡◌, ℕ, List, [], ◌∷◌, Some, codes, bytes_eq, refl}
-use Rattle.std.specs.List.{find}
-use Rattle.aas_model_names.specs.Names.{names_of}
-use Rattle.aas_model_names.specs.declared.key_type.KeyType.{KeyType}
-use Rattle.aas_model_names.specs.declared.key_type.KeyType.TheVariants.{Property, MultiLanguageProperty, Range, File, Blob, ReferenceElement, RelationshipElement, AnnotatedRelationshipElement, Entity, BasicEventElement, Capability, Operation, SubmodelElementCollection, SubmodelElementList, SubmodelElement, DataElement, EventElement, AssetAdministrationShell, Submodel, ConceptDescription, Identifiable, Referable, GlobalReference, FragmentReference}
+use Rattle.std.specs.Prelude.{ℕ, List, [], ◌∷◌, codes, refl}
+use Rattle.aas_model_names.specs.Names.{names_of, FindsEach}
+use Rattle.aas_model_names.specs.declared.kind.KeyType.{KeyType}
+use Rattle.aas_model_names.specs.declared.kind.KeyType.TheVariants.{Property, MultiLanguageProperty, Range, File, Blob, ReferenceElement, RelationshipElement, AnnotatedRelationshipElement, Entity, BasicEventElement, Capability, Operation, SubmodelElementCollection, SubmodelElementList, SubmodelElement, DataElement, EventElement, AssetAdministrationShell, Submodel, ConceptDescription, Identifiable, Referable, GlobalReference, FragmentReference}
 
 abbrev pub name_of : KeyType → List ℕ
 name_of Property = codes "Property"
@@ -33,58 +32,14 @@ name_of FragmentReference = codes "FragmentReference"
 
 abbrev pub all : List KeyType
 all =
-    Property ∷
-    MultiLanguageProperty ∷
-    Range ∷
-    File ∷
-    Blob ∷
-    ReferenceElement ∷
-    RelationshipElement ∷
-    AnnotatedRelationshipElement ∷
-    Entity ∷
-    BasicEventElement ∷
-    Capability ∷
-    Operation ∷
-    SubmodelElementCollection ∷
-    SubmodelElementList ∷
-    SubmodelElement ∷
-    DataElement ∷
-    EventElement ∷
-    AssetAdministrationShell ∷
-    Submodel ∷
-    ConceptDescription ∷
-    Identifiable ∷
-    Referable ∷
-    GlobalReference ∷
-    FragmentReference ∷
-    []
+    Property ∷ MultiLanguageProperty ∷ Range ∷ File ∷ Blob ∷ ReferenceElement ∷ RelationshipElement ∷
+    AnnotatedRelationshipElement ∷ Entity ∷ BasicEventElement ∷ Capability ∷ Operation ∷ SubmodelElementCollection ∷
+    SubmodelElementList ∷ SubmodelElement ∷ DataElement ∷ EventElement ∷ AssetAdministrationShell ∷ Submodel ∷
+    ConceptDescription ∷ Identifiable ∷ Referable ∷ GlobalReference ∷ FragmentReference ∷ []
 
 abbrev pub names : List (List ℕ)
 names = names_of name_of all
 
--- each value is the first of all that has its name
-pub found : (v : KeyType) → find (λ u. bytes_eq (name_of u) (name_of v)) all ≡ Some v
+pub found : FindsEach name_of all
 found Property = refl
-found MultiLanguageProperty = refl
-found Range = refl
-found File = refl
-found Blob = refl
-found ReferenceElement = refl
-found RelationshipElement = refl
-found AnnotatedRelationshipElement = refl
-found Entity = refl
-found BasicEventElement = refl
-found Capability = refl
-found Operation = refl
-found SubmodelElementCollection = refl
-found SubmodelElementList = refl
-found SubmodelElement = refl
-found DataElement = refl
-found EventElement = refl
-found AssetAdministrationShell = refl
-found Submodel = refl
-found ConceptDescription = refl
-found Identifiable = refl
-found Referable = refl
-found GlobalReference = refl
-found FragmentReference = refl
+found _ = refl

@@ -1,7 +1,6 @@
 -- The names of `Kind`. IDTA-01001-3-0: the classes under SubmodelElement that are not abstract, and which of them are under DataElement.
-use Rattle.std.specs.Prelude.{◌≡◌, ℕ, Bool, true, false, List, [], ◌∷◌, Some, codes, bytes_eq, refl}
-use Rattle.std.specs.List.{find}
-use Rattle.aas_model_names.specs.Names.{names_of}
+use Rattle.std.specs.Prelude.{ℕ, Bool, true, false, List, [], ◌∷◌, codes, refl}
+use Rattle.aas_model_names.specs.Names.{names_of, FindsEach}
 use Rattle.aas_model_names.specs.declared.kind.Kind.{Kind}
 use Rattle.aas_model_names.specs.declared.kind.Kind.TheVariants.{Property, MultiLanguageProperty, Range, File, Blob, ReferenceElement, RelationshipElement, AnnotatedRelationshipElement, Entity, BasicEventElement, Capability, Operation, SubmodelElementCollection, SubmodelElementList}
 
@@ -23,41 +22,16 @@ name_of SubmodelElementList = codes "SubmodelElementList"
 
 abbrev pub all : List Kind
 all =
-    Property ∷
-    MultiLanguageProperty ∷
-    Range ∷
-    File ∷
-    Blob ∷
-    ReferenceElement ∷
-    RelationshipElement ∷
-    AnnotatedRelationshipElement ∷
-    Entity ∷
-    BasicEventElement ∷
-    Capability ∷
-    Operation ∷
-    SubmodelElementCollection ∷
-    SubmodelElementList ∷
-    []
+    Property ∷ MultiLanguageProperty ∷ Range ∷ File ∷ Blob ∷ ReferenceElement ∷ RelationshipElement ∷
+    AnnotatedRelationshipElement ∷ Entity ∷ BasicEventElement ∷ Capability ∷ Operation ∷ SubmodelElementCollection ∷
+    SubmodelElementList ∷ []
 
 abbrev pub names : List (List ℕ)
 names = names_of name_of all
 
--- each value is the first of all that has its name
-pub found : (v : Kind) → find (λ u. bytes_eq (name_of u) (name_of v)) all ≡ Some v
+pub found : FindsEach name_of all
 found Property = refl
-found MultiLanguageProperty = refl
-found Range = refl
-found File = refl
-found Blob = refl
-found ReferenceElement = refl
-found RelationshipElement = refl
-found AnnotatedRelationshipElement = refl
-found Entity = refl
-found BasicEventElement = refl
-found Capability = refl
-found Operation = refl
-found SubmodelElementCollection = refl
-found SubmodelElementList = refl
+found _ = refl
 
 -- the kinds under DataElement
 abbrev pub is_data_element : Kind → Bool

@@ -1,7 +1,6 @@
 -- The names of `ValueType`. IDTA-01001-3-0, enumeration DataTypeDefXsd.
-use Rattle.std.specs.Prelude.{◌≡◌, ℕ, List, [], ◌∷◌, Some, codes, bytes_eq, refl}
-use Rattle.std.specs.List.{find}
-use Rattle.aas_model_names.specs.Names.{names_of}
+use Rattle.std.specs.Prelude.{ℕ, List, [], ◌∷◌, codes, refl}
+use Rattle.aas_model_names.specs.Names.{names_of, FindsEach}
 use Rattle.aas_model_names.specs.declared.value_type.ValueType.{ValueType}
 use Rattle.aas_model_names.specs.declared.value_type.ValueType.TheVariants.{AnyUri, Base64Binary, Boolean, Byte, Date, DateTime, Decimal, Double, Duration, Float, GDay, GMonth, GMonthDay, GYear, GYearMonth, HexBinary, Int, Integer, Long, NegativeInteger, NonNegativeInteger, NonPositiveInteger, PositiveInteger, Short, String, Time, UnsignedByte, UnsignedInt, UnsignedLong, UnsignedShort}
 
@@ -39,70 +38,14 @@ name_of UnsignedShort = codes "xs:unsignedShort"
 
 abbrev pub all : List ValueType
 all =
-    AnyUri ∷
-    Base64Binary ∷
-    Boolean ∷
-    Byte ∷
-    Date ∷
-    DateTime ∷
-    Decimal ∷
-    Double ∷
-    Duration ∷
-    Float ∷
-    GDay ∷
-    GMonth ∷
-    GMonthDay ∷
-    GYear ∷
-    GYearMonth ∷
-    HexBinary ∷
-    Int ∷
-    Integer ∷
-    Long ∷
-    NegativeInteger ∷
-    NonNegativeInteger ∷
-    NonPositiveInteger ∷
-    PositiveInteger ∷
-    Short ∷
-    String ∷
-    Time ∷
-    UnsignedByte ∷
-    UnsignedInt ∷
-    UnsignedLong ∷
-    UnsignedShort ∷
-    []
+    AnyUri ∷ Base64Binary ∷ Boolean ∷ Byte ∷ Date ∷ DateTime ∷ Decimal ∷ Double ∷ Duration ∷ Float ∷ GDay ∷ GMonth ∷
+    GMonthDay ∷ GYear ∷ GYearMonth ∷ HexBinary ∷ Int ∷ Integer ∷ Long ∷ NegativeInteger ∷ NonNegativeInteger ∷
+    NonPositiveInteger ∷ PositiveInteger ∷ Short ∷ String ∷ Time ∷ UnsignedByte ∷ UnsignedInt ∷ UnsignedLong ∷
+    UnsignedShort ∷ []
 
 abbrev pub names : List (List ℕ)
 names = names_of name_of all
 
--- each value is the first of all that has its name
-pub found : (v : ValueType) → find (λ u. bytes_eq (name_of u) (name_of v)) all ≡ Some v
+pub found : FindsEach name_of all
 found AnyUri = refl
-found Base64Binary = refl
-found Boolean = refl
-found Byte = refl
-found Date = refl
-found DateTime = refl
-found Decimal = refl
-found Double = refl
-found Duration = refl
-found Float = refl
-found GDay = refl
-found GMonth = refl
-found GMonthDay = refl
-found GYear = refl
-found GYearMonth = refl
-found HexBinary = refl
-found Int = refl
-found Integer = refl
-found Long = refl
-found NegativeInteger = refl
-found NonNegativeInteger = refl
-found NonPositiveInteger = refl
-found PositiveInteger = refl
-found Short = refl
-found String = refl
-found Time = refl
-found UnsignedByte = refl
-found UnsignedInt = refl
-found UnsignedLong = refl
-found UnsignedShort = refl
+found _ = refl

@@ -7,32 +7,18 @@
 
 #![tactic(auto)]
 
-mod asset_kind;
 mod collection;
-mod direction;
-mod element_name;
-mod entity_type;
-mod key_type;
+mod enumerations;
 mod kind;
-mod modelling_kind;
 mod modifiers;
 mod named;
-mod qualifier_kind;
-mod reference_type;
-mod state_of_event;
 mod value_type;
 
-pub use asset_kind::AssetKind;
 pub use collection::Collection;
-pub use direction::Direction;
-pub use element_name::ElementName;
-pub use entity_type::EntityType;
-pub use key_type::KeyType;
-pub use kind::Kind;
-pub use modelling_kind::ModellingKind;
+pub use enumerations::{
+    AssetKind, Direction, EntityType, ModellingKind, QualifierKind, ReferenceType, StateOfEvent,
+};
+pub use kind::{ElementName, KeyType, Kind};
 pub use modifiers::{Extent, Level};
 pub use named::Named;
-pub use qualifier_kind::QualifierKind;
-pub use reference_type::ReferenceType;
-pub use state_of_event::StateOfEvent;
 pub use value_type::ValueType;

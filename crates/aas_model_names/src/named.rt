@@ -1,5 +1,6 @@
 ghost use Rattle.std.specs.Prelude.{◌≡◌, ◌↔◌, ℕ, List, Option, Some, bytes_eq};
 ghost use Rattle.std.specs.List.{find};
+ghost use Rattle.aas_model_names.specs.Names.{FindsEach};
 
 /// A value of an enumeration whose values have names of their own, which are ASCII.
 ///
@@ -24,7 +25,7 @@ pub trait Named: Copy + 'static {
         first_named(s)
     }
 
-    ghost found: { (v : Self) → find (λ u. bytes_eq (name_of u) (name_of v)) all ≡ Some v };
+    ghost found: { FindsEach name_of all };
 }
 
 fn first_named<V: Named>(s: &str) -> Option<V>
