@@ -3,8 +3,8 @@
 use Rattle.std.specs.Prelude.{ℕ, ◌≡◌, Bool, true, false, not, ◌&&◌, ◌||◌, List, [], ◌∷◌, ◌++◌, map, flat_map, Option, Some, None, is_some, is_none, bytes_eq, codes}
 use Rattle.std.specs.List.{list_all}
 use Rattle.std.specs.Char.{to_ascii_lowercase}
-use Rattle.aas_model_names.specs.declared.modelling_kind.ModellingKind.{ModellingKind}
-use Rattle.aas_model_names.specs.declared.modelling_kind.ModellingKind.TheVariants as modelling_kind
+use Rattle.aas_model_names.specs.declared.enumerations.ModellingKind.{ModellingKind}
+use Rattle.aas_model_names.specs.declared.enumerations.ModellingKind.TheVariants as modelling_kind
 use Rattle.aas_reference.specs.Rules.{Rule, row, failing, if_any}
 use Rattle.aas_json_spelling.specs.Lists.{is_any}
 use Rattle.aas_model.specs.declared.parts.Administration.{Administration}

@@ -6,14 +6,14 @@ use Rattle.aas_constraint_rules.specs.Decided.{has_form, is_name, is_string}
 use Rattle.aas_model_names.specs.ElementNameNames as element_name
 use Rattle.aas_model_names.specs.KindNames as kind
 use Rattle.aas_model_names.specs.ValueTypeNames as value_type_name
-use Rattle.aas_model_names.specs.declared.element_name.ElementName.{ElementName}
-use Rattle.aas_model_names.specs.declared.element_name.ElementName.TheVariants as e
-use Rattle.aas_model_names.specs.declared.entity_type.EntityType.{EntityType}
-use Rattle.aas_model_names.specs.declared.entity_type.EntityType.TheVariants as entity
+use Rattle.aas_model_names.specs.declared.kind.ElementName.{ElementName}
+use Rattle.aas_model_names.specs.declared.kind.ElementName.TheVariants as e
+use Rattle.aas_model_names.specs.declared.enumerations.EntityType.{EntityType}
+use Rattle.aas_model_names.specs.declared.enumerations.EntityType.TheVariants as entity
 use Rattle.aas_model_names.specs.declared.kind.Kind.{Kind}
 use Rattle.aas_model_names.specs.declared.kind.Kind.TheVariants as k
-use Rattle.aas_model_names.specs.declared.qualifier_kind.QualifierKind.{QualifierKind}
-use Rattle.aas_model_names.specs.declared.qualifier_kind.QualifierKind.TheVariants as qualifier_kind
+use Rattle.aas_model_names.specs.declared.enumerations.QualifierKind.{QualifierKind}
+use Rattle.aas_model_names.specs.declared.enumerations.QualifierKind.TheVariants as qualifier_kind
 use Rattle.aas_model_names.specs.declared.value_type.ValueType.{ValueType}
 use Rattle.aas_reference.specs.Rules.{Rule, row, if_any, is_external, levels_of}
 use Rattle.aas_reference.specs.Same.{same}

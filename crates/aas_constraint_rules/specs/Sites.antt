@@ -1,6 +1,7 @@
 -- The places of a tree in preorder, each with what a constraint may look at from there. The children of an Operation are its input, output and inoutput variables in this order.
 use Rattle.std.specs.Prelude.{ℕ, Bool, true, false, List, [], ◌∷◌, ◌++◌, map, length, Option, Some, None, if◌then◌else◌}
 use Rattle.aas_constraint_rules.specs.Decided.{is_id_short}
+use Rattle.aas_model.specs.Common.{no_attributes}
 use Rattle.aas_model.specs.declared.common.Common.{Common}
 use Rattle.aas_model.specs.declared.element.Element.{Element, fold-Element, out-Element}
 use Rattle.aas_model.specs.declared.element.Element.TheOpen.{Element-F}
@@ -19,18 +20,6 @@ pub record Own : Type 0 where
 
 abbrev pub own_of : Element → Own
 own_of e = record { common = (out-Element e).common; payload = (out-Element e).payload; role = (out-Element e).role }
-
-abbrev pub no_attributes : Common
-no_attributes = record {
-  id_short = None;
-  category = None;
-  description = [];
-  display_name = [];
-  extensions = [];
-  embedded_data_specifications = [];
-  semantics = record { semantic_id = None; supplemental_semantic_ids = [] };
-  qualifiers = [];
-}
 
 -- an element that has nothing but these of the attributes that every element has
 abbrev pub of_common : Common → Own

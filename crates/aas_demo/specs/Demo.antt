@@ -1,44 +1,19 @@
 -- What `demo` imports: the environment of one submodel, `urn:demo`, whose children are so many properties of whole numbers. This profile's own rule.
 use Rattle.std.specs.Prelude.{ℕ, ◌+◌, ◌*◌, ◌%◌, List, [], ◌∷◌, ◌++◌, codes, decimal, map, sum_by, Some, None}
 use Rattle.std.specs.List.{range_with_len}
+use Rattle.aas_model.specs.Common.{head_with, no_attributes, no_semantics}
 use Rattle.aas_model.specs.declared.common.Common.{Common}
-use Rattle.aas_model.specs.declared.common.Head.{Head}
 use Rattle.aas_model.specs.declared.documents.Environment.{Environment}
 use Rattle.aas_model.specs.declared.documents.Submodel.{Submodel}
 use Rattle.aas_model.specs.declared.element.Element.{Element, roll-Element}
 use Rattle.aas_model.specs.declared.element.Role.TheVariants.{Member}
 use Rattle.aas_model.specs.declared.payload.Payload.TheVariants.{Property}
-use Rattle.aas_model.specs.declared.reference.Semantics.{Semantics}
 use Rattle.aas_model_names.specs.declared.value_type.ValueType.TheVariants.{Int}
 
 -- ---- nothing is said besides what must be
 
-abbrev pub no_semantics : Semantics
-no_semantics = record { semantic_id = None; supplemental_semantic_ids = [] }
-
-abbrev pub head_with : List ℕ → Head
-head_with id = record {
-  id = id;
-  administration = None;
-  id_short = None;
-  category = None;
-  description = [];
-  display_name = [];
-  extensions = [];
-  embedded_data_specifications = [];
-}
-
 abbrev pub common_with : List ℕ → Common
-common_with id_short = record {
-  id_short = Some id_short;
-  category = None;
-  description = [];
-  display_name = [];
-  extensions = [];
-  embedded_data_specifications = [];
-  semantics = no_semantics;
-  qualifiers = [];
-}
+common_with id_short = record no_attributes { id_short = Some id_short }
 
 -- ---- property by property, counted from 0
 

@@ -1,8 +1,6 @@
 ghost use Rattle.std.specs.Prelude.{◌≡◌, ◌++◌, IfOk, codes, decimal, map};
 ghost use Rattle.std.specs.List.{range_with_len};
-ghost use Rattle.std.specs.Str.{chars};
-ghost use Rattle.aas_demo.specs.Demo.{common_with, environment_of, head_with, number_of, property_at, submodel_of, sum_of};
-ghost use Rattle.aas_demo.specs.Demo.{no_semantics};
+ghost use Rattle.aas_demo.specs.Demo.{common_with, environment_of, number_of, property_at, submodel_of, sum_of};
 
 use aas_model::{
     Common, Element, Environment, Head, Many, NoMemory, Payload, Role, Semantics, Submodel, Text,
@@ -39,9 +37,9 @@ fn submodel_of(alloc: Global, count: u32) -> Result<Submodel, NoMemory>
     ensures { IfOk result (λ submodel. submodel ≡ submodel_of count) }
 {
     Ok(Submodel {
-        head: head_with(alloc, "urn:demo")?,
+        head: Head::with_id(alloc, Text::from_str(alloc, "urn:demo")?),
         kind: None,
-        semantics: no_semantics(alloc),
+        semantics: Semantics::empty(alloc),
         qualifiers: Many::new(alloc),
         kids: properties(alloc, count)?,
     })
@@ -86,33 +84,12 @@ fn number_of(place: u32) -> u32
     place % 1000 * 37 % 1000 + 1
 }
 
-fn head_with(alloc: Global, id: &str) -> Result<Head, NoMemory>
-    ensures { IfOk result (λ head. head ≡ head_with (chars id.now)) }
-{
-    Ok(Head {
-        id: Text::from_str(alloc, id)?,
-        administration: None,
-        id_short: None,
-        category: None,
-        description: Many::new(alloc),
-        display_name: Many::new(alloc),
-        extensions: Many::new(alloc),
-        embedded_data_specifications: Many::new(alloc),
-    })
-}
-
 fn common_of(alloc: Global, place: u32) -> Result<Common, NoMemory>
     ensures { IfOk result (λ common. common ≡ common_with (codes "P" ++ decimal place)) }
 {
     Ok(Common {
         id_short: Some(name_of(alloc, place)?),
-        category: None,
-        description: Many::new(alloc),
-        display_name: Many::new(alloc),
-        extensions: Many::new(alloc),
-        embedded_data_specifications: Many::new(alloc),
-        semantics: no_semantics(alloc),
-        qualifiers: Many::new(alloc),
+        ..Common::empty(alloc)
     })
 }
 
@@ -123,13 +100,4 @@ fn name_of(alloc: Global, place: u32) -> Result<Text, NoMemory>
     let mut name = String::from_str(alloc, "P")?;
     name.push_str(Buffer::new().format(place))?;
     Text::from_str(alloc, &name)
-}
-
-fn no_semantics(alloc: Global) -> Semantics
-    ensures { result ≡ no_semantics }
-{
-    Semantics {
-        semantic_id: None,
-        supplemental_semantic_ids: Many::new(alloc),
-    }
 }

@@ -7,7 +7,7 @@ use crate::text::{done, text, text_of};
 use aas_command::Refusal;
 use aas_model::{
     Common, Element, Extent, Many, Missing, NoMemory, Patch, PatchRow, Path, Payload, Role,
-    Semantics, Submodel, Text, ValueType,
+    Submodel, Text, ValueType,
 };
 use aas_path::{
     InsertFault, ReplaceFault, apply, apply_all, at, at_mut, insert, parse_path, patch_fits,
@@ -137,24 +137,11 @@ fn new_payload(alloc: Global) -> Result<Payload, NoMemory> {
     })
 }
 
-fn semantics(alloc: Global) -> Semantics {
-    Semantics {
-        semantic_id: None,
-        supplemental_semantic_ids: Many::new(alloc),
-    }
-}
-
 // A property `New` of the text `new`.
 fn new_element(alloc: Global) -> Result<Element, NoMemory> {
     let common = Common {
         id_short: Some(Text::from_str(alloc, "New")?),
-        category: None,
-        description: Many::new(alloc),
-        display_name: Many::new(alloc),
-        extensions: Many::new(alloc),
-        embedded_data_specifications: Many::new(alloc),
-        semantics: semantics(alloc),
-        qualifiers: Many::new(alloc),
+        ..Common::empty(alloc)
     };
     Ok(Element {
         common,

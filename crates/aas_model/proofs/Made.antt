@@ -1,6 +1,6 @@
 -- Values that hold themselves, made of the parts of another.
 use Rattle.std.proofs.Common.{◌≡◌, List, Option, ◌∙◌}
-use Rattle.aas_model_names.specs.declared.reference_type.ReferenceType.{ReferenceType}
+use Rattle.aas_model_names.specs.declared.enumerations.ReferenceType.{ReferenceType}
 use Rattle.aas_model.specs.declared.reference.Key.{Key}
 use Rattle.aas_model.specs.declared.reference.Reference.{Reference, out-Reference, roll-Reference, roll-out-Reference}
 use Rattle.aas_model.specs.declared.common.Common.{Common}

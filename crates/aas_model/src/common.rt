@@ -1,7 +1,11 @@
+ghost use Rattle.std.specs.Prelude.{◌≡◌};
+ghost use Rattle.aas_model.specs.Common.{head_with, no_attributes};
+
 use crate::{
     Administration, Duplicate, Extension, LangText, Many, NoMemory, Plain, Qualifier, Semantics,
     Text, both, copy_option,
 };
+use std::alloc::Global;
 
 /// The attributes that all documents have.
 ///
@@ -17,6 +21,24 @@ pub struct Head {
     pub extensions: Many<Extension>,
     /// Kept as they are.
     pub embedded_data_specifications: Many<Plain>,
+}
+
+impl Head {
+    /// A document's attributes where it says nothing of itself but its identifier.
+    pub fn with_id(alloc: Global, id: Text) -> Head
+        ensures { result ≡ head_with id }
+    {
+        Head {
+            id,
+            administration: None,
+            id_short: None,
+            category: None,
+            description: Many::new(alloc),
+            display_name: Many::new(alloc),
+            extensions: Many::new(alloc),
+            embedded_data_specifications: Many::new(alloc),
+        }
+    }
 }
 
 impl Duplicate for Head {
@@ -61,6 +83,24 @@ pub struct Common {
     /// The attributes of HasSemantics.
     pub semantics: Semantics,
     pub qualifiers: Many<Qualifier>,
+}
+
+impl Common {
+    /// An element's attributes where it says nothing of itself.
+    pub fn empty(alloc: Global) -> Common
+        ensures { result ≡ no_attributes }
+    {
+        Common {
+            id_short: None,
+            category: None,
+            description: Many::new(alloc),
+            display_name: Many::new(alloc),
+            extensions: Many::new(alloc),
+            embedded_data_specifications: Many::new(alloc),
+            semantics: Semantics::empty(alloc),
+            qualifiers: Many::new(alloc),
+        }
+    }
 }
 
 impl Duplicate for Common {

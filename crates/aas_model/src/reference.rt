@@ -1,6 +1,8 @@
 ghost use Rattle.std.specs.Prelude.{◌≡◌, IfOk};
+ghost use Rattle.aas_model.specs.Common.{no_semantics};
 
 use crate::{Boxed, Duplicate, KeyType, Many, NoMemory, ReferenceType, Text, copy_option};
+use std::alloc::Global;
 
 /// One step of a reference.
 ///
@@ -68,6 +70,18 @@ fn copy_referred(referred: &Option<Boxed<Reference>>) -> Result<Option<Boxed<Ref
 pub struct Semantics {
     pub semantic_id: Option<Reference>,
     pub supplemental_semantic_ids: Many<Reference>,
+}
+
+impl Semantics {
+    /// Nothing is said of what something means.
+    pub fn empty(alloc: Global) -> Semantics
+        ensures { result ≡ no_semantics }
+    {
+        Semantics {
+            semantic_id: None,
+            supplemental_semantic_ids: Many::new(alloc),
+        }
+    }
 }
 
 impl Duplicate for Semantics {
