@@ -1,13 +1,14 @@
 -- What is cut for a binary text is its form.
-use Rattle.std.proofs.Common.{◌≡◌, ℕ, ◌↔◌, ◌<◌, List, [], ◌∷◌, ◌++◌, length, Some, None, refl, inl, inr, codes}
+use Rattle.std.proofs.Common.{◌≡◌, ℕ, ◌↔◌, List, [], ◌∷◌, ◌++◌, Some, None, refl, inl, inr, codes}
 use Rattle.std.specs.Char.{is_ascii_hexdigit}
 use Rattle.aas_lexical_forms.specs.Form.{lit, one, any, maybe, Many, ◌∣◌, ◌▸◌}
 use Rattle.aas_lexical_forms.specs.Cut.{after_lit, after_one, after_any, cut_all, cut_then}
 use Rattle.aas_lexical_forms.proofs.Begin.{Avoids-lit, Needs-one, Needs-then, of_among}
 use Rattle.aas_lexical_forms.proofs.Cuts.{Cuts, Anything, End, Cuts-lit, Cuts-one, Cuts-any, Cuts-then, Cuts-next, Cuts-either_by, Cuts-maybe_by, whole}
-use Rattle.aas_lexical_forms.proofs.Repeat.{Nonempty, Nonempty-one, Nonempty-then, Cuts-many, Shrinks, Shrinks-cut, cut_many_turn, cut_many_end}
+use Rattle.aas_lexical_forms.proofs.Repeat.{Nonempty, Nonempty-one, Nonempty-then, Cuts-many}
 use Rattle.aas_lexical_forms.proofs.Dodges.{Dodges, Dodges-first, Dodges-then}
 use Rattle.aas_lexical.specs.Binary.{is_symbol, is_symbol_of_four_bits, is_symbol_of_two_bits, group, padded_group, base64_binary}
+use Rattle.aas_lexical.proofs.Loops.{Loops, loops}
 use Rattle.aas_lexical.specs.Cut.Binary.{after_group, after_groups, after_two_padded, after_one_padded, after_padded_group, after_base64}
 
 -- ---- hexadecimal digits
@@ -29,17 +30,8 @@ group_long = Nonempty-then (Nonempty-one is_symbol)
 groups_cuts : Cuts (Many group) (λ z. after_group z ≡ None) (cut_all after_groups)
 groups_cuts = Cuts-many group_cuts group_long (λ z k. k) (λ y z h k. tt)
 
-shrinks : Shrinks after_group
-shrinks = Shrinks-cut group_cuts group_long
-
-pub group_shrinks : (t rest : List ℕ) → after_group t ≡ Some rest → length rest < length t
-group_shrinks t rest e = shrinks.shrinks t rest e
-
-pub groups_turn : (t rest : List ℕ) → after_group t ≡ Some rest → after_groups t ≡ after_groups rest
-groups_turn t rest e = cut_many_turn shrinks t rest e
-
-pub groups_end : (t : List ℕ) → after_group t ≡ None → after_groups t ≡ t
-groups_end t e = cut_many_end after_group t e
+pub groups_loop : Loops after_group
+groups_loop = loops group_cuts group_long
 
 -- ---- the last group, with padding
 

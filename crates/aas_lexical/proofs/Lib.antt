@@ -1,3 +1,4 @@
+pub mod Loops
 pub mod NumbersExact
 pub mod IntegersExact
 pub mod BinaryExact

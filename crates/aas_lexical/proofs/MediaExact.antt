@@ -1,5 +1,5 @@
 -- What is cut for a media type is its form.
-use Rattle.std.proofs.Common.{◌≡◌, ℕ, ◌↔◌, ◌<◌, Bool, false, List, [], ◌∷◌, ◌++◌, length, Option, Some, None, refl, append_assoc, arith}
+use Rattle.std.proofs.Common.{◌≡◌, ℕ, ◌↔◌, Bool, false, List, [], ◌∷◌, ◌++◌, Option, Some, None, refl, append_assoc, arith}
 use Rattle.std.proofs.lemmas.Bool.Decides.{nat_tests}
 use Rattle.std.specs.List.{list_all}
 use Rattle.std.proofs.lemmas.Bool.{and_parts}
@@ -7,8 +7,9 @@ use Rattle.aas_lexical_forms.specs.Form.{lit, among, one, any, run, Many, ◌∣
 use Rattle.aas_lexical_forms.specs.Cut.{after_one, cut_all, cut_either, first_of}
 use Rattle.aas_lexical_forms.proofs.Begin.{Stops, Apart, Apart-among, Apart-swap, Avoids, Avoids-one, Avoids-run, Avoids-lit, Avoids-then, Avoids-either, Needs-one, Needs-run, Needs-word, Needs-then, past_many}
 use Rattle.aas_lexical_forms.proofs.Cuts.{Cuts, Anything, End, Cuts-lit, Cuts-one, Cuts-any, Cuts-run, Cuts-then, Cuts-next, Cuts-apart, Cuts-either, whole}
-use Rattle.aas_lexical_forms.proofs.Repeat.{Nonempty, Nonempty-one, Nonempty-lit, Nonempty-then, Nonempty-behind, Nonempty-either, Cuts-many, Shrinks, Shrinks-cut, cut_many_turn, cut_many_end}
+use Rattle.aas_lexical_forms.proofs.Repeat.{Nonempty, Nonempty-one, Nonempty-lit, Nonempty-then, Nonempty-behind, Nonempty-either, Cuts-many}
 use Rattle.aas_lexical.specs.Media.{is_token_byte, is_space, is_printable, is_plain, is_lead, is_continuation, high, quoted_character, quoted, parameter, media_type}
+use Rattle.aas_lexical.proofs.Loops.{Loops, loops}
 use Rattle.aas_lexical.specs.Cut.Media.{after_high, after_pair, after_quoted_character, after_quoted_characters, after_quoted, after_value, after_parameter, after_parameters, after_media_type}
 
 -- ---- the characters between quotes
@@ -43,17 +44,8 @@ quoted_character_long : Nonempty quoted_character
 quoted_character_long = Nonempty-either (Nonempty-one is_plain)
     (Nonempty-either (Nonempty-then (Nonempty-one is_lead)) (Nonempty-then (Nonempty-lit "\\" (omega arith))))
 
-character_shrinks : Shrinks after_quoted_character
-character_shrinks = Shrinks-cut quoted_character_cuts quoted_character_long
-
-pub quoted_character_shrinks : (t rest : List ℕ) → after_quoted_character t ≡ Some rest → length rest < length t
-quoted_character_shrinks t rest e = character_shrinks.shrinks t rest e
-
-pub quoted_characters_turn : (t rest : List ℕ) → after_quoted_character t ≡ Some rest → after_quoted_characters t ≡ after_quoted_characters rest
-quoted_characters_turn t rest e = cut_many_turn character_shrinks t rest e
-
-pub quoted_characters_end : (t : List ℕ) → after_quoted_character t ≡ None → after_quoted_characters t ≡ t
-quoted_characters_end t e = cut_many_end after_quoted_character t e
+pub quoted_characters_loop : Loops after_quoted_character
+quoted_characters_loop = loops quoted_character_cuts quoted_character_long
 
 -- what may follow: a text that begins with none of the three kinds of characters
 abbrev CharactersEnd : List ℕ → Type 0
@@ -113,17 +105,8 @@ parameters_past y z h k = past_many (record { avoids = parameter_avoids }) y z h
 parameter_long : Nonempty parameter
 parameter_long = Nonempty-behind (Nonempty-then (Nonempty-lit ";" (omega arith)))
 
-part_shrinks : Shrinks after_parameter
-part_shrinks = Shrinks-cut parameter_cuts parameter_long
-
-pub parameter_shrinks : (t rest : List ℕ) → after_parameter t ≡ Some rest → length rest < length t
-parameter_shrinks t rest e = part_shrinks.shrinks t rest e
-
-pub parameters_turn : (t rest : List ℕ) → after_parameter t ≡ Some rest → after_parameters t ≡ after_parameters rest
-parameters_turn t rest e = cut_many_turn part_shrinks t rest e
-
-pub parameters_end : (t : List ℕ) → after_parameter t ≡ None → after_parameters t ≡ t
-parameters_end t e = cut_many_end after_parameter t e
+pub parameters_loop : Loops after_parameter
+parameters_loop = loops parameter_cuts parameter_long
 
 parameters_cuts : Cuts (Many parameter) End (cut_all after_parameters)
 parameters_cuts = Cuts-many parameter_cuts parameter_long (λ z k. rw k refl) parameters_past

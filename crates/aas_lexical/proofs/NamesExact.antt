@@ -1,12 +1,13 @@
 -- What is cut for a name, a language and a version is its form.
-use Rattle.std.proofs.Common.{◌≡◌, ℕ, ◌↔◌, ◌<◌, Bool, false, List, [], ◌++◌, length, Some, None, refl, arith}
+use Rattle.std.proofs.Common.{◌≡◌, ℕ, ◌↔◌, Bool, false, List, [], ◌++◌, Some, refl, arith}
 use Rattle.std.specs.Char.{is_ascii_digit, is_ascii_alphabetic, is_ascii_alphanumeric}
 use Rattle.aas_lexical_forms.specs.Form.{lit, among, run, up_to, Many, ◌▸◌}
 use Rattle.aas_lexical_forms.specs.Cut.{cut_all}
 use Rattle.aas_lexical_forms.proofs.Begin.{Stops, Apart-among, Avoids-one, Avoids-lit, Avoids-then, Needs-word, past_many}
 use Rattle.aas_lexical_forms.proofs.Cuts.{Cuts, End, Cuts-lit, Cuts-one, Cuts-any, Cuts-run, Cuts-then, Cuts-next, Cuts-either, whole}
-use Rattle.aas_lexical_forms.proofs.Repeat.{Nonempty, Nonempty-lit, Nonempty-then, Cuts-many, Cuts-up_to, Shrinks, Shrinks-cut, cut_many_turn, cut_many_end}
+use Rattle.aas_lexical_forms.proofs.Repeat.{Nonempty, Nonempty-lit, Nonempty-then, Cuts-many, Cuts-up_to}
 use Rattle.aas_lexical.specs.Names.{language, is_nonzero_digit, version, is_name_character, name, id_short}
+use Rattle.aas_lexical.proofs.Loops.{Loops, loops}
 use Rattle.aas_lexical.specs.Cut.Names.{after_subtag, after_subtags, after_language, after_version, after_name, after_id_short}
 
 -- ---- languages
@@ -24,17 +25,8 @@ subtag_long = Nonempty-then (Nonempty-lit "-" (omega arith))
 subtags_past : (class : ℕ → Bool) → class 45 ≡ false → (y z : List ℕ) → Many subtag y → End z → Stops class (y ++ z)
 subtags_past class k y z h e = past_many (Avoids-then (Avoids-lit "-" class (λ z. k))) y z h (rw e tt)
 
-shrinks : Shrinks after_subtag
-shrinks = Shrinks-cut subtag_cuts subtag_long
-
-pub subtag_shrinks : (t rest : List ℕ) → after_subtag t ≡ Some rest → length rest < length t
-subtag_shrinks t rest e = shrinks.shrinks t rest e
-
-pub subtags_turn : (t rest : List ℕ) → after_subtag t ≡ Some rest → after_subtags t ≡ after_subtags rest
-subtags_turn t rest e = cut_many_turn shrinks t rest e
-
-pub subtags_end : (t : List ℕ) → after_subtag t ≡ None → after_subtags t ≡ t
-subtags_end t e = cut_many_end after_subtag t e
+pub subtags_loop : Loops after_subtag
+subtags_loop = loops subtag_cuts subtag_long
 
 subtags_cuts : Cuts (Many subtag) End (cut_all after_subtags)
 subtags_cuts = Cuts-many subtag_cuts subtag_long (λ z k. rw k refl) (subtags_past is_ascii_alphanumeric refl)

@@ -6,6 +6,7 @@ use Rattle.aas_lexical_forms.specs.Form.{among}
 use Rattle.aas_lexical_forms.proofs.Begin.{Stops, Apart-among, Avoids-lit, Avoids-either, Needs-word, Needs-then}
 use Rattle.aas_lexical_forms.proofs.Cuts.{Cuts, Anything, End, Cuts-lit, Cuts-run, Cuts-then, Cuts-next, Cuts-either, Cuts-either_by, Cuts-maybe, whole}
 use Rattle.aas_lexical_forms.proofs.Values.{Reads-two_digits, Cuts-with, Cuts-such}
+use Rattle.aas_lexical.specs.Dates.{zone}
 use Rattle.aas_lexical.specs.Times.{fraction, is_zero, IsClock, IsMidnight, clock, time, moment, date_time, utc, utc_date_time}
 use Rattle.aas_lexical.specs.Cut.Times.{after_fraction, is_clock, is_midnight, after_clock, after_time, after_moment, after_date_time, after_utc, after_utc_date_time}
 use Rattle.aas_lexical.proofs.DatesExact.{le_decided, day_cuts, zone_cuts, zone_past}
@@ -51,26 +52,21 @@ clock_cuts = Cuts-with Reads-two_digits (λ h. Cuts-next (Cuts-lit ":") (Cuts-wi
 
 -- ---- the types
 
-time_cuts : Cuts time End after_time
-time_cuts = Cuts-then clock_cuts zone_cuts (λ y z h k. (
+-- a zone is fit to follow a fraction
+zone_past_fraction : (y z : List ℕ) → zone y → End z → FractionEnds is_ascii_digit (y ++ z)
+zone_past_fraction y z h k = (
   zone_past is_ascii_digit refl (Apart-among "+-" is_ascii_digit refl) y z h k,
   zone_past (among ".") refl (Apart-among "+-" (among ".") refl) y z h k,
-))
+)
 
 pub time_exact : (t : List ℕ) → (after_time t ≡ Some []) ↔ time t
-time_exact t = whole time_cuts refl t
+time_exact t = whole (Cuts-then clock_cuts zone_cuts zone_past_fraction) refl t
 
 moment_cuts : Cuts moment (FractionEnds is_ascii_digit) after_moment
 moment_cuts = Cuts-next day_cuts (Cuts-next (Cuts-lit "T") clock_cuts)
 
-date_time_cuts : Cuts date_time End after_date_time
-date_time_cuts = Cuts-then moment_cuts zone_cuts (λ y z h k. (
-  zone_past is_ascii_digit refl (Apart-among "+-" is_ascii_digit refl) y z h k,
-  zone_past (among ".") refl (Apart-among "+-" (among ".") refl) y z h k,
-))
-
 pub date_time_exact : (t : List ℕ) → (after_date_time t ≡ Some []) ↔ date_time t
-date_time_exact t = whole date_time_cuts refl t
+date_time_exact t = whole (Cuts-then moment_cuts zone_cuts zone_past_fraction) refl t
 
 utc_cuts : Cuts utc Anything after_utc
 utc_cuts = Cuts-either (Cuts-lit "Z")

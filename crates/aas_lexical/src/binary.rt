@@ -59,7 +59,7 @@ fn after_group(text: &[u8]) -> Option<&[u8]>
 }
 
 /// The text behind all groups of four symbols that stand at its front.
-#[tactic(auto, using(crate::proofs::BinaryExact::group_shrinks, crate::proofs::BinaryExact::groups_turn, crate::proofs::BinaryExact::groups_end))]
+#[tactic(auto, using(crate::proofs::BinaryExact::groups_loop))]
 fn after_groups(text: &[u8]) -> &[u8]
     ensures { result.now ≡ cut.after_groups text.now }
 {

@@ -91,7 +91,7 @@ fn after_quoted_character(text: &[u8]) -> Option<&[u8]>
 }
 
 /// The text behind all that stands between quotes.
-#[tactic(auto, using(crate::proofs::MediaExact::quoted_character_shrinks, crate::proofs::MediaExact::quoted_characters_turn, crate::proofs::MediaExact::quoted_characters_end))]
+#[tactic(auto, using(crate::proofs::MediaExact::quoted_characters_loop))]
 fn after_quoted_characters(text: &[u8]) -> &[u8]
     ensures { result.now ≡ cut.after_quoted_characters text.now }
 {
@@ -130,7 +130,7 @@ fn after_parameter(text: &[u8]) -> Option<&[u8]>
 }
 
 /// The text behind all parameters that stand at its front.
-#[tactic(auto, using(crate::proofs::MediaExact::parameter_shrinks, crate::proofs::MediaExact::parameters_turn, crate::proofs::MediaExact::parameters_end))]
+#[tactic(auto, using(crate::proofs::MediaExact::parameters_loop))]
 fn after_parameters(text: &[u8]) -> &[u8]
     ensures { result.now ≡ cut.after_parameters text.now }
 {

@@ -4,6 +4,7 @@ ghost use Rattle.std.specs.Str.{chars};
 ghost use Rattle.aas_lexical.specs.Names as form;
 ghost use Rattle.aas_lexical.specs.Cut.Names as cut;
 
+use crate::number::NumberByte;
 use aas_lexical_forms::{
     Ascii, ByteClass, after_any, after_one, after_run, after_word, is_whole, within,
 };
@@ -15,20 +16,6 @@ pub const MOST_NAME_CHARACTERS: usize = 128;
 
 /// The most characters that an identifier has.
 const MOST_IDENTIFIER_CHARACTERS: usize = 2048;
-
-/// `1` to `9`.
-#[derive(Clone, Copy)]
-struct NonzeroDigit;
-
-impl ByteClass for NonzeroDigit {
-    ghost use Rattle.aas_lexical.specs.Names.{is_nonzero_digit};
-
-    ghost is_in = { λ _. is_nonzero_digit };
-
-    fn contains(self, byte: u8) -> bool {
-        matches!(byte, b'1'..=b'9')
-    }
-}
 
 /// What follows the first letter of a name: an ASCII letter, a digit or `_`.
 ///
@@ -55,7 +42,7 @@ fn after_subtag(text: &[u8]) -> Option<&[u8]>
 }
 
 /// The text behind all groups of a minus and 1 to 8 letters or digits that stand at its front.
-#[tactic(auto, using(crate::proofs::NamesExact::subtag_shrinks, crate::proofs::NamesExact::subtags_turn, crate::proofs::NamesExact::subtags_end))]
+#[tactic(auto, using(crate::proofs::NamesExact::subtags_loop))]
 fn after_subtags(text: &[u8]) -> &[u8]
     ensures { result.now ≡ cut.after_subtags text.now }
 {
@@ -81,7 +68,7 @@ fn after_version(text: &[u8]) -> Option<&[u8]>
     if let Some(rest) = after_word(b"0", text) {
         return Some(rest);
     }
-    let digits = after_one(NonzeroDigit, text)?;
+    let digits = after_one(NumberByte::Nonzero, text)?;
     within(3, digits, after_any(Ascii::Digit, digits))
 }
 
@@ -90,13 +77,6 @@ fn after_name(text: &[u8]) -> Option<&[u8]>
     ensures { option_map (λ x. x.now) result ≡ cut.after_name text.now }
 {
     Some(after_any(NameCharacter, after_one(Ascii::Letter, text)?))
-}
-
-/// The text behind a short name.
-fn after_id_short(text: &[u8]) -> Option<&[u8]>
-    ensures { option_map (λ x. x.now) result ≡ cut.after_id_short text.now }
-{
-    within(MOST_NAME_CHARACTERS, text, after_name(text)?)
 }
 
 /// Whether the text is a language tag, as `de-CH-1996`: 1 to 8 letters, and groups of `-` and 1 to 8 letters or digits.
@@ -132,11 +112,10 @@ pub fn is_name(text: &str) -> bool
 /// Whether the text is a short name: a name of at most 128 characters.
 ///
 /// IDTA-01001-3-0, constraint AASd-002 and NameType.
-#[tactic(auto, using(crate::proofs::NamesExact::id_short_exact))]
 pub fn is_id_short(text: &str) -> bool
     ensures { IsTrue result ↔ form.id_short text.now }
 {
-    is_whole(after_id_short(text.as_bytes()))
+    text.len() <= MOST_NAME_CHARACTERS && is_name(text)
 }
 
 /// How many characters the text has.

@@ -7,13 +7,17 @@ ghost use Rattle.aas_lexical.specs.Cut.Numbers as cut;
 
 use aas_lexical_forms::{Ascii, ByteClass, after_any, after_one, after_run, after_word, is_whole};
 
-/// The bytes of a number other than digits and the point.
+/// The bytes that stand at places of their own in a number.
 #[derive(Clone, Copy)]
 pub(crate) enum NumberByte {
     /// `+` or `-`.
     Sign,
     /// `e` or `E`.
     ExponentMark,
+    /// `0`.
+    Zero,
+    /// `1` to `9`.
+    Nonzero,
 }
 
 impl ByteClass for NumberByte {
@@ -25,6 +29,8 @@ impl ByteClass for NumberByte {
         match self {
             NumberByte::Sign => matches!(byte, b'+' | b'-'),
             NumberByte::ExponentMark => matches!(byte, b'e' | b'E'),
+            NumberByte::Zero => byte == b'0',
+            NumberByte::Nonzero => matches!(byte, b'1'..=b'9'),
         }
     }
 }

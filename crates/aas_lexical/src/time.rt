@@ -4,21 +4,8 @@ ghost use Rattle.aas_lexical.specs.Times as form;
 ghost use Rattle.aas_lexical.specs.Cut.Times as cut;
 
 use crate::date::{after_day, after_zone};
+use crate::number::NumberByte;
 use aas_lexical_forms::{Ascii, ByteClass, after_run, after_two_digits, after_word, is_whole};
-
-/// The digit `0`.
-#[derive(Clone, Copy)]
-struct ZeroDigit;
-
-impl ByteClass for ZeroDigit {
-    ghost use Rattle.aas_lexical.specs.Times.{is_zero};
-
-    ghost is_in = { λ _. is_zero };
-
-    fn contains(self, byte: u8) -> bool {
-        byte == b'0'
-    }
-}
 
 /// The text behind a fraction of such digits, which may be left out.
 pub(crate) fn after_fraction<C: ByteClass>(digit: C, text: &[u8]) -> &[u8]
@@ -40,7 +27,7 @@ fn after_clock(text: &[u8]) -> Option<&[u8]>
     if hours <= 23 && minutes <= 59 && seconds <= 59 {
         Some(after_fraction(Ascii::Digit, rest))
     } else if hours == 24 && minutes == 0 && seconds == 0 {
-        Some(after_fraction(ZeroDigit, rest))
+        Some(after_fraction(NumberByte::Zero, rest))
     } else {
         None
     }
