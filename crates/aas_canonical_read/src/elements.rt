@@ -7,7 +7,7 @@ use crate::kinds::{
 };
 use crate::source::Source;
 use aas_json_write_members::key;
-use aas_model::{Common, Element, Kind, Many, Payload, Role, Semantics};
+use aas_model::{Common, Element, Kind, Many, Payload, Role};
 use std::alloc::Global;
 
 /// A member whose items are children: its key, and the role of each.
@@ -29,19 +29,7 @@ const MEMBERS: Place = Place(key::VALUE, Role::Member);
 /// An element in a role that has nothing yet. It is filled where it stands, since elements are large.
 pub(crate) fn empty_element(alloc: Global, role: Role) -> Element {
     Element {
-        common: Common {
-            id_short: None,
-            category: None,
-            description: Many::new(alloc),
-            display_name: Many::new(alloc),
-            extensions: Many::new(alloc),
-            embedded_data_specifications: Many::new(alloc),
-            semantics: Semantics {
-                semantic_id: None,
-                supplemental_semantic_ids: Many::new(alloc),
-            },
-            qualifiers: Many::new(alloc),
-        },
+        common: Common::empty(alloc),
         payload: Payload::Capability,
         role,
         kids: Many::new(alloc),

@@ -1,69 +1,55 @@
 -- Shells, submodels and concept descriptions: what is whole spells what is good, what spells what is good is whole, and what spells the same is the same.
-use Rattle.std.proofs.Common.{◌≡◌, ℕ, ◌&&◌, List, [], ◌∷◌, ◌++◌, true, Some, codes, refl, sym, ap, ◌∙◌, subst}
+use Rattle.std.proofs.Common.{◌≡◌, ℕ, ◌&&◌, List, [], ◌∷◌, ◌++◌, Bool, true, Some, codes, refl, sym, ap, ◌∙◌, subst}
 use Rattle.std.proofs.lemmas.Bool.{and_from}
 use Rattle.std.specs.List.{list_all}
 use Rattle.std.proofs.lemmas.Option.{same_Some}
 use Rattle.aas_model_names.specs.ModellingKindNames as modelling_kind
 use Rattle.aas_json_table.specs.Names.{modelling_kinds}
-use Rattle.aas_json_table.specs.Table.{Sort, one, many, word, asset_information, Row, required, optional, valued, shell, submodel, concept, element, submodel_metadata, reference, referable, identifiable, has_semantics, qualifiable, model_types}
-use Rattle.aas_json_table.specs.Rows.{find, sorted, rows_of}
+use Rattle.aas_json_table.specs.Table.{Sort, one, many, word, asset_information, Row, required, optional, valued, shell, submodel, concept, element, submodel_metadata, reference, referable, identifiable, has_semantics, qualifiable}
 use Rattle.aas_json_table.specs.TooDeep.{Levels, enter}
-use Rattle.aas_json_table.specs.Canonical.{are_there, members_by}
+use Rattle.aas_json_table.specs.Canonical.{are_there}
 use Rattle.aas_json_table.specs.Spelled.{Attributes, attribute, spelled}
 use Rattle.aas_model.specs.declared.common.Head.{Head}
 use Rattle.aas_model.specs.declared.documents.Shell.{Shell}
 use Rattle.aas_model.specs.declared.documents.Submodel.{Submodel}
 use Rattle.aas_model.specs.declared.documents.Concept.{Concept}
-use Rattle.aas_model.specs.declared.element.Element.{Element}
-use Rattle.aas_json_spelling.specs.Lists.{Each}
 use Rattle.aas_json_spelling.specs.Good.{Good}
 use Rattle.aas_lemmas.proofs.Truth.{and_left, and_right}
 use Rattle.aas_json_spelling.proofs.Objects.{Agree, AreGood}
-use Rattle.aas_json_spelling.proofs.MemberTypes.{EachGood, text_good, named_if_good, list_good, list_back, same_texts, same_words_if, same_lists_of}
+use Rattle.aas_json_spelling.proofs.MemberTypes.{text_good, named_if_good, same_texts, same_words_if}
 use Rattle.aas_reference.specs.Whole.{is_whole, whole_if_there}
 use Rattle.aas_json_mapping.specs.Documents.{typed, head_attributes, shell_attributes, submodel_attributes, concept_attributes, spell_shell, spell_submodel, spell_concept}
-use Rattle.aas_json_mapping.specs.Elements.{spell_element}
 use Rattle.aas_json_mapping.specs.Metadata.{IsSubmodelMetadata}
-use Rattle.aas_json_mapping.specs.Shape.{IsShaped, IsShapedSubmodel}
+use Rattle.aas_json_mapping.specs.Shape.{IsShapedSubmodel}
 use Rattle.aas_json_mapping.specs.Whole.{whole_kept, whole_extension, whole_administration_if_there, whole_head, whole_semantics, whole_qualifier, whole_asset_information, is_whole_element, is_whole_shell, is_whole_submodel, is_whole_concept}
-use Rattle.aas_json_mapping.proofs.Rows.{good_before, good_with, agree_before, object_made, object_within, same_rows, model_rows, model_rise, found_again}
-use Rattle.aas_json_mapping.proofs.Facts.{Facts, all_good, all_back, all_same, if_same, reference_facts, reference_if_good, reference_if_back}
+use Rattle.aas_json_mapping.proofs.Rows.{good_before, good_with, agree_before, object_made, object_inside, same_rows, IsModel, typed_rise, typed_rows}
+use Rattle.aas_json_mapping.proofs.Facts.{Facts, ShapedFacts, shaped_good, shaped_back, shaped_same, all_good, all_back, all_same, if_same, reference_facts, reference_if_good, reference_if_back}
 use Rattle.aas_json_mapping.proofs.Parts.{administration_facts, administration_if_good, administration_if_back, asset_information_facts, qualifier_facts, semantics_good, semantics_back, same_semantics}
 use Rattle.aas_json_mapping.proofs.Referable.{Referable, referable_good, referable_back, same_referable}
-use Rattle.aas_json_mapping.proofs.ElementsLaws.{whole_good, whole_back, same_shaped}
+use Rattle.aas_json_mapping.proofs.ElementsWhole.{element_facts}
 
--- ---- objects of one modelType, which has the rows of Referable
+-- ---- objects of one modelType
 
--- the rows of a sort under its modelType
-pub record IsModel (s : Sort) (n : List ℕ) (rows : List Row) : Type 0 where
-  pub first : List ℕ × List Row
-  pub rest : List (List ℕ × List Row)
-  pub models : model_types s ≡ first ∷ rest
-  pub found : find n (model_types s) ≡ Some (referable ++ rows)
+module _ (s : Sort) (n : List ℕ) (rows : List Row) (model : IsModel s n rows) (l : Levels) (attributes : Attributes)
+    (entered : enter s l ≡ Some l) where
+  document_good : are_there (referable ++ rows) (attribute (typed n attributes)) ≡ true
+      → AreGood l (referable ++ rows) (attribute (typed n attributes))
+      → Good l (one s) (Some (spelled (referable ++ rows) (typed n attributes)))
+  document_good e good =
+      let g = attribute (typed n attributes) in
+      object_made s l l (referable ++ rows) g entered (typed_rows s n rows model g refl) e good
 
-rows_at : (s : Sort) (n : List ℕ) (rows : List Row) → IsModel s n rows → (attributes : Attributes)
-    → rows_of s (members_by (sorted (referable ++ rows)) (attribute (typed n attributes))) ≡ Some (sorted (referable ++ rows))
-rows_at s n rows m attributes =
-    let g = attribute (typed n attributes) in
-    model_rows s m.first m.rest m.models n (referable ++ rows) m.found (members_by (sorted (referable ++ rows)) g)
-    (found_again (referable ++ rows) g (model_rise s m.first m.rest m.models n (referable ++ rows) m.found)).1.1.1.1.1.0
+  document_back : Good l (one s) (Some (spelled (referable ++ rows) (typed n attributes)))
+      → AreGood l (referable ++ rows) (attribute (typed n attributes))
+  document_back good =
+      let g = attribute (typed n attributes) in
+      object_inside s l l (referable ++ rows) g entered (typed_rows s n rows model g refl) good
 
-document_good : (s : Sort) (n : List ℕ) (rows : List Row) → IsModel s n rows → (l : Levels) (attributes : Attributes) → enter s l ≡ Some l → are_there (referable ++ rows) (attribute (typed n attributes)) ≡ true
-    → AreGood l (referable ++ rows) (attribute (typed n attributes)) → Good l (one s) (Some (spelled (referable ++ rows) (typed n attributes)))
-document_good s n rows m l attributes entered e good = object_made s l l (referable ++ rows) (attribute (typed n attributes)) entered (rows_at s n rows m attributes) e good
-
-document_back : (s : Sort) (n : List ℕ) (rows : List Row) → IsModel s n rows → (l : Levels) (attributes : Attributes) → enter s l ≡ Some l
-    → Good l (one s) (Some (spelled (referable ++ rows) (typed n attributes))) → AreGood l (referable ++ rows) (attribute (typed n attributes))
-document_back s n rows m l attributes entered good =
-    let within = object_within s l (referable ++ rows) (attribute (typed n attributes)) (rows_at s n rows m attributes) good in
-    subst (λ inner. AreGood inner (referable ++ rows) (attribute (typed n attributes))) (same_levels within.inner (sym within.entered ∙ entered)) within.good
-  where
-    same_levels : (inner : Levels) → Some inner ≡ Some l → inner ≡ l
-    same_levels inner e = cc
-
-same_document : (s : Sort) (n : List ℕ) (rows : List Row) → IsModel s n rows → (as_ bs : Attributes) → spelled (referable ++ rows) (typed n as_) ≡ spelled (referable ++ rows) (typed n bs)
+same_document : (s : Sort) (n : List ℕ) (rows : List Row) → IsModel s n rows → (as_ bs : Attributes)
+    → spelled (referable ++ rows) (typed n as_) ≡ spelled (referable ++ rows) (typed n bs)
     → Agree (referable ++ rows) (attribute (typed n as_)) (attribute (typed n bs))
-same_document s n rows m as_ bs e = same_rows (referable ++ rows) (typed n as_) (typed n bs) (model_rise s m.first m.rest m.models n (referable ++ rows) m.found) e
+same_document s n rows model as_ bs e =
+    same_rows (referable ++ rows) (typed n as_) (typed n bs) (typed_rise s n rows model) e
 
 -- ---- Identifiable
 
@@ -207,72 +193,99 @@ concept_facts = record { good = concept_good; back = concept_back; same = same_c
 abbrev pub kids_row : List Row
 kids_row = valued (optional (codes "submodelElements") (many element)) ∷ []
 
+-- the rows of a submodel after those of Identifiable, with some of its own
+abbrev pub described_rows : List Row → List Row
+described_rows own = optional (codes "kind") (word modelling_kinds) ∷ (has_semantics ++ (qualifiable ++ own))
+
 abbrev pub submodel_rows : List Row
-submodel_rows = optional (codes "kind") (word modelling_kinds) ∷ (has_semantics ++ (qualifiable ++ kids_row))
+submodel_rows = described_rows kids_row
 
 abbrev pub submodel_name : List ℕ
 submodel_name = codes "Submodel"
 
+abbrev pub given : Submodel → Attributes
+given s = head_attributes s.head ++ submodel_attributes s
+
+-- all that stands in a submodel but its elements is whole
+abbrev pub described : Levels → Submodel → Bool
+described l s = whole_head l s.head && whole_semantics l s.semantics && list_all (whole_qualifier l) s.qualifiers
+
+module _ (own : List Row) where
+  described_good : (l : Levels) (s : Submodel) → described l s ≡ true → AreGood l own (attribute (typed submodel_name (given s)))
+      → AreGood l (referable ++ (identifiable ++ described_rows own)) (attribute (typed submodel_name (given s)))
+  described_good l s w good =
+      let h = whole_head l s.head in
+      let m = whole_semantics l s.semantics in
+      let q = list_all (whole_qualifier l) s.qualifiers in
+      let two = and_left (h && m) q w in
+      let g = attribute (typed submodel_name (given s)) in
+      head_good l submodel_name s.head (described_rows own) (submodel_attributes s) (and_left h m two) (
+        named_if_good l modelling_kind.name_of modelling_kind.all modelling_kind.found s.kind,
+        good_with l has_semantics (qualifiable ++ own) g (semantics_good l s.semantics (and_right h m two))
+            (all_good qualifier_facts l s.qualifiers (and_right (h && m) q w), good),
+      )
+
+  described_back : (l : Levels) (s : Submodel)
+      → AreGood l (referable ++ (identifiable ++ described_rows own)) (attribute (typed submodel_name (given s)))
+      → (described l s ≡ true) × AreGood l own (attribute (typed submodel_name (given s)))
+  described_back l s good =
+      let head = head_back l submodel_name s.head (described_rows own) (submodel_attributes s) good in
+      let g = attribute (typed submodel_name (given s)) in
+      let semantics = good_before l has_semantics (qualifiable ++ own) g head.1.1 in
+      let h = whole_head l s.head in
+      let m = whole_semantics l s.semantics in
+      let q = list_all (whole_qualifier l) s.qualifiers in
+      let two = and_from h m head.0 (semantics_back l s.semantics semantics.0) in
+      (and_from (h && m) q two (all_back qualifier_facts l s.qualifiers semantics.1.0), semantics.1.1)
+
+  same_described : (s t : Submodel)
+      → Agree (referable ++ (identifiable ++ described_rows own)) (attribute (typed submodel_name (given s)))
+      (attribute (typed submodel_name (given t)))
+      → (s.kids ≡ t.kids → s ≡ t)
+      × Agree own (attribute (typed submodel_name (given s))) (attribute (typed submodel_name (given t)))
+  same_described s t agree =
+      let a = attribute (typed submodel_name (given s)) in
+      let b = attribute (typed submodel_name (given t)) in
+      let head =
+      same_head submodel_name s.head t.head (described_rows own) (submodel_attributes s) (submodel_attributes t) agree in
+      let split = agree_before has_semantics (qualifiable ++ own) a b head.1.1 in
+      let h = head.0 in
+      let k = same_words_if modelling_kind.name_of modelling_kind.all modelling_kind.found s.kind t.kind head.1.0 in
+      let m = same_semantics s.semantics t.semantics split.0 in
+      let q = all_same qualifier_facts s.qualifiers t.qualifiers split.1.0 in
+      ((λ ks i. record { head = h i; kind = k i; semantics = m i; qualifiers = q i; kids = ks i }), split.1.1)
+
 submodel_model : IsModel submodel submodel_name (identifiable ++ submodel_rows)
 submodel_model = record { first = _; rest = _; models = refl; found = refl }
 
-kids_good : (l : Levels) (ks : List Element) → list_all (is_whole_element l) ks ≡ true → EachGood l (one element) spell_element ks
-kids_good l [] w = tt
-kids_good l (k ∷ ks) w = (whole_good l k (and_left (is_whole_element l k) _ w), kids_good l ks (and_right (is_whole_element l k) _ w))
-
-kids_back : (l : Levels) (ks : List Element) → Each IsShaped ks → EachGood l (one element) spell_element ks → list_all (is_whole_element l) ks ≡ true
-kids_back l [] s good = refl
-kids_back l (k ∷ ks) s good = and_from (is_whole_element l k) (list_all (is_whole_element l) ks) (whole_back l k s.0 good.0) (kids_back l ks s.1 good.1)
-
-kids_alone : (ks : List Element) → Each IsShaped ks → Each (λ x. (y : Element) → IsShaped y → spell_element x ≡ spell_element y → x ≡ y) ks
-kids_alone [] s = tt
-kids_alone (k ∷ ks) s = (λ y t e. same_shaped k y s.0 t e, kids_alone ks s.1)
-
-pub submodel_good : (l : Levels) (s : Submodel) → is_whole_submodel l s ≡ true → Good l (one submodel) (Some (spell_submodel s))
+submodel_good : (l : Levels) (s : Submodel) → is_whole_submodel l s ≡ true → Good l (one submodel) (Some (spell_submodel s))
 submodel_good l s w =
-    let h = whole_head l s.head in
-    let m = whole_semantics l s.semantics in
-    let q = list_all (whole_qualifier l) s.qualifiers in
+    let d = described l s in
     let k = list_all (is_whole_element l) s.kids in
-    let three = and_left (h && m && q) k w in
-    let two = and_left (h && m) q three in
-    let g = attribute (typed submodel_name (head_attributes s.head ++ submodel_attributes s)) in
-    document_good submodel submodel_name (identifiable ++ submodel_rows) submodel_model l (head_attributes s.head ++ submodel_attributes s) refl refl
-    (head_good l submodel_name s.head submodel_rows (submodel_attributes s) (and_left h m two) (
-      named_if_good l modelling_kind.name_of modelling_kind.all modelling_kind.found s.kind,
-      good_with l has_semantics (qualifiable ++ kids_row) g (semantics_good l s.semantics (and_right h m two))
-          (all_good qualifier_facts l s.qualifiers (and_right (h && m) q three), (list_good l spell_element element s.kids (kids_good l s.kids (and_right (h && m && q) k w)), tt)),
-    ))
+    document_good submodel submodel_name (identifiable ++ submodel_rows) submodel_model l (given s) refl refl
+    (described_good kids_row l s (and_left d k w) (shaped_good element_facts l s.kids (and_right d k w), tt))
 
-pub submodel_back : (l : Levels) (s : Submodel) → IsShapedSubmodel s → Good l (one submodel) (Some (spell_submodel s)) → is_whole_submodel l s ≡ true
+submodel_back : (l : Levels) (s : Submodel) → IsShapedSubmodel s → Good l (one submodel) (Some (spell_submodel s))
+    → is_whole_submodel l s ≡ true
 submodel_back l s shape good =
-    let inside = document_back submodel submodel_name (identifiable ++ submodel_rows) submodel_model l (head_attributes s.head ++ submodel_attributes s) refl good in
-    let head = head_back l submodel_name s.head submodel_rows (submodel_attributes s) inside in
-    let g = attribute (typed submodel_name (head_attributes s.head ++ submodel_attributes s)) in
-    let semantics = good_before l has_semantics (qualifiable ++ kids_row) g head.1.1 in
-    let h = whole_head l s.head in
-    let m = whole_semantics l s.semantics in
-    let q = list_all (whole_qualifier l) s.qualifiers in
-    and_from (h && m && q) (list_all (is_whole_element l) s.kids)
-    (and_from (h && m) q (and_from h m head.0 (semantics_back l s.semantics semantics.0)) (all_back qualifier_facts l s.qualifiers semantics.1.0))
-    (kids_back l s.kids shape (list_back l spell_element element s.kids semantics.1.1.0))
+    let inside = document_back submodel submodel_name (identifiable ++ submodel_rows) submodel_model l (given s) refl good in
+    let back = described_back kids_row l s inside in
+    and_from (described l s) (list_all (is_whole_element l) s.kids) back.0
+    (shaped_back element_facts l s.kids shape back.1.0)
 
-pub same_submodel : (s t : Submodel) → IsShapedSubmodel s → IsShapedSubmodel t → spell_submodel s ≡ spell_submodel t → s ≡ t
+same_submodel : (s t : Submodel) → IsShapedSubmodel s → IsShapedSubmodel t → spell_submodel s ≡ spell_submodel t → s ≡ t
 same_submodel s t a b e =
-    let agree = same_document submodel submodel_name (identifiable ++ submodel_rows) submodel_model (head_attributes s.head ++ submodel_attributes s) (head_attributes t.head ++ submodel_attributes t) e in
-    let head = same_head submodel_name s.head t.head submodel_rows (submodel_attributes s) (submodel_attributes t) agree in
-    let split = agree_before has_semantics (qualifiable ++ kids_row) (attribute (typed submodel_name (head_attributes s.head ++ submodel_attributes s))) (attribute (typed submodel_name (head_attributes t.head ++ submodel_attributes t))) head.1.1 in
-    let h = head.0 in
-    let k = same_words_if modelling_kind.name_of modelling_kind.all modelling_kind.found s.kind t.kind head.1.0 in
-    let m = same_semantics s.semantics t.semantics split.0 in
-    let q = all_same qualifier_facts s.qualifiers t.qualifiers split.1.0 in
-    let ks = same_lists_of IsShaped spell_element s.kids t.kids (kids_alone s.kids a) b split.1.1.0 in
-    λ i. record { head = h i; kind = k i; semantics = m i; qualifiers = q i; kids = ks i }
+    let agree = same_document submodel submodel_name (identifiable ++ submodel_rows) submodel_model (given s) (given t) e in
+    let same = same_described kids_row s t agree in
+    same.0 (shaped_same element_facts s.kids t.kids a b same.1.0)
+
+pub submodel_facts : ShapedFacts submodel spell_submodel is_whole_submodel IsShapedSubmodel
+submodel_facts = record { good = submodel_good; back = submodel_back; same = same_submodel }
 
 -- ---- the metadata form of a Submodel
 
 abbrev pub form_rows : List Row
-form_rows = optional (codes "kind") (word modelling_kinds) ∷ (has_semantics ++ (qualifiable ++ []))
+form_rows = described_rows []
 
 form_model : IsModel submodel_metadata submodel_name (identifiable ++ form_rows)
 form_model = record { first = _; rest = _; models = refl; found = refl }
@@ -283,48 +296,29 @@ bare s = record s { kids = [] }
 is_bare : (s : Submodel) → IsSubmodelMetadata s → s ≡ bare s
 is_bare s none = λ i. record s { kids = none i }
 
-abbrev form_attributes : Submodel → Attributes
-form_attributes s = head_attributes s.head ++ submodel_attributes (bare s)
-
 -- A submodel without elements has no member that isn't shown.
-pub spell_form : (s : Submodel) → spell_submodel (bare s) ≡ spelled (referable ++ (identifiable ++ form_rows)) (typed submodel_name (form_attributes s))
+pub spell_form : (s : Submodel)
+    → spell_submodel (bare s) ≡ spelled (referable ++ (identifiable ++ form_rows)) (typed submodel_name (given (bare s)))
 spell_form s = refl
 
-bare_good : (l : Levels) (s : Submodel) → is_whole_submodel l s ≡ true → Good l (one submodel_metadata) (Some (spell_submodel (bare s)))
+bare_good : (l : Levels) (s : Submodel) → is_whole_submodel l s ≡ true
+    → Good l (one submodel_metadata) (Some (spell_submodel (bare s)))
 bare_good l s w =
-    let h = whole_head l s.head in
-    let m = whole_semantics l s.semantics in
-    let q = list_all (whole_qualifier l) s.qualifiers in
-    let three = and_left (h && m && q) (list_all (is_whole_element l) s.kids) w in
-    let two = and_left (h && m) q three in
-    let g = attribute (typed submodel_name (form_attributes s)) in
-    document_good submodel_metadata submodel_name (identifiable ++ form_rows) form_model l (form_attributes s) refl refl
-    (head_good l submodel_name s.head form_rows (submodel_attributes (bare s)) (and_left h m two) (
-      named_if_good l modelling_kind.name_of modelling_kind.all modelling_kind.found s.kind,
-      good_with l has_semantics (qualifiable ++ []) g (semantics_good l s.semantics (and_right h m two)) (all_good qualifier_facts l s.qualifiers (and_right (h && m) q three), tt),
-    ))
+    document_good submodel_metadata submodel_name (identifiable ++ form_rows) form_model l (given (bare s)) refl refl
+    (described_good [] l (bare s) (and_left (described l s) (list_all (is_whole_element l) s.kids) w) tt)
 
-bare_back : (l : Levels) (s : Submodel) → Good l (one submodel_metadata) (Some (spell_submodel (bare s))) → is_whole_submodel l (bare s) ≡ true
+bare_back : (l : Levels) (s : Submodel) → Good l (one submodel_metadata) (Some (spell_submodel (bare s)))
+    → is_whole_submodel l (bare s) ≡ true
 bare_back l s good =
-    let inside = document_back submodel_metadata submodel_name (identifiable ++ form_rows) form_model l (form_attributes s) refl good in
-    let head = head_back l submodel_name s.head form_rows (submodel_attributes (bare s)) inside in
-    let g = attribute (typed submodel_name (form_attributes s)) in
-    let semantics = good_before l has_semantics (qualifiable ++ []) g head.1.1 in
-    let h = whole_head l s.head in
-    let m = whole_semantics l s.semantics in
-    let q = list_all (whole_qualifier l) s.qualifiers in
-    and_from (h && m && q) true (and_from (h && m) q (and_from h m head.0 (semantics_back l s.semantics semantics.0)) (all_back qualifier_facts l s.qualifiers semantics.1.0)) refl
+    let inside =
+    document_back submodel_metadata submodel_name (identifiable ++ form_rows) form_model l (given (bare s)) refl good in
+    and_from (described l s) true (described_back [] l (bare s) inside).0 refl
 
 same_bare : (s t : Submodel) → spell_submodel (bare s) ≡ spell_submodel (bare t) → bare s ≡ bare t
 same_bare s t e =
-    let agree = same_document submodel_metadata submodel_name (identifiable ++ form_rows) form_model (form_attributes s) (form_attributes t) e in
-    let head = same_head submodel_name s.head t.head form_rows (submodel_attributes (bare s)) (submodel_attributes (bare t)) agree in
-    let split = agree_before has_semantics (qualifiable ++ []) (attribute (typed submodel_name (form_attributes s))) (attribute (typed submodel_name (form_attributes t))) head.1.1 in
-    let h = head.0 in
-    let k = same_words_if modelling_kind.name_of modelling_kind.all modelling_kind.found s.kind t.kind head.1.0 in
-    let m = same_semantics s.semantics t.semantics split.0 in
-    let q = all_same qualifier_facts s.qualifiers t.qualifiers split.1.0 in
-    λ i. record { head = h i; kind = k i; semantics = m i; qualifiers = q i; kids = [] }
+    let rows = identifiable ++ form_rows in
+    let agree = same_document submodel_metadata submodel_name rows form_model (given (bare s)) (given (bare t)) e in
+    (same_described [] (bare s) (bare t) agree).0 refl
 
 pub form_good : (l : Levels) (s : Submodel) → IsSubmodelMetadata s → is_whole_submodel l s ≡ true → Good l (one submodel_metadata) (Some (spell_submodel s))
 form_good l s none w = subst (λ d. Good l (one submodel_metadata) (Some (spell_submodel d))) (sym (is_bare s none)) (bare_good l s w)

@@ -18,7 +18,7 @@ use Rattle.aas_json_spelling.proofs.Rows.{rising}
 use Rattle.aas_json_mapping.specs.Elements.{model_type_of, spell_element}
 use Rattle.aas_model_names.specs.KindNames.{is_data_element}
 use Rattle.aas_model.specs.Payload.{kind_of}
-use Rattle.aas_json_mapping.proofs.Rows.{model_rows, model_rise, found_again}
+use Rattle.aas_json_mapping.proofs.Rows.{IsModel, typed_rise, typed_name, typed_rows}
 use Rattle.aas_json_mapping.proofs.Elements as level
 use Rattle.aas_json_mapping.proofs.Elements.{made, made_out, attributes_at, seen, seen_data}
 
@@ -29,7 +29,7 @@ own_rows x = unwrap_or (find (model_type_of x) kinds) []
 abbrev pub all_rows : Payload → List Row
 all_rows x = referable ++ (has_semantics ++ (qualifiable ++ own_rows x))
 
-found_rows : (x : Payload) → find (model_type_of x) (model_types element) ≡ Some (all_rows x)
+pub found_rows : (x : Payload) → find (model_type_of x) (model_types element) ≡ Some (all_rows x)
 found_rows (p.Property t v i) = refl
 found_rows (p.MultiLanguageProperty v i) = refl
 found_rows (p.Range t min max) = refl
@@ -54,8 +54,15 @@ found_data_rows (p.Blob t v) e = refl
 found_data_rows (p.ReferenceElement v) e = refl
 found_data_rows x e = absurd (true≢false (sym e))
 
+-- the rows of an element after those of Referable
+abbrev later_rows : Payload → List Row
+later_rows x = has_semantics ++ (qualifiable ++ own_rows x)
+
+is_model : (x : Payload) → IsModel element (model_type_of x) (later_rows x)
+is_model x = record { first = _; rest = _; models = refl; found = found_rows x }
+
 pub rows_rise : (x : Payload) → rising (sorted (all_rows x)) ≡ true
-rows_rise x = model_rise element _ _ refl (model_type_of x) (all_rows x) (found_rows x)
+rows_rise x = typed_rise element (model_type_of x) (later_rows x) (is_model x)
 
 -- ---- one level
 
@@ -66,14 +73,23 @@ abbrev pub members_at : Common → Payload → List Element → Members
 members_at c x ks = members_by (sorted (all_rows x)) (attribute (attributes_at c x ks))
 
 -- what stands under modelType
-pub model_type_at : (c : Common) (x : Payload) (ks : List Element) → get_member (codes "modelType") (members_at c x ks) ≡ Some (string (model_type_of x))
-model_type_at c x ks = (found_again (all_rows x) (attribute (attributes_at c x ks)) (rows_rise x)).1.1.1.1.1.0
+pub model_type_at : (c : Common) (x : Payload) (ks : List Element)
+    → get_member (codes "modelType") (members_at c x ks) ≡ Some (string (model_type_of x))
+model_type_at c x ks = typed_name element (model_type_of x) (later_rows x) (is_model x) (attribute (attributes_at c x ks))
 
 pub rows_at : (c : Common) (x : Payload) (ks : List Element) → rows_of element (members_at c x ks) ≡ Some (sorted (all_rows x))
-rows_at c x ks = model_rows element _ _ refl (model_type_of x) (all_rows x) (found_rows x) (members_at c x ks) (model_type_at c x ks)
+rows_at c x ks = typed_rows element (model_type_of x) (later_rows x) (is_model x) (attribute (attributes_at c x ks)) refl
 
-data_rows_at : (c : Common) (x : Payload) (ks : List Element) → is_data_element (kind_of x) ≡ true → rows_of data_element (members_at c x ks) ≡ Some (sorted (all_rows x))
-data_rows_at c x ks e = model_rows data_element _ _ refl (model_type_of x) (all_rows x) (found_data_rows x e) (members_at c x ks) (model_type_at c x ks)
+data_rows_at : (c : Common) (x : Payload) (ks : List Element) → is_data_element (kind_of x) ≡ true
+    → rows_of data_element (members_at c x ks) ≡ Some (sorted (all_rows x))
+data_rows_at c x ks e =
+    let model : IsModel data_element (model_type_of x) (later_rows x) = record {
+      first = _;
+      rest = _;
+      models = refl;
+      found = found_data_rows x e;
+    } in
+    typed_rows data_element (model_type_of x) (later_rows x) model (attribute (attributes_at c x ks)) refl
 
 -- ---- a data element is good as one exactly where it is good as an element
 

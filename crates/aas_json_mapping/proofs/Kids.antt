@@ -17,7 +17,7 @@ use Rattle.aas_lemmas.proofs.Truth.{and_left, and_right}
 use Rattle.aas_json_spelling.proofs.MemberTypes.{EachGood, list_good, list_back, same_lists_of}
 use Rattle.aas_json_mapping.specs.Elements.{Child, is_input, is_output, is_inoutput, spell_variable, children_attribute, variables_attribute, spelled_child, spell_element}
 use Rattle.aas_json_mapping.specs.Whole.{is_variable, rank, in_order, is_placed}
-use Rattle.aas_json_mapping.proofs.Rows.{same_rows}
+use Rattle.aas_json_mapping.proofs.Rows.{each_filtered, same_rows}
 use Rattle.aas_json_mapping.proofs.Facts.{part_good, part_back}
 use Rattle.aas_json_mapping.proofs.Elements.{role_of, child_role, ranks}
 
@@ -59,12 +59,7 @@ abbrev pub of_role : (Role → Bool) → List Element → List Element
 of_role t ks = filter (λ k. t (role_of k)) ks
 
 pub each_of_role : (P : Element → Type 0) (t : Role → Bool) (ks : List Element) → Each P ks → Each P (of_role t ks)
-each_of_role P t [] each = tt
-each_of_role P t (k ∷ ks) each = by_test (t (role_of k)) (each_of_role P t ks each.1)
-  where
-    by_test : (b : Bool) → Each P (of_role t ks) → Each P (cond b (k ∷ of_role t ks) (of_role t ks))
-    by_test true rest = (each.0, rest)
-    by_test false rest = rest
+each_of_role P t ks each = each_filtered P (λ k. t (role_of k)) ks each
 
 in_role : (t : Role → Bool) (ks : List Element) → Each (λ k. t (role_of k) ≡ true) (of_role t ks)
 in_role t [] = tt

@@ -1,12 +1,12 @@
 -- Metadata forms of elements: their rows, and the facts from which the laws of their mapping follow.
-use Rattle.std.proofs.Common.{◌≡◌, List, [], ◌++◌, true, Some, unwrap_or, codes, refl, sym, ap, ◌∙◌, subst}
+use Rattle.std.proofs.Common.{◌≡◌, List, [], ◌++◌, true, Some, option_map, unwrap_or, codes, refl, sym, ap, ◌∙◌, subst}
 use Rattle.serde_json.specs.Data.{string, Members}
 use Rattle.serde_json.specs.Find.{get_member}
 use Rattle.aas_model_names.specs.DirectionNames as direction
 use Rattle.aas_model_names.specs.ElementNameNames as element_name
 use Rattle.aas_model_names.specs.StateOfEventNames as state_of_event
 use Rattle.aas_model_names.specs.ValueTypeNames as value_type
-use Rattle.aas_json_table.specs.Table.{element_metadata, one, Row, referable, has_semantics, qualifiable, kinds, model_types, shown}
+use Rattle.aas_json_table.specs.Table.{element, element_metadata, one, Row, referable, has_semantics, qualifiable, kinds, model_types, shown}
 use Rattle.aas_json_table.specs.Rows.{find, sorted, rows_of}
 use Rattle.aas_json_table.specs.TooDeep.{Levels}
 use Rattle.aas_json_table.specs.Canonical.{are_there, members_by}
@@ -17,18 +17,17 @@ use Rattle.aas_model.specs.declared.element.Role.{Role}
 use Rattle.aas_model.specs.declared.payload.Payload.{Payload}
 use Rattle.aas_model.specs.declared.payload.Payload.TheVariants as p
 use Rattle.aas_json_spelling.specs.Good.{Good}
-use Rattle.aas_json_spelling.proofs.Rows.{rising}
 use Rattle.aas_json_spelling.proofs.Objects.{AreGood, Agree, same_object}
 use Rattle.aas_json_spelling.proofs.MemberTypes.{text_good, flag_good, named_good, named_if_good, same_texts_if, same_flags_if, same_words, same_words_if}
 use Rattle.aas_json_mapping.specs.Elements.{model_type_of, spell_element}
 use Rattle.aas_json_mapping.specs.Metadata.{without_values, IsMetadata, IsWholeMetadata, whole_shown}
 use Rattle.aas_json_mapping.specs.Whole.{whole_common}
-use Rattle.aas_json_mapping.proofs.Rows.{good_with, object_made, object_within, same_rows, model_rows, model_rise, found_again}
+use Rattle.aas_json_mapping.proofs.Rows.{good_with, object_made, object_inside, same_rows, IsModel, typed_rise, typed_name, typed_rows, find_changed}
 use Rattle.aas_json_mapping.proofs.Facts.{all_good, if_same, reference_facts, reference_if_good, reference_if_back}
 use Rattle.aas_json_mapping.proofs.Parts.{semantics_good, qualifier_facts}
 use Rattle.aas_json_mapping.proofs.Referable.{referable_good}
 use Rattle.aas_json_mapping.proofs.Elements.{made, attributes_at}
-use Rattle.aas_json_mapping.proofs.ElementRows.{own_rows, all_rows, spell_at}
+use Rattle.aas_json_mapping.proofs.ElementRows.{own_rows, all_rows, found_rows, spell_at}
 use Rattle.aas_json_mapping.proofs.ElementsGood.{referable_of, whole_parts}
 use Rattle.aas_json_mapping.proofs.ElementsBack.{common_back}
 use Rattle.aas_json_mapping.proofs.ElementsSame.{only_member, other_kind, same_common}
@@ -42,68 +41,52 @@ shown_own x = shown (own_rows x)
 abbrev pub shown_rows : Payload → List Row
 shown_rows x = referable ++ (has_semantics ++ (qualifiable ++ shown_own x))
 
-found_shown : (x : Payload) → find (model_type_of x) (model_types element_metadata) ≡ Some (shown_rows x)
-found_shown (p.Property t v i) = refl
-found_shown (p.MultiLanguageProperty v i) = refl
-found_shown (p.Range t min max) = refl
-found_shown (p.File t v) = refl
-found_shown (p.Blob t v) = refl
-found_shown (p.ReferenceElement v) = refl
-found_shown (p.RelationshipElement first second) = refl
-found_shown (p.AnnotatedRelationshipElement first second) = refl
-found_shown (p.Entity t g ids) = refl
-found_shown (p.BasicEventElement observed d s topic broker last min max) = refl
-found_shown p.Capability = refl
-found_shown p.Operation = refl
-found_shown p.SubmodelElementCollection = refl
-found_shown (p.SubmodelElementList o s t v) = refl
+-- the rows of a form after those of Referable
+abbrev later_rows : Payload → List Row
+later_rows x = has_semantics ++ (qualifiable ++ shown_own x)
 
-shown_rise : (x : Payload) → rising (sorted (shown_rows x)) ≡ true
-shown_rise x = model_rise element_metadata _ _ refl (model_type_of x) (shown_rows x) (found_shown x)
+is_model : (x : Payload) → IsModel element_metadata (model_type_of x) (later_rows x)
+is_model x = record {
+  first = _;
+  rest = _;
+  models = refl;
+  found = find_changed shown (model_type_of x) (model_types element) ∙ ap (option_map shown) (found_rows x);
+}
 
 abbrev members_at : Common → Payload → Members
 members_at c x = members_by (sorted (shown_rows x)) (attribute (attributes_at c x []))
 
 model_type_at : (c : Common) (x : Payload) → get_member (codes "modelType") (members_at c x) ≡ Some (string (model_type_of x))
-model_type_at c x = (found_again (shown_rows x) (attribute (attributes_at c x [])) (shown_rise x)).1.1.1.1.1.0
+model_type_at c x =
+    typed_name element_metadata (model_type_of x) (later_rows x) (is_model x) (attribute (attributes_at c x []))
 
 rows_at : (c : Common) (x : Payload) → rows_of element_metadata (members_at c x) ≡ Some (sorted (shown_rows x))
-rows_at c x = model_rows element_metadata _ _ refl (model_type_of x) (shown_rows x) (found_shown x) (members_at c x) (model_type_at c x)
-
--- An element without values and children has no member that isn't shown.
-same_spelling : (c : Common) (x : Payload) → spelled (all_rows (without_values x)) (attributes_at c (without_values x) []) ≡ spelled (shown_rows (without_values x)) (attributes_at c (without_values x) [])
-same_spelling c (p.Property t v i) = refl
-same_spelling c (p.MultiLanguageProperty v i) = refl
-same_spelling c (p.Range t min max) = refl
-same_spelling c (p.File t v) = refl
-same_spelling c (p.Blob t v) = refl
-same_spelling c (p.ReferenceElement v) = refl
-same_spelling c (p.RelationshipElement first second) = refl
-same_spelling c (p.AnnotatedRelationshipElement first second) = refl
-same_spelling c (p.Entity t g ids) = refl
-same_spelling c (p.BasicEventElement observed d s topic broker last min max) = refl
-same_spelling c p.Capability = refl
-same_spelling c p.Operation = refl
-same_spelling c p.SubmodelElementCollection = refl
-same_spelling c (p.SubmodelElementList o s t v) = refl
+rows_at c x =
+    typed_rows element_metadata (model_type_of x) (later_rows x) (is_model x) (attribute (attributes_at c x [])) refl
 
 -- ---- what each kind has of its own
 
-own_there : (c : Common) (x : Payload) → are_there (shown_own x) (attribute (attributes_at c x [])) ≡ true
-own_there c (p.Property t v i) = refl
-own_there c (p.MultiLanguageProperty v i) = refl
-own_there c (p.Range t min max) = refl
-own_there c (p.File t v) = refl
-own_there c (p.Blob t v) = refl
-own_there c (p.ReferenceElement v) = refl
-own_there c (p.RelationshipElement first second) = refl
-own_there c (p.AnnotatedRelationshipElement first second) = refl
-own_there c (p.Entity t g ids) = refl
-own_there c (p.BasicEventElement observed d s topic broker last min max) = refl
-own_there c p.Capability = refl
-own_there c p.Operation = refl
-own_there c p.SubmodelElementCollection = refl
-own_there c (p.SubmodelElementList o s t v) = refl
+-- An element without values and children has no member that isn't shown, and none that is shown is missing.
+record Shows (c : Common) (x : Payload) : Type 0 where
+  same : spelled (all_rows (without_values x)) (attributes_at c (without_values x) [])
+      ≡ spelled (shown_rows (without_values x)) (attributes_at c (without_values x) [])
+  there : are_there (shown_own x) (attribute (attributes_at c x [])) ≡ true
+
+shows : (c : Common) (x : Payload) → Shows c x
+shows c (p.Property t v i) = record { same = refl; there = refl }
+shows c (p.MultiLanguageProperty v i) = record { same = refl; there = refl }
+shows c (p.Range t min max) = record { same = refl; there = refl }
+shows c (p.File t v) = record { same = refl; there = refl }
+shows c (p.Blob t v) = record { same = refl; there = refl }
+shows c (p.ReferenceElement v) = record { same = refl; there = refl }
+shows c (p.RelationshipElement first second) = record { same = refl; there = refl }
+shows c (p.AnnotatedRelationshipElement first second) = record { same = refl; there = refl }
+shows c (p.Entity t g ids) = record { same = refl; there = refl }
+shows c (p.BasicEventElement observed d s topic broker last min max) = record { same = refl; there = refl }
+shows c p.Capability = record { same = refl; there = refl }
+shows c p.Operation = record { same = refl; there = refl }
+shows c p.SubmodelElementCollection = record { same = refl; there = refl }
+shows c (p.SubmodelElementList o s t v) = record { same = refl; there = refl }
 
 own_good : (l : Levels) (c : Common) (x : Payload) → whole_shown l x ≡ true → AreGood l (shown_own x) (attribute (attributes_at c x []))
 own_good l c (p.Property t v i) w = (named_good l value_type.name_of value_type.all value_type.found t, (reference_if_good l i w, tt))
@@ -193,20 +176,17 @@ level_good : (l : Levels) (c : Common) (x : Payload) → whole_common l c ≡ tr
 level_good l c x common own =
     let g = attribute (attributes_at c x []) in
     let parts = whole_parts l c common in
-    object_made element_metadata l l (shown_rows x) g refl (rows_at c x) (own_there c x)
+    object_made element_metadata l l (shown_rows x) g refl (rows_at c x) (shows c x).there
     (good_with l referable (has_semantics ++ (qualifiable ++ shown_own x)) g (referable_good l (model_type_of x) (referable_of c) parts.extensions parts.embedded)
     (good_with l has_semantics (qualifiable ++ shown_own x) g (semantics_good l c.semantics parts.semantics)
     (all_good qualifier_facts l c.qualifiers parts.qualifiers, own_good l c x own)))
 
 level_back : (l : Levels) (c : Common) (x : Payload) → Good l (one element_metadata) (Some (spelled (shown_rows x) (attributes_at c x []))) → (whole_common l c ≡ true) × (whole_shown l x ≡ true)
 level_back l c x good =
-    let within = object_within element_metadata l (shown_rows x) (attribute (attributes_at c x [])) (rows_at c x) good in
-    let inside = subst (λ inner. AreGood inner (shown_rows x) (attribute (attributes_at c x []))) (same_levels within.inner (sym within.entered)) within.good in
+    let g = attribute (attributes_at c x []) in
+    let inside = object_inside element_metadata l l (shown_rows x) g refl (rows_at c x) good in
     let common = common_back l c x [] (shown_own x) inside in
     (common.0, own_back l c x common.1)
-  where
-    same_levels : (inner : Levels) → Some inner ≡ Some l → inner ≡ l
-    same_levels inner e = cc
 
 same_level : (c d : Common) (x y : Payload) → spelled (shown_rows x) (attributes_at c x []) ≡ spelled (shown_rows y) (attributes_at d y []) → (c ≡ d) × (without_values x ≡ without_values y)
 same_level c d x y e =
@@ -214,7 +194,7 @@ same_level c d x y e =
     let types : Some (string (model_type_of x)) ≡ Some (string (model_type_of y)) = sym (model_type_at c x) ∙ ap (get_member (codes "modelType")) ms ∙ model_type_at d y in
     let name : model_type_of x ≡ model_type_of y = cc in
     let rows : shown_rows x ≡ shown_rows y = ap (λ n. referable ++ (has_semantics ++ (qualifiable ++ shown (unwrap_or (find n kinds) [])))) name in
-    let agree = same_rows (shown_rows x) (attributes_at c x []) (attributes_at d y []) (shown_rise x) (e ∙ ap (λ r. spelled r (attributes_at d y [])) (sym rows)) in
+    let agree = same_rows (shown_rows x) (attributes_at c x []) (attributes_at d y []) (typed_rise element_metadata (model_type_of x) (later_rows x) (is_model x)) (e ∙ ap (λ r. spelled r (attributes_at d y [])) (sym rows)) in
     let common = same_common c d x y [] [] (shown_own x) agree in
     (common.0, same_own c d x y name common.1)
 
@@ -233,7 +213,7 @@ bare_payload e m =
     ap (λ z. z.payload) (sym (out-roll-Element (record y { payload = without_values y.payload; kids = [] }))) ∙ ap (λ z. (out-Element z).payload) m.form
 
 pub spell_form : (r : Role) (c : Common) (x : Payload) → spell_element (form_of r c x) ≡ spelled (shown_rows (without_values x)) (attributes_at c (without_values x) [])
-spell_form r c x = spell_at r c (without_values x) [] ∙ same_spelling c x
+spell_form r c x = spell_at r c (without_values x) [] ∙ (shows c x).same
 
 spell_out : (e : Element) → IsMetadata e → spell_element e ≡ spelled (shown_rows (out-Element e).payload) (attributes_at (out-Element e).common (out-Element e).payload [])
 spell_out e m =

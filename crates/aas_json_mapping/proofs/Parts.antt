@@ -23,9 +23,8 @@ use Rattle.aas_json_spelling.proofs.MemberTypes.{text_good, named_good, named_if
 use Rattle.aas_json_spelling.proofs.Kept.{same_kept}
 use Rattle.aas_reference.specs.Whole.{is_whole, whole_if_there}
 use Rattle.aas_json_mapping.specs.Parts.{semantics_attributes, spell_lang_text, lang_text_attributes, spell_extension, extension_attributes, spell_qualifier, qualifier_attributes, spell_specific_asset_id, specific_asset_id_attributes, spell_administration, administration_attributes, spell_resource, resource_attributes, spell_asset_information, asset_information_attributes}
-use Rattle.aas_json_mapping.specs.Whole.{whole_kept, whole_semantics, whole_extension, whole_qualifier, whole_specific_asset_id, whole_administration, whole_asset_information, whole_administration_if_there}
-use Rattle.aas_json_mapping.proofs.Rows.{same_rows}
-use Rattle.aas_json_mapping.proofs.Facts.{Facts, all_good, all_back, all_same, if_same, part_good, part_back, reference_facts, reference_if_good, reference_if_back, kept_good, kept_back}
+use Rattle.aas_json_mapping.specs.Whole.{whole_semantics, whole_extension, whole_qualifier, whole_specific_asset_id, whole_administration, whole_asset_information, whole_administration_if_there}
+use Rattle.aas_json_mapping.proofs.Facts.{Facts, all_good, all_back, all_same, if_same, part_facts, reference_facts, reference_if_good, reference_if_back, kept_good, kept_back}
 
 -- ---- what several classes have
 
@@ -46,22 +45,18 @@ same_semantics s t agree =
 
 -- ---- AbstractLangString
 
-abbrev pub any_lang_text : Levels → LangText → Bool
+abbrev any_lang_text : Levels → LangText → Bool
 any_lang_text l x = true
 
-same_lang_text : (x y : LangText) → spell_lang_text x ≡ spell_lang_text y → x ≡ y
-same_lang_text x y e =
-    let agree = same_rows (parts lang_text) (lang_text_attributes x) (lang_text_attributes y) refl e in
+pub lang_text_facts : Facts lang_text spell_lang_text any_lang_text
+lang_text_facts =
+    part_facts lang_text lang_text_attributes any_lang_text refl (λ l. refl) (λ x. refl) refl
+    (λ l x w. (text_good l (Some x.language), (text_good l (Some x.text), tt)))
+    (λ l x good. refl)
+    (λ x y agree.
     let a = same_texts x.language y.language agree.0 in
     let b = same_texts x.text y.text agree.1.0 in
-    λ i. record { language = a i; text = b i }
-
-pub lang_text_facts : Facts lang_text spell_lang_text any_lang_text
-lang_text_facts = record {
-  good = λ l x w. part_good lang_text l (lang_text_attributes x) refl refl refl (text_good l (Some x.language), (text_good l (Some x.text), tt));
-  back = λ l x g. refl;
-  same = same_lang_text;
-}
+    λ i. record { language = a i; text = b i })
 
 all_lang_texts : (l : Levels) (xs : List LangText) → list_all (any_lang_text l) xs ≡ true
 all_lang_texts l [] = refl
@@ -72,194 +67,159 @@ lang_texts_good l xs = all_good lang_text_facts l xs (all_lang_texts l xs)
 
 -- ---- Extension
 
-extension_good : (l : Levels) (e : Extension) → whole_extension l e ≡ true → Good l (one extension) (Some (spell_extension e))
+extension_good : (l : Levels) (e : Extension) → whole_extension l e ≡ true
+    → AreGood l (parts extension) (attribute (extension_attributes e))
 extension_good l e w =
-    part_good extension l (extension_attributes e) refl refl refl (
-      text_good l (Some e.name),
-      (
-        named_if_good l value_type.name_of value_type.all value_type.found e.value_type,
-        (
-          text_good l e.value,
-          (all_good reference_facts l e.refers_to (and_left (list_all (is_whole l) e.refers_to) _ w), semantics_good l e.semantics (and_right (list_all (is_whole l) e.refers_to) _ w)),
-        ),
-      ),
-    )
+    let refers = list_all (is_whole l) e.refers_to in
+    let name = text_good l (Some e.name) in
+    let type = named_if_good l value_type.name_of value_type.all value_type.found e.value_type in
+    let r = all_good reference_facts l e.refers_to (and_left refers _ w) in
+    (name, (type, (text_good l e.value, (r, semantics_good l e.semantics (and_right refers _ w)))))
 
-extension_back : (l : Levels) (e : Extension) → Good l (one extension) (Some (spell_extension e)) → whole_extension l e ≡ true
-extension_back l e g =
-    let good = part_back extension l (extension_attributes e) refl refl g in
-    and_from (list_all (is_whole l) e.refers_to) (whole_semantics l e.semantics) (all_back reference_facts l e.refers_to good.1.1.1.0) (semantics_back l e.semantics good.1.1.1.1)
-
-same_extension : (d e : Extension) → spell_extension d ≡ spell_extension e → d ≡ e
-same_extension d e is =
-    let agree = same_rows (parts extension) (extension_attributes d) (extension_attributes e) refl is in
+pub extension_facts : Facts extension spell_extension whole_extension
+extension_facts =
+    part_facts extension extension_attributes whole_extension refl (λ l. refl) (λ e. refl) refl extension_good
+    (λ l e good.
+    let refers = all_back reference_facts l e.refers_to good.1.1.1.0 in
+    and_from (list_all (is_whole l) e.refers_to) _ refers (semantics_back l e.semantics good.1.1.1.1))
+    (λ d e agree.
     let a = same_texts d.name e.name agree.0 in
     let t = same_words_if value_type.name_of value_type.all value_type.found d.value_type e.value_type agree.1.0 in
     let v = same_texts_if d.value e.value agree.1.1.0 in
     let r = all_same reference_facts d.refers_to e.refers_to agree.1.1.1.0 in
     let s = same_semantics d.semantics e.semantics agree.1.1.1.1 in
-    λ i. record { name = a i; value_type = t i; value = v i; refers_to = r i; semantics = s i }
-
-pub extension_facts : Facts extension spell_extension whole_extension
-extension_facts = record { good = extension_good; back = extension_back; same = same_extension }
+    λ i. record { name = a i; value_type = t i; value = v i; refers_to = r i; semantics = s i })
 
 -- ---- Qualifier
 
-qualifier_good : (l : Levels) (q : Qualifier) → whole_qualifier l q ≡ true → Good l (one qualifier) (Some (spell_qualifier q))
+qualifier_good : (l : Levels) (q : Qualifier) → whole_qualifier l q ≡ true
+    → AreGood l (parts qualifier) (attribute (qualifier_attributes q))
 qualifier_good l q w =
-    part_good qualifier l (qualifier_attributes q) refl refl refl (
-      named_if_good l qualifier_kind.name_of qualifier_kind.all qualifier_kind.found q.kind,
-      (
-        text_good l (Some q.qualifier_type),
-        (
-          named_good l value_type.name_of value_type.all value_type.found q.value_type,
-          (
-            text_good l q.value,
-            (reference_if_good l q.value_id (and_left (whole_if_there l q.value_id) _ w), semantics_good l q.semantics (and_right (whole_if_there l q.value_id) _ w)),
-          ),
-        ),
-      ),
-    )
+    let value_id = whole_if_there l q.value_id in
+    let kind = named_if_good l qualifier_kind.name_of qualifier_kind.all qualifier_kind.found q.kind in
+    let type = text_good l (Some q.qualifier_type) in
+    let values = named_good l value_type.name_of value_type.all value_type.found q.value_type in
+    let r = reference_if_good l q.value_id (and_left value_id _ w) in
+    (kind, (type, (values, (text_good l q.value, (r, semantics_good l q.semantics (and_right value_id _ w))))))
 
-qualifier_back : (l : Levels) (q : Qualifier) → Good l (one qualifier) (Some (spell_qualifier q)) → whole_qualifier l q ≡ true
-qualifier_back l q g =
-    let good = part_back qualifier l (qualifier_attributes q) refl refl g in
-    and_from (whole_if_there l q.value_id) (whole_semantics l q.semantics) (reference_if_back l q.value_id good.1.1.1.1.0) (semantics_back l q.semantics good.1.1.1.1.1)
-
-same_qualifier : (p q : Qualifier) → spell_qualifier p ≡ spell_qualifier q → p ≡ q
-same_qualifier p q is =
-    let agree = same_rows (parts qualifier) (qualifier_attributes p) (qualifier_attributes q) refl is in
+pub qualifier_facts : Facts qualifier spell_qualifier whole_qualifier
+qualifier_facts =
+    part_facts qualifier qualifier_attributes whole_qualifier refl (λ l. refl) (λ q. refl) refl qualifier_good
+    (λ l q good.
+    let value_id = reference_if_back l q.value_id good.1.1.1.1.0 in
+    and_from (whole_if_there l q.value_id) _ value_id (semantics_back l q.semantics good.1.1.1.1.1))
+    (λ p q agree.
     let k = same_words_if qualifier_kind.name_of qualifier_kind.all qualifier_kind.found p.kind q.kind agree.0 in
     let t = same_texts p.qualifier_type q.qualifier_type agree.1.0 in
     let y = same_words value_type.name_of value_type.all value_type.found p.value_type q.value_type agree.1.1.0 in
     let v = same_texts_if p.value q.value agree.1.1.1.0 in
     let r = if_same reference_facts p.value_id q.value_id agree.1.1.1.1.0 in
     let s = same_semantics p.semantics q.semantics agree.1.1.1.1.1 in
-    λ i. record { kind = k i; qualifier_type = t i; value_type = y i; value = v i; value_id = r i; semantics = s i }
-
-pub qualifier_facts : Facts qualifier spell_qualifier whole_qualifier
-qualifier_facts = record { good = qualifier_good; back = qualifier_back; same = same_qualifier }
+    λ i. record { kind = k i; qualifier_type = t i; value_type = y i; value = v i; value_id = r i; semantics = s i })
 
 -- ---- SpecificAssetId
 
-specific_asset_id_good : (l : Levels) (a : SpecificAssetId) → whole_specific_asset_id l a ≡ true → Good l (one specific_asset_id) (Some (spell_specific_asset_id a))
+specific_asset_id_good : (l : Levels) (a : SpecificAssetId) → whole_specific_asset_id l a ≡ true
+    → AreGood l (parts specific_asset_id) (attribute (specific_asset_id_attributes a))
 specific_asset_id_good l a w =
-    part_good specific_asset_id l (specific_asset_id_attributes a) refl refl refl (
-      text_good l (Some a.name),
-      (
-        text_good l (Some a.value),
-        (
-          reference_if_good l a.external_subject_id (and_left (whole_if_there l a.external_subject_id) _ w),
-          semantics_good l a.semantics (and_right (whole_if_there l a.external_subject_id) _ w),
-        ),
-      ),
-    )
+    let subject = whole_if_there l a.external_subject_id in
+    let r = reference_if_good l a.external_subject_id (and_left subject _ w) in
+    let s = semantics_good l a.semantics (and_right subject _ w) in
+    (text_good l (Some a.name), (text_good l (Some a.value), (r, s)))
 
-specific_asset_id_back : (l : Levels) (a : SpecificAssetId) → Good l (one specific_asset_id) (Some (spell_specific_asset_id a)) → whole_specific_asset_id l a ≡ true
-specific_asset_id_back l a g =
-    let good = part_back specific_asset_id l (specific_asset_id_attributes a) refl refl g in
-    and_from (whole_if_there l a.external_subject_id) (whole_semantics l a.semantics) (reference_if_back l a.external_subject_id good.1.1.0) (semantics_back l a.semantics good.1.1.1)
-
-same_specific_asset_id : (a b : SpecificAssetId) → spell_specific_asset_id a ≡ spell_specific_asset_id b → a ≡ b
-same_specific_asset_id a b is =
-    let agree = same_rows (parts specific_asset_id) (specific_asset_id_attributes a) (specific_asset_id_attributes b) refl is in
+pub specific_asset_id_facts : Facts specific_asset_id spell_specific_asset_id whole_specific_asset_id
+specific_asset_id_facts =
+    part_facts specific_asset_id specific_asset_id_attributes whole_specific_asset_id refl (λ l. refl) (λ a. refl) refl
+    specific_asset_id_good
+    (λ l a good.
+    let subject = reference_if_back l a.external_subject_id good.1.1.0 in
+    and_from (whole_if_there l a.external_subject_id) _ subject (semantics_back l a.semantics good.1.1.1))
+    (λ a b agree.
     let n = same_texts a.name b.name agree.0 in
     let v = same_texts a.value b.value agree.1.0 in
     let r = if_same reference_facts a.external_subject_id b.external_subject_id agree.1.1.0 in
     let s = same_semantics a.semantics b.semantics agree.1.1.1 in
-    λ i. record { name = n i; value = v i; external_subject_id = r i; semantics = s i }
-
-pub specific_asset_id_facts : Facts specific_asset_id spell_specific_asset_id whole_specific_asset_id
-specific_asset_id_facts = record { good = specific_asset_id_good; back = specific_asset_id_back; same = same_specific_asset_id }
+    λ i. record { name = n i; value = v i; external_subject_id = r i; semantics = s i })
 
 -- ---- AdministrativeInformation
 
-administration_good : (l : Levels) (a : Administration) → whole_administration l a ≡ true → Good l (one administration) (Some (spell_administration a))
+administration_good : (l : Levels) (a : Administration) → whole_administration l a ≡ true
+    → AreGood l (parts administration) (attribute (administration_attributes a))
 administration_good l a w =
-    part_good administration l (administration_attributes a) refl refl refl (
-      text_good l a.version,
-      (
-        text_good l a.revision,
-        (
-          reference_if_good l a.creator (and_left (whole_if_there l a.creator) _ w),
-          (text_good l a.template_id, (kept_good l a.embedded_data_specifications (and_right (whole_if_there l a.creator) _ w), tt)),
-        ),
-      ),
-    )
+    let creator = whole_if_there l a.creator in
+    let c = reference_if_good l a.creator (and_left creator _ w) in
+    let k = kept_good l a.embedded_data_specifications (and_right creator _ w) in
+    (text_good l a.version, (text_good l a.revision, (c, (text_good l a.template_id, (k, tt)))))
 
-administration_back : (l : Levels) (a : Administration) → Good l (one administration) (Some (spell_administration a)) → whole_administration l a ≡ true
-administration_back l a g =
-    let good = part_back administration l (administration_attributes a) refl refl g in
-    and_from (whole_if_there l a.creator) (whole_kept l a.embedded_data_specifications) (reference_if_back l a.creator good.1.1.0) (kept_back l a.embedded_data_specifications good.1.1.1.1.0)
-
-same_administration : (a b : Administration) → spell_administration a ≡ spell_administration b → a ≡ b
-same_administration a b is =
-    let agree = same_rows (parts administration) (administration_attributes a) (administration_attributes b) refl is in
+pub administration_facts : Facts administration spell_administration whole_administration
+administration_facts =
+    part_facts administration administration_attributes whole_administration refl (λ l. refl) (λ a. refl) refl
+    administration_good
+    (λ l a good.
+    let creator = reference_if_back l a.creator good.1.1.0 in
+    and_from (whole_if_there l a.creator) _ creator (kept_back l a.embedded_data_specifications good.1.1.1.1.0))
+    (λ a b agree.
     let v = same_texts_if a.version b.version agree.0 in
     let r = same_texts_if a.revision b.revision agree.1.0 in
     let c = if_same reference_facts a.creator b.creator agree.1.1.0 in
     let t = same_texts_if a.template_id b.template_id agree.1.1.1.0 in
     let e = same_kept a.embedded_data_specifications b.embedded_data_specifications agree.1.1.1.1.0 in
-    λ i. record { version = v i; revision = r i; creator = c i; template_id = t i; embedded_data_specifications = e i }
+    λ i. record { version = v i; revision = r i; creator = c i; template_id = t i; embedded_data_specifications = e i })
 
-pub administration_facts : Facts administration spell_administration whole_administration
-administration_facts = record { good = administration_good; back = administration_back; same = same_administration }
-
-pub administration_if_good : (l : Levels) (o : Option Administration) → whole_administration_if_there l o ≡ true → Good l (one administration) (option_map spell_administration o)
+pub administration_if_good : (l : Levels) (o : Option Administration) → whole_administration_if_there l o ≡ true
+    → Good l (one administration) (option_map spell_administration o)
 administration_if_good l None w = none_good l (one administration)
-administration_if_good l (Some a) w = administration_good l a w
+administration_if_good l (Some a) w = administration_facts.good l a w
 
-pub administration_if_back : (l : Levels) (o : Option Administration) → Good l (one administration) (option_map spell_administration o) → whole_administration_if_there l o ≡ true
+pub administration_if_back : (l : Levels) (o : Option Administration)
+    → Good l (one administration) (option_map spell_administration o) → whole_administration_if_there l o ≡ true
 administration_if_back l None g = refl
-administration_if_back l (Some a) g = administration_back l a g
+administration_if_back l (Some a) g = administration_facts.back l a g
 
 -- ---- Resource
 
-abbrev pub any_resource : Levels → Resource → Bool
+abbrev any_resource : Levels → Resource → Bool
 any_resource l r = true
 
-resource_good : (l : Levels) (r : Resource) → Good l (one resource) (Some (spell_resource r))
-resource_good l r = part_good resource l (resource_attributes r) refl refl refl (text_good l (Some r.path), (text_good l r.content_type, tt))
-
-same_resource : (q r : Resource) → spell_resource q ≡ spell_resource r → q ≡ r
-same_resource q r is =
-    let agree = same_rows (parts resource) (resource_attributes q) (resource_attributes r) refl is in
+resource_facts : Facts resource spell_resource any_resource
+resource_facts =
+    part_facts resource resource_attributes any_resource refl (λ l. refl) (λ r. refl) refl
+    (λ l r w. (text_good l (Some r.path), (text_good l r.content_type, tt)))
+    (λ l r good. refl)
+    (λ q r agree.
     let p = same_texts q.path r.path agree.0 in
     let c = same_texts_if q.content_type r.content_type agree.1.0 in
-    λ i. record { path = p i; content_type = c i }
-
-pub resource_facts : Facts resource spell_resource any_resource
-resource_facts = record { good = λ l r w. resource_good l r; back = λ l r g. refl; same = same_resource }
+    λ i. record { path = p i; content_type = c i })
 
 resource_if_good : (l : Levels) (o : Option Resource) → Good l (one resource) (option_map spell_resource o)
 resource_if_good l None = none_good l (one resource)
-resource_if_good l (Some r) = resource_good l r
+resource_if_good l (Some r) = resource_facts.good l r refl
 
 -- ---- AssetInformation
 
-asset_information_good : (l : Levels) (a : AssetInformation) → whole_asset_information l a ≡ true → Good l (one asset_information) (Some (spell_asset_information a))
+asset_information_good : (l : Levels) (a : AssetInformation) → whole_asset_information l a ≡ true
+    → AreGood l (parts asset_information) (attribute (asset_information_attributes a))
 asset_information_good l a w =
-    part_good asset_information l (asset_information_attributes a) refl refl refl (
-      named_good l asset_kind.name_of asset_kind.all asset_kind.found a.asset_kind,
-      (
-        text_good l a.global_asset_id,
-        (all_good specific_asset_id_facts l a.specific_asset_ids w, (text_good l a.asset_type, (resource_if_good l a.default_thumbnail, tt))),
-      ),
-    )
+    let kind = named_good l asset_kind.name_of asset_kind.all asset_kind.found a.asset_kind in
+    let ids = all_good specific_asset_id_facts l a.specific_asset_ids w in
+    let thumbnail = resource_if_good l a.default_thumbnail in
+    (kind, (text_good l a.global_asset_id, (ids, (text_good l a.asset_type, (thumbnail, tt)))))
 
-asset_information_back : (l : Levels) (a : AssetInformation) → Good l (one asset_information) (Some (spell_asset_information a)) → whole_asset_information l a ≡ true
-asset_information_back l a g =
-    let good = part_back asset_information l (asset_information_attributes a) refl refl g in all_back specific_asset_id_facts l a.specific_asset_ids good.1.1.0
-
-same_asset_information : (a b : AssetInformation) → spell_asset_information a ≡ spell_asset_information b → a ≡ b
-same_asset_information a b is =
-    let agree = same_rows (parts asset_information) (asset_information_attributes a) (asset_information_attributes b) refl is in
+pub asset_information_facts : Facts asset_information spell_asset_information whole_asset_information
+asset_information_facts =
+    part_facts asset_information asset_information_attributes whole_asset_information refl (λ l. refl) (λ a. refl) refl
+    asset_information_good
+    (λ l a good. all_back specific_asset_id_facts l a.specific_asset_ids good.1.1.0)
+    (λ a b agree.
     let k = same_words asset_kind.name_of asset_kind.all asset_kind.found a.asset_kind b.asset_kind agree.0 in
     let g = same_texts_if a.global_asset_id b.global_asset_id agree.1.0 in
     let s = all_same specific_asset_id_facts a.specific_asset_ids b.specific_asset_ids agree.1.1.0 in
     let t = same_texts_if a.asset_type b.asset_type agree.1.1.1.0 in
     let d = if_same resource_facts a.default_thumbnail b.default_thumbnail agree.1.1.1.1.0 in
-    λ i. record { asset_kind = k i; global_asset_id = g i; specific_asset_ids = s i; asset_type = t i; default_thumbnail = d i }
-
-pub asset_information_facts : Facts asset_information spell_asset_information whole_asset_information
-asset_information_facts = record { good = asset_information_good; back = asset_information_back; same = same_asset_information }
+    λ i. record {
+      asset_kind = k i;
+      global_asset_id = g i;
+      specific_asset_ids = s i;
+      asset_type = t i;
+      default_thumbnail = d i;
+    })

@@ -2,7 +2,7 @@
 use Rattle.std.proofs.Common.{◌≡◌, ℕ, List, [], ◌∷◌, true, Option, Some, option_map, codes}
 use Rattle.std.specs.List.{list_all}
 use Rattle.serde_json.specs.Data.{Data, string}
-use Rattle.aas_json_table.specs.Table.{MemberType, text, many, kept, lang_text, extension, referable}
+use Rattle.aas_json_table.specs.Table.{referable}
 use Rattle.aas_json_table.specs.TooDeep.{Levels}
 use Rattle.aas_json_table.specs.Spelled.{Attributes, attribute, text_of, list_of}
 use Rattle.aas_model.specs.declared.plain.Plain.{Plain}
@@ -12,7 +12,6 @@ use Rattle.aas_json_spelling.specs.Kept.{spell_plain}
 use Rattle.aas_json_spelling.proofs.Objects.{Agree, AreGood}
 use Rattle.aas_json_spelling.proofs.MemberTypes.{text_good, string_good, same_texts_if}
 use Rattle.aas_json_spelling.proofs.Kept.{same_kept}
-use Rattle.aas_json_spelling.proofs.Exists.{IsSpelled, IsListed}
 use Rattle.aas_json_mapping.specs.Parts.{spell_lang_text, spell_extension}
 use Rattle.aas_json_mapping.specs.Whole.{whole_kept, whole_extension}
 use Rattle.aas_json_mapping.proofs.Facts.{all_good, all_back, all_same, kept_good, kept_back}
@@ -63,25 +62,3 @@ same_referable m n x y agree =
   where
     same_model_type : ◌≡◌ {A = Option Data} (Some (string m)) (Some (string n)) → m ≡ n
     same_model_type e = cc
-
--- what is found under the rows, by what spells it
-pub record FoundReferable (g : List ℕ → MemberType → Option Data) : Type 0 where
-  pub category : IsSpelled text_of (g (codes "category") text)
-  pub description : IsListed spell_lang_text (g (codes "description") (many lang_text))
-  pub display_name : IsListed spell_lang_text (g (codes "displayName") (many lang_text))
-  pub extensions : IsListed spell_extension (g (codes "extensions") (many extension))
-  pub id_short : IsSpelled text_of (g (codes "idShort") text)
-  pub embedded_data_specifications : IsListed spell_plain (g (codes "embeddedDataSpecifications") kept)
-
-pub referable_found : (m : List ℕ) (g : List ℕ → MemberType → Option Data) → FoundReferable g → g (codes "modelType") text ≡ Some (string m) → (x : Referable) × Agree referable g (attribute (referable_attributes m x))
-referable_found m g f e = (
-  record {
-    category = f.category.0;
-    description = f.description.0;
-    display_name = f.display_name.0;
-    extensions = f.extensions.0;
-    id_short = f.id_short.0;
-    embedded_data_specifications = f.embedded_data_specifications.0;
-  },
-  (f.category.1, (f.description.1, (f.display_name.1, (f.extensions.1, (f.id_short.1, (e, (f.embedded_data_specifications.1, tt))))))),
-)

@@ -128,29 +128,33 @@ pub record Variables (ins outs inouts : List Element) : Type 0 where
   pub inoutputs : Each (IsIn role.Inoutput) inouts
 
 module _ (ins outs inouts : List Element) (variables : Variables ins outs inouts) where
-  in_their_order : (t : Role → Bool) → of_role t (ins ++ (outs ++ inouts)) ≡ of_role t ins ++ (of_role t outs ++ of_role t inouts)
-  in_their_order t = of_role_append t ins (outs ++ inouts) ∙ ap (λ zs. of_role t ins ++ zs) (of_role_append t outs inouts)
+  -- the variables that a test finds, where it is known which it finds of each list
+  found_variables : (t : Role → Bool) (a b c : List Element) → of_role t ins ≡ a → of_role t outs ≡ b → of_role t inouts ≡ c
+      → variables_attribute t (map spelled_child (ins ++ (outs ++ inouts))) ≡ list_of spell_as_variable (a ++ (b ++ c))
+  found_variables t a b c is_a is_b is_c =
+      let split = of_role_append t ins (outs ++ inouts) ∙ ap (λ zs. of_role t ins ++ zs) (of_role_append t outs inouts) in
+      variables_are t (ins ++ (outs ++ inouts))
+      ∙ ap (list_of spell_as_variable) (split ∙ (λ i. is_a i ++ (is_b i ++ is_c i)))
 
   pub inputs_are : variables_attribute is_input (map spelled_child (ins ++ (outs ++ inouts))) ≡ list_of spell_as_variable ins
   inputs_are =
-      let a = all_of_role is_input role.Input refl ins variables.inputs in
-      let b = none_of_role is_input role.Output refl outs variables.outputs in
-      let d = none_of_role is_input role.Inoutput refl inouts variables.inoutputs in
-      variables_are is_input (ins ++ (outs ++ inouts)) ∙ ap (list_of spell_as_variable) (in_their_order is_input ∙ (λ i. a i ++ (b i ++ d i)) ∙ append-nil ins)
+      found_variables is_input ins [] [] (all_of_role is_input role.Input refl ins variables.inputs)
+      (none_of_role is_input role.Output refl outs variables.outputs)
+      (none_of_role is_input role.Inoutput refl inouts variables.inoutputs)
+      ∙ ap (list_of spell_as_variable) (append-nil ins)
 
   pub outputs_are : variables_attribute is_output (map spelled_child (ins ++ (outs ++ inouts))) ≡ list_of spell_as_variable outs
   outputs_are =
-      let a = none_of_role is_output role.Input refl ins variables.inputs in
-      let b = all_of_role is_output role.Output refl outs variables.outputs in
-      let d = none_of_role is_output role.Inoutput refl inouts variables.inoutputs in
-      variables_are is_output (ins ++ (outs ++ inouts)) ∙ ap (list_of spell_as_variable) (in_their_order is_output ∙ (λ i. a i ++ (b i ++ d i)) ∙ append-nil outs)
+      found_variables is_output [] outs [] (none_of_role is_output role.Input refl ins variables.inputs)
+      (all_of_role is_output role.Output refl outs variables.outputs)
+      (none_of_role is_output role.Inoutput refl inouts variables.inoutputs)
+      ∙ ap (list_of spell_as_variable) (append-nil outs)
 
   pub inoutputs_are : variables_attribute is_inoutput (map spelled_child (ins ++ (outs ++ inouts))) ≡ list_of spell_as_variable inouts
   inoutputs_are =
-      let a = none_of_role is_inoutput role.Input refl ins variables.inputs in
-      let b = none_of_role is_inoutput role.Output refl outs variables.outputs in
-      let d = all_of_role is_inoutput role.Inoutput refl inouts variables.inoutputs in
-      variables_are is_inoutput (ins ++ (outs ++ inouts)) ∙ ap (list_of spell_as_variable) (in_their_order is_inoutput ∙ (λ i. a i ++ (b i ++ d i)))
+      found_variables is_inoutput [] [] inouts (none_of_role is_inoutput role.Input refl ins variables.inputs)
+      (none_of_role is_inoutput role.Output refl outs variables.outputs)
+      (all_of_role is_inoutput role.Inoutput refl inouts variables.inoutputs)
 
   stands_in : (r : Role) → is_variable r ≡ true → (ks : List Element) → Each (IsIn r) ks → Each (Stands p.Operation) ks
   stands_in r is [] each = tt

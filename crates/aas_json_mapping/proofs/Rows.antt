@@ -1,11 +1,12 @@
 -- The rows of an object in the order in which the table lists them: what holds of each of them there holds of each as they are sorted, and back.
-use Rattle.std.proofs.Common.{◌≡◌, ℕ, List, [], ◌∷◌, ◌++◌, ◌&&◌, Bool, true, false, Option, Some, None, option_map, is_some, if◌then◌else◌, Ordering, Less, Equal, Greater, nat_cmp, codes, refl, sym, ap, ◌∙◌, true≢false}
+use Rattle.std.proofs.Common.{◌≡◌, ℕ, List, [], ◌∷◌, ◌++◌, ◌&&◌, Bool, true, false, Option, Some, None, option_map, is_some, filter, cond, if◌then◌else◌, Ordering, Less, Equal, Greater, nat_cmp, map, codes, bytes_eq, refl, sym, ap, ◌∙◌, subst, true≢false}
 use Rattle.std.proofs.lemmas.Bool.{and_from}
+use Rattle.std.proofs.lemmas.Option.{same_Some}
 use Rattle.std.specs.Cmp.Lexicographic.{slice_cmp}
 use Rattle.std.specs.Ordering.{match_ordering}
 use Rattle.serde_json.specs.Data.{Data, null, boolean, number, string, array, object, no_items, item, Members, no_members, member}
 use Rattle.serde_json.specs.Find.{get_member}
-use Rattle.aas_json_table.specs.Table.{Sort, MemberType, text, flag, word, one, many, kept, plain, Row, parts, model_types}
+use Rattle.aas_json_table.specs.Table.{Sort, MemberType, text, flag, word, one, many, kept, plain, Row, parts, referable, model_types, is_shown, shown}
 use Rattle.aas_json_table.specs.Rows.{find, insert_row, sorted, choose, rows_of, is_there}
 use Rattle.aas_json_table.specs.TooDeep.{Levels, enter}
 use Rattle.aas_json_table.specs.Canonical.{are_there, members_by, canonical, canonical_member}
@@ -16,7 +17,7 @@ use Rattle.aas_lemmas.proofs.Truth.{and_left, and_right}
 use Rattle.aas_json_spelling.proofs.Rows.{rising, is_attribute, are_attributes, rows_rise, rows_attributes}
 use Rattle.aas_json_spelling.proofs.Fits.{one_there}
 use Rattle.aas_json_spelling.proofs.Objects.{Agree, AreGood, are_full, finds, same_attributes, same_members, object_good, object_back}
-use Rattle.aas_json_spelling.proofs.Exists.{IsSpelled, Object, Model, model_tree}
+use Rattle.aas_json_spelling.proofs.Exists.{IsSpelled, Object, Model, part_tree, model_tree}
 
 -- ---- each row, in and_from orders
 
@@ -45,6 +46,14 @@ insert_back P r (s ∷ ss) each = by_order (slice_cmp nat_cmp r.name s.name) (in
 pub sorted_back : (P : Row → Type 0) (rows : List Row) → Each P (sorted rows) → Each P rows
 sorted_back P [] each = tt
 sorted_back P (r ∷ rs) each = let back = insert_back P r (sorted rs) each in (back.0, sorted_back P rs back.1)
+
+pub each_filtered : {A : Type 0} (P : A → Type 0) (t : A → Bool) (xs : List A) → Each P xs → Each P (filter t xs)
+each_filtered P t [] each = tt
+each_filtered P t (x ∷ xs) each = by_test (t x) (each_filtered P t xs each.1)
+  where
+    by_test : (b : Bool) → Each P (filter t xs) → Each P (cond b (x ∷ filter t xs) (filter t xs))
+    by_test true rest = (each.0, rest)
+    by_test false rest = rest
 
 -- ---- attributes that are good, that agree, and that are there
 
@@ -105,6 +114,10 @@ there_each : (rows : List Row) (g : List ℕ → MemberType → Option Data) →
 there_each [] g each = refl
 there_each (r ∷ rs) g each = first_there r.required (is_some (g r.name r.member_type)) (are_there rs g) each.0 (there_each rs g each.1)
 
+pub shown_there : (rows : List Row) (g : List ℕ → MemberType → Option Data) → are_there rows g ≡ true
+    → are_there (shown rows) g ≡ true
+shown_there rows g e = there_each (shown rows) g (each_filtered (IsThereAt g) is_shown rows (each_there rows g e))
+
 -- ---- no required attribute that is good is an empty list
 
 full_value : (l : Levels) (f : MemberType) (d : Data) → is_attribute f ≡ true → Good l f (Some d) → is_there (Some d) ≡ true
@@ -161,6 +174,14 @@ object_within s l rows g is good =
       good = good_each back.inner rows g (sorted_back (IsGoodAt back.inner g) rows (each_good back.inner (sorted rows) g back.good));
     }
 
+-- What stands in a good object is good, where so much is left inside of it.
+pub object_inside : (s : Sort) (l inner : Levels) (rows : List Row) (g : List ℕ → MemberType → Option Data)
+    → enter s l ≡ Some inner → rows_of s (members_by (sorted rows) g) ≡ Some (sorted rows)
+    → Good l (one s) (Some (object (members_by (sorted rows) g))) → AreGood inner rows g
+object_inside s l inner rows g entered is good =
+    let within = object_within s l rows g is good in
+    subst (λ left. AreGood left rows g) (same_Some within.inner inner (sym within.entered ∙ entered)) within.good
+
 -- Spellings that are the same have the same attribute under each row.
 pub same_rows : (rows : List Row) (as_ bs : Attributes) → rising (sorted rows) ≡ true → spelled rows as_ ≡ spelled rows bs → Agree rows (attribute as_) (attribute bs)
 same_rows rows as_ bs rise e =
@@ -179,11 +200,28 @@ object_of spell rows g build e =
     let h = attribute made.attributes in
     (made.tree, ap object (same_members (sorted rows) g h (agree_each (sorted rows) g h (sorted_each (AgreeAt g h) rows (each_agrees rows g h made.agree)))) ∙ made.spells)
 
+-- What a part says is spelled, where it is by what is found under its rows.
+pub part_made : {A : Type 0} (spell : A → Data) (s : Sort) (ms : Members) → model_types s ≡ []
+    → (are_there (parts s) (canonical_member ms) ≡ true → Made spell (parts s) (canonical_member ms))
+    → IsSpelled spell (canonical (one s) (object ms))
+part_made spell s ms part build =
+    part_tree spell s ms part (object_of spell (parts s) (canonical_member ms) build)
+
 -- What an object with a modelType says is spelled, where it is under each modelType of its sort.
 pub models_tree : {A : Type 0} (spell : A → Data) (s : Sort) (ms : Members) (ks : List (List ℕ × List Row)) → model_types s ≡ ks → is_any ks ≡ true → Each (Model spell (canonical_member ms)) ks
     → IsSpelled spell (canonical (one s) (object ms))
 models_tree spell s ms [] models e each = absurd (true≢false (sym e))
 models_tree spell s ms (k ∷ ks) models e each = model_tree spell s ms k ks models each
+
+-- the same where there is one modelType
+pub document_made : {A : Type 0} (spell : A → Data) (s : Sort) (ms : Members) (n : List ℕ) (rows : List Row)
+    → model_types s ≡ (n, rows) ∷ []
+    → (canonical_member ms (codes "modelType") text ≡ Some (string n) → are_there rows (canonical_member ms) ≡ true
+    → Made spell rows (canonical_member ms))
+    → IsSpelled spell (canonical (one s) (object ms))
+document_made spell s ms n rows models build =
+    models_tree spell s ms ((n, rows) ∷ []) models refl
+    ((λ model. object_of spell rows (canonical_member ms) (build model)), tt)
 
 -- ---- the rows of an object
 
@@ -211,3 +249,38 @@ pub found_again : (rows : List Row) (g : List ℕ → MemberType → Option Data
 found_again rows g rise =
     let h : List ℕ → MemberType → Option Data = λ n f. get_member n (members_by (sorted rows) g) in
     agree_each rows h g (sorted_back (AgreeAt h g) rows (each_agrees (sorted rows) h g (finds (sorted rows) g rise)))
+
+-- ---- objects with a modelType, which have the rows of Referable
+
+-- the rows of a sort under a modelType
+pub record IsModel (s : Sort) (n : List ℕ) (rows : List Row) : Type 0 where
+  pub first : List ℕ × List Row
+  pub rest : List (List ℕ × List Row)
+  pub models : model_types s ≡ first ∷ rest
+  pub found : find n (model_types s) ≡ Some (referable ++ rows)
+
+module _ (s : Sort) (n : List ℕ) (rows : List Row) (model : IsModel s n rows) where
+  pub typed_rise : rising (sorted (referable ++ rows)) ≡ true
+  typed_rise = model_rise s model.first model.rest model.models n (referable ++ rows) model.found
+
+  -- what stands under modelType
+  pub typed_name : (g : List ℕ → MemberType → Option Data)
+      → get_member (codes "modelType") (members_by (sorted (referable ++ rows)) g) ≡ g (codes "modelType") text
+  typed_name g = (found_again (referable ++ rows) g typed_rise).1.1.1.1.1.0
+
+  pub typed_rows : (g : List ℕ → MemberType → Option Data) → g (codes "modelType") text ≡ Some (string n)
+      → rows_of s (members_by (sorted (referable ++ rows)) g) ≡ Some (sorted (referable ++ rows))
+  typed_rows g named =
+      let ms = members_by (sorted (referable ++ rows)) g in
+      model_rows s model.first model.rest model.models n (referable ++ rows) model.found ms (typed_name g ∙ named)
+
+-- what is found where each value is changed
+pub find_changed : {A B : Type 0} (f : A → B) (n : List ℕ) (ps : List (List ℕ × A))
+    → find n (map (λ p. (p.0, f p.1)) ps) ≡ option_map f (find n ps)
+find_changed f n [] = refl
+find_changed f n (p ∷ ps) = by_name (bytes_eq n p.0) (find_changed f n ps)
+  where
+    by_name : (b : Bool) → find n (map (λ q. (q.0, f q.1)) ps) ≡ option_map f (find n ps)
+        → (if b then Some (f p.1) else find n (map (λ q. (q.0, f q.1)) ps)) ≡ option_map f (if b then Some p.1 else find n ps)
+    by_name true rest = refl
+    by_name false rest = rest

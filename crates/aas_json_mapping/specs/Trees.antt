@@ -1,6 +1,8 @@
 -- The trees of each sort of document, element and part: how they are spelled, and which are whole.
-use Rattle.std.specs.Prelude.{◌≡◌, true}
-use Rattle.aas_json_table.specs.Table.{specific_asset_id, asset_information, environment, shell, submodel, concept, element}
+use Rattle.std.specs.Prelude.{◌≡◌, Bool, true}
+use Rattle.serde_json.specs.Data.{Data}
+use Rattle.aas_json_table.specs.Table.{Sort, specific_asset_id, asset_information, environment, shell, submodel, concept, element}
+use Rattle.aas_json_table.specs.TooDeep.{Levels}
 use Rattle.aas_json_spelling.specs.Spells.{Trees}
 use Rattle.aas_json_mapping.specs.Parts.{spell_specific_asset_id, spell_asset_information}
 use Rattle.aas_json_mapping.specs.Elements.{spell_element}
@@ -14,23 +16,27 @@ use Rattle.aas_model.specs.declared.documents.Shell.{Shell}
 use Rattle.aas_model.specs.declared.documents.Concept.{Concept}
 use Rattle.aas_model.specs.declared.documents.Environment.{Environment}
 
+-- those of a sort that a test finds whole
+abbrev pub trees_by : {A : Type 0} → Sort → (A → Data) → (Levels → A → Bool) → Trees A
+trees_by sort spell is_whole = record { sort = sort; spell = spell; IsWhole = λ left t. is_whole left t ≡ true }
+
 abbrev pub specific_asset_ids : Trees SpecificAssetId
-specific_asset_ids = record { sort = specific_asset_id; spell = spell_specific_asset_id; IsWhole = λ left a. whole_specific_asset_id left a ≡ true }
+specific_asset_ids = trees_by specific_asset_id spell_specific_asset_id whole_specific_asset_id
 
 abbrev pub asset_informations : Trees AssetInformation
-asset_informations = record { sort = asset_information; spell = spell_asset_information; IsWhole = λ left a. whole_asset_information left a ≡ true }
+asset_informations = trees_by asset_information spell_asset_information whole_asset_information
 
 abbrev pub elements : Trees Element
-elements = record { sort = element; spell = spell_element; IsWhole = λ left e. is_whole_element left e ≡ true }
+elements = trees_by element spell_element is_whole_element
 
 abbrev pub shells : Trees Shell
-shells = record { sort = shell; spell = spell_shell; IsWhole = λ left d. is_whole_shell left d ≡ true }
+shells = trees_by shell spell_shell is_whole_shell
 
 abbrev pub submodels : Trees Submodel
-submodels = record { sort = submodel; spell = spell_submodel; IsWhole = λ left d. is_whole_submodel left d ≡ true }
+submodels = trees_by submodel spell_submodel is_whole_submodel
 
 abbrev pub concepts : Trees Concept
-concepts = record { sort = concept; spell = spell_concept; IsWhole = λ left d. is_whole_concept left d ≡ true }
+concepts = trees_by concept spell_concept is_whole_concept
 
 abbrev pub environments : Trees Environment
-environments = record { sort = environment; spell = spell_environment; IsWhole = λ left e. is_whole_environment left e ≡ true }
+environments = trees_by environment spell_environment is_whole_environment

@@ -1,5 +1,5 @@
 -- Children that were read, as the attributes that hold them.
-use Rattle.std.proofs.Common.{◌≡◌, ◌⊎◌, inl, inr, ℕ, List, [], ◌∷◌, ◌++◌, Bool, true, false, Option, Some, None, option_map, option_to_list, IfSome, map, filter, cond, length, get_or, zero, suc, ◌<◌, ◌≤◌, arith, refl, sym, ap, ap₂, ◌∙◌, true≢false}
+use Rattle.std.proofs.Common.{◌≡◌, ◌⊎◌, inl, inr, ℕ, List, [], ◌∷◌, ◌++◌, Bool, true, false, Option, Some, None, option_map, option_to_list, IfSome, map, filter, cond, length, get_or, zero, suc, ◌<◌, ◌≤◌, arith, refl, sym, ap, ap₂, ◌∙◌}
 use Rattle.std.proofs.lemmas.Simd.{map-map}
 use Rattle.std.proofs.lemmas.List.{append_assoc, append-nil}
 use Rattle.std.specs.List.{list_all}
@@ -14,13 +14,13 @@ use Rattle.aas_json_table.specs.Spelled.{list_of, onto}
 use Rattle.aas_json_spelling.specs.Lists.{Each}
 use Rattle.aas_lemmas.proofs.Truth.{and_left, and_right}
 use Rattle.aas_json_mapping.specs.Elements.{Child, is_input, is_output, is_inoutput, spelled_child, spell_variable, children_attribute, variables_attribute}
-use Rattle.aas_json_mapping.specs.Whole.{Placed}
 use Rattle.aas_json_mapping.proofs.Elements.{child_role, seen_role}
 use Rattle.aas_model.specs.declared.element.Element.{Element}
 use Rattle.aas_model.specs.declared.element.Role.{Role}
 use Rattle.aas_model.specs.declared.element.Role.TheVariants as role
 use Rattle.aas_json_read.specs.Own.{seen, suits, sort_under, spell_under}
 use Rattle.aas_json_read.specs.Children.{AddsItems}
+use Rattle.aas_json_read.proofs.Places.{has_role}
 
 -- ---- one more child
 
@@ -94,18 +94,18 @@ cond_true b x y e = rw e refl
 cond_false : {A : Type 0} (b : Bool) (x y : A) → b ≡ false → cond b x y ≡ y
 cond_false b x y e = rw e refl
 
-all_kept : (test : Role → Bool) (r : Role) → ((c : Placed) → suits r c ≡ true → test c.role ≡ true) → (kids : List Element) → list_all (λ e. suits r (seen e)) kids ≡ true
+all_kept : (test : Role → Bool) (r : Role) → test r ≡ true → (kids : List Element) → list_all (λ e. suits r (seen e)) kids ≡ true
     → filter (λ (c : Child). test c.role) (map spelled_child kids) ≡ map spelled_child kids
 all_kept test r h [] e = refl
 all_kept test r h (k ∷ kids) e =
-    cond_true (test (spelled_child k).role) _ _ (ap test (role_as_seen k) ∙ h (seen k) (and_left (suits r (seen k)) _ e))
+    cond_true (test (spelled_child k).role) _ _ (ap test (role_as_seen k ∙ has_role r (seen k) (and_left (suits r (seen k)) _ e)) ∙ h)
     ∙ ap (λ l. spelled_child k ∷ l) (all_kept test r h kids (and_right (suits r (seen k)) _ e))
 
-none_kept : (test : Role → Bool) (r : Role) → ((c : Placed) → suits r c ≡ true → test c.role ≡ false) → (kids : List Element) → list_all (λ e. suits r (seen e)) kids ≡ true
+none_kept : (test : Role → Bool) (r : Role) → test r ≡ false → (kids : List Element) → list_all (λ e. suits r (seen e)) kids ≡ true
     → filter (λ (c : Child). test c.role) (map spelled_child kids) ≡ []
 none_kept test r h [] e = refl
 none_kept test r h (k ∷ kids) e =
-    cond_false (test (spelled_child k).role) _ _ (ap test (role_as_seen k) ∙ h (seen k) (and_left (suits r (seen k)) _ e))
+    cond_false (test (spelled_child k).role) _ _ (ap test (role_as_seen k ∙ has_role r (seen k) (and_left (suits r (seen k)) _ e)) ∙ h)
     ∙ none_kept test r h kids (and_right (suits r (seen k)) _ e)
 
 -- what a test keeps of three lists
@@ -117,43 +117,29 @@ kept_of test a b d x y z e f g =
     ∙ filter-append keeps (map spelled_child a) (map spelled_child b ++ map spelled_child d)
     ∙ ap₂ (λ l m. l ++ m) e (filter-append keeps (map spelled_child b) (map spelled_child d) ∙ ap₂ (λ l m. l ++ m) f g)
 
--- ---- a variable has one role
-
-input_only : (r : Role) → is_input r ≡ true → (is_output r ≡ false) × (is_inoutput r ≡ false)
-input_only role.Input e = (refl, refl)
-input_only r e = absurd (true≢false (sym e))
-
-output_only : (r : Role) → is_output r ≡ true → (is_input r ≡ false) × (is_inoutput r ≡ false)
-output_only role.Output e = (refl, refl)
-output_only r e = absurd (true≢false (sym e))
-
-inoutput_only : (r : Role) → is_inoutput r ≡ true → (is_input r ≡ false) × (is_output r ≡ false)
-inoutput_only role.Inoutput e = (refl, refl)
-inoutput_only r e = absurd (true≢false (sym e))
-
 module _ (a b d : List Element) (ins : list_all (λ e. suits role.Input (seen e)) a ≡ true) (outs : list_all (λ e. suits role.Output (seen e)) b ≡ true) (both : list_all (λ e. suits role.Inoutput (seen e)) d ≡ true) where
   pub inputs_are : (o : Option Data) → list_of (λ e. spell_variable (spelled_child e)) a ≡ o → variables_attribute is_input (map spelled_child (a ++ (b ++ d))) ≡ o
   inputs_are o e =
       ap (list_of spell_variable) (
-      kept_of is_input a b d (map spelled_child a) [] [] (all_kept is_input role.Input (λ c s. and_left (is_input c.role) _ s) a ins)
-      (none_kept is_input role.Output (λ c s. (output_only c.role (and_left (is_output c.role) _ s)).0) b outs)
-      (none_kept is_input role.Inoutput (λ c s. (inoutput_only c.role (and_left (is_inoutput c.role) _ s)).0) d both)
+      kept_of is_input a b d (map spelled_child a) [] [] (all_kept is_input role.Input refl a ins)
+      (none_kept is_input role.Output refl b outs)
+      (none_kept is_input role.Inoutput refl d both)
       ∙ append-nil (map spelled_child a)
       ) ∙ spelled_list spell_variable a ∙ e
 
   pub outputs_are : (o : Option Data) → list_of (λ e. spell_variable (spelled_child e)) b ≡ o → variables_attribute is_output (map spelled_child (a ++ (b ++ d))) ≡ o
   outputs_are o e =
       ap (list_of spell_variable) (
-      kept_of is_output a b d [] (map spelled_child b) [] (none_kept is_output role.Input (λ c s. (input_only c.role (and_left (is_input c.role) _ s)).0) a ins)
-      (all_kept is_output role.Output (λ c s. and_left (is_output c.role) _ s) b outs)
-      (none_kept is_output role.Inoutput (λ c s. (inoutput_only c.role (and_left (is_inoutput c.role) _ s)).1) d both)
+      kept_of is_output a b d [] (map spelled_child b) [] (none_kept is_output role.Input refl a ins)
+      (all_kept is_output role.Output refl b outs)
+      (none_kept is_output role.Inoutput refl d both)
       ∙ append-nil (map spelled_child b)
       ) ∙ spelled_list spell_variable b ∙ e
 
   pub inoutputs_are : (o : Option Data) → list_of (λ e. spell_variable (spelled_child e)) d ≡ o → variables_attribute is_inoutput (map spelled_child (a ++ (b ++ d))) ≡ o
   inoutputs_are o e =
       ap (list_of spell_variable) (
-      kept_of is_inoutput a b d [] [] (map spelled_child d) (none_kept is_inoutput role.Input (λ c s. (input_only c.role (and_left (is_input c.role) _ s)).1) a ins)
-      (none_kept is_inoutput role.Output (λ c s. (output_only c.role (and_left (is_output c.role) _ s)).1) b outs)
-      (all_kept is_inoutput role.Inoutput (λ c s. and_left (is_inoutput c.role) _ s) d both)
+      kept_of is_inoutput a b d [] [] (map spelled_child d) (none_kept is_inoutput role.Input refl a ins)
+      (none_kept is_inoutput role.Output refl b outs)
+      (all_kept is_inoutput role.Inoutput refl d both)
       ) ∙ spelled_list spell_variable d ∙ e

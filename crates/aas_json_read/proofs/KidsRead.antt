@@ -1,23 +1,17 @@
 -- The children of each kind of element, as they were read.
-use Rattle.std.proofs.Common.{◌≡◌, ◌⊎◌, ℕ, List, [], ◌++◌, Option, map, codes, inl, inr, sym, ap, ◌∙◌, subst}
+use Rattle.std.proofs.Common.{◌≡◌, ◌⊎◌, ℕ, List, [], ◌++◌, Option, codes, inl, inr, sym, ap, ◌∙◌, subst}
 use Rattle.std.proofs.lemmas.List.{append_assoc}
 use Rattle.serde_json.specs.Data.{Data}
 use Rattle.aas_model_names.specs.declared.kind.Kind.{Kind}
 use Rattle.aas_model_names.specs.declared.kind.Kind.TheVariants as kind
 use Rattle.aas_json_table.specs.Table.{MemberType, many, element, data_element, operation_variable}
-use Rattle.aas_json_mapping.specs.Elements.{spelled_child}
 use Rattle.aas_model.specs.declared.element.Element.{Element}
 use Rattle.aas_model.specs.declared.element.Role.{Role}
 use Rattle.aas_model.specs.declared.element.Role.TheVariants as role
-use Rattle.aas_json_read.specs.Own.{FindsKids, FitUnder}
+use Rattle.aas_json_read.specs.Own.{AreRead}
 use Rattle.aas_json_read.specs.Children.{AddsChildren}
 use Rattle.aas_json_read.proofs.Kids.{children_are, inputs_are, outputs_are, inoutputs_are}
 use Rattle.aas_json_read.proofs.Places.{annotations_fit, statements_fit, collected_fit, listed_fit, variables_fit}
-
--- the children of a kind are found, and each is in its place
-pub record AreRead (find : List ℕ → MemberType → Option Data) (k : Kind) (kids : List Element) : Type 0 where
-  pub says : FindsKids find k (map spelled_child kids)
-  pub places : FitUnder k kids
 
 -- all that was added, where nothing was before
 pub added : (r : Role) (before all : List Element) (o : Option Data) (a : AddsChildren r before all o) → before ≡ [] → a.more ≡ all

@@ -5,10 +5,10 @@ use Rattle.std.proofs.lemmas.Bool.{and_from}
 use Rattle.std.specs.List.{list_all}
 use Rattle.std.proofs.lemmas.Bool.{le-leb}
 use Rattle.std.proofs.lemmas.List.{map-append}
+use Rattle.aas_model_names.specs.declared.kind.Kind.{Kind}
 use Rattle.aas_model_names.specs.declared.kind.Kind.TheVariants as kind
 use Rattle.aas_json_spelling.specs.Lists.{Each}
 use Rattle.aas_lemmas.proofs.Truth.{and_left, and_right}
-use Rattle.aas_json_mapping.specs.Elements.{is_input, is_output, is_inoutput}
 use Rattle.aas_json_mapping.specs.Whole.{is_member, is_annotation, is_statement, is_variable, Placed, admits, rank, in_order, is_placed}
 use Rattle.aas_json_mapping.specs.Shape.{IsShaped}
 use Rattle.aas_json_mapping.proofs.Elements.{made, seen_at, seen_role}
@@ -21,6 +21,19 @@ use Rattle.aas_model.specs.declared.element.Role.{Role}
 use Rattle.aas_model.specs.declared.element.Role.TheVariants as role
 use Rattle.aas_json_read.specs.Own.{seen, suits, FitUnder}
 
+-- a child that suits a role has it, and all below it is placed
+suited : (r s : Role) (d placed : Bool) → suits r (record { role = s; is_data = d; placed = placed }) ≡ true → (s ≡ r) × (placed ≡ true)
+suited role.Member role.Member d placed e = (refl, e)
+suited role.Annotation role.Annotation d placed e = (refl, and_right d placed e)
+suited role.Statement role.Statement d placed e = (refl, e)
+suited role.Input role.Input d placed e = (refl, e)
+suited role.Output role.Output d placed e = (refl, e)
+suited role.Inoutput role.Inoutput d placed e = (refl, e)
+suited r s d placed e = absurd (true≢false (sym e))
+
+pub has_role : (r : Role) (c : Placed) → suits r c ≡ true → c.role ≡ r
+has_role r c e = (suited r c.role c.is_data c.placed e).0
+
 -- ---- children that stand in order
 
 -- a child may stand under its parent at a rank, and all below it is placed
@@ -28,6 +41,9 @@ record Stands (x : Payload) (n : ℕ) (c : Placed) : Type 0 where
   admitted : admits x c ≡ true
   at : rank c.role ≡ n
   placed : c.placed ≡ true
+
+stands : (x : Payload) (r : Role) (c : Placed) → suits r c ≡ true → admits x c ≡ true → Stands x (rank r) c
+stands x r c e admitted = let suit = suited r c.role c.is_data c.placed e in record { admitted = admitted; at = ap rank suit.0; placed = suit.1 }
 
 each_is : {A B : Type 0} (P : B → Type 0) (test : B → Bool) (f : A → B) → ((b : B) → test b ≡ true → P b) → (xs : List A) → list_all (λ a. test (f a)) xs ≡ true → Each P (map f xs)
 each_is P test f h [] e = tt
@@ -97,77 +113,43 @@ one_role : (r : Role) (x : Payload) → ((c : Placed) → suits r c ≡ true →
 one_role r x h kids e =
     subst (Standing x) (append-nil (map seen kids)) (stand_before x (rank r) (map seen kids) [] (each_is (Stands x (rank r)) (suits r) seen h kids e) tt (none_stand x))
 
-member_rank : (r : Role) → is_member r ≡ true → rank r ≡ 0
-member_rank role.Member e = refl
-member_rank r e = absurd (true≢false (sym e))
+fits : (k : Kind) (r : Role) → ((x : Payload) → kind_of x ≡ k → (c : Placed) → suits r c ≡ true → admits x c ≡ true)
+    → (kids : List Element) → list_all (λ e. suits r (seen e)) kids ≡ true → FitUnder k kids
+fits k r admitted kids e c x s is = placed_with s c x kids (one_role r x (λ child suit. stands x r child suit (admitted x is child suit)) kids e)
 
-annotation_rank : (r : Role) → is_annotation r ≡ true → rank r ≡ 0
-annotation_rank role.Annotation e = refl
-annotation_rank r e = absurd (true≢false (sym e))
+annotation_admitted : (x : Payload) → kind_of x ≡ kind.AnnotatedRelationshipElement → (c : Placed) → suits role.Annotation c ≡ true → admits x c ≡ true
+annotation_admitted (p.AnnotatedRelationshipElement first second) is c e = and_left (is_annotation c.role && c.is_data) c.placed e
+annotation_admitted x is c e = cc
 
-statement_rank : (r : Role) → is_statement r ≡ true → rank r ≡ 0
-statement_rank role.Statement e = refl
-statement_rank r e = absurd (true≢false (sym e))
+statement_admitted : (x : Payload) → kind_of x ≡ kind.Entity → (c : Placed) → suits role.Statement c ≡ true → admits x c ≡ true
+statement_admitted (p.Entity t g ids) is c e = and_left (is_statement c.role) c.placed e
+statement_admitted x is c e = cc
 
-annotation_stands : (x : Payload) → kind_of x ≡ kind.AnnotatedRelationshipElement → (c : Placed) → suits role.Annotation c ≡ true → Stands x 0 c
-annotation_stands (p.AnnotatedRelationshipElement first second) is c e =
-    let admitted = and_left (is_annotation c.role && c.is_data) c.placed e in
-    record { admitted = admitted; at = annotation_rank c.role (and_left (is_annotation c.role) c.is_data admitted); placed = and_right (is_annotation c.role && c.is_data) c.placed e }
-annotation_stands x is c e = cc
+collected_admitted : (x : Payload) → kind_of x ≡ kind.SubmodelElementCollection → (c : Placed) → suits role.Member c ≡ true → admits x c ≡ true
+collected_admitted p.SubmodelElementCollection is c e = and_left (is_member c.role) c.placed e
+collected_admitted x is c e = cc
 
-statement_stands : (x : Payload) → kind_of x ≡ kind.Entity → (c : Placed) → suits role.Statement c ≡ true → Stands x 0 c
-statement_stands (p.Entity t g ids) is c e =
-    let is_role = and_left (is_statement c.role) _ e in record { admitted = is_role; at = statement_rank c.role is_role; placed = and_right (is_statement c.role) _ e }
-statement_stands x is c e = cc
-
-collected_stands : (x : Payload) → kind_of x ≡ kind.SubmodelElementCollection → (c : Placed) → suits role.Member c ≡ true → Stands x 0 c
-collected_stands p.SubmodelElementCollection is c e =
-    let is_role = and_left (is_member c.role) _ e in record { admitted = is_role; at = member_rank c.role is_role; placed = and_right (is_member c.role) _ e }
-collected_stands x is c e = cc
-
-listed_stands : (x : Payload) → kind_of x ≡ kind.SubmodelElementList → (c : Placed) → suits role.Member c ≡ true → Stands x 0 c
-listed_stands (p.SubmodelElementList o s t v) is c e =
-    let is_role = and_left (is_member c.role) _ e in record { admitted = is_role; at = member_rank c.role is_role; placed = and_right (is_member c.role) _ e }
-listed_stands x is c e = cc
+listed_admitted : (x : Payload) → kind_of x ≡ kind.SubmodelElementList → (c : Placed) → suits role.Member c ≡ true → admits x c ≡ true
+listed_admitted (p.SubmodelElementList o s t v) is c e = and_left (is_member c.role) c.placed e
+listed_admitted x is c e = cc
 
 pub annotations_fit : (kids : List Element) → list_all (λ e. suits role.Annotation (seen e)) kids ≡ true → FitUnder kind.AnnotatedRelationshipElement kids
-annotations_fit kids e c x r is = placed_with r c x kids (one_role role.Annotation x (annotation_stands x is) kids e)
+annotations_fit = fits kind.AnnotatedRelationshipElement role.Annotation annotation_admitted
 
 pub statements_fit : (kids : List Element) → list_all (λ e. suits role.Statement (seen e)) kids ≡ true → FitUnder kind.Entity kids
-statements_fit kids e c x r is = placed_with r c x kids (one_role role.Statement x (statement_stands x is) kids e)
+statements_fit = fits kind.Entity role.Statement statement_admitted
 
 pub collected_fit : (kids : List Element) → list_all (λ e. suits role.Member (seen e)) kids ≡ true → FitUnder kind.SubmodelElementCollection kids
-collected_fit kids e c x r is = placed_with r c x kids (one_role role.Member x (collected_stands x is) kids e)
+collected_fit = fits kind.SubmodelElementCollection role.Member collected_admitted
 
 pub listed_fit : (kids : List Element) → list_all (λ e. suits role.Member (seen e)) kids ≡ true → FitUnder kind.SubmodelElementList kids
-listed_fit kids e c x r is = placed_with r c x kids (one_role role.Member x (listed_stands x is) kids e)
+listed_fit = fits kind.SubmodelElementList role.Member listed_admitted
 
 -- ---- variables
 
-input_role : (r : Role) → is_input r ≡ true → r ≡ role.Input
-input_role role.Input e = refl
-input_role r e = absurd (true≢false (sym e))
-
-output_role : (r : Role) → is_output r ≡ true → r ≡ role.Output
-output_role role.Output e = refl
-output_role r e = absurd (true≢false (sym e))
-
-inoutput_role : (r : Role) → is_inoutput r ≡ true → r ≡ role.Inoutput
-inoutput_role role.Inoutput e = refl
-inoutput_role r e = absurd (true≢false (sym e))
-
-variable_stands : (x : Payload) (s : Role) (c : Placed) → kind_of x ≡ kind.Operation → c.role ≡ s → is_variable s ≡ true → c.placed ≡ true → Stands x (rank s) c
-variable_stands p.Operation s c is same variable e = record { admitted = ap is_variable same ∙ variable; at = ap rank same; placed = e }
-variable_stands x s c is same variable e = cc
-
-input_stands : (x : Payload) → kind_of x ≡ kind.Operation → (c : Placed) → suits role.Input c ≡ true → Stands x 0 c
-input_stands x is c e = variable_stands x role.Input c is (input_role c.role (and_left (is_input c.role) _ e)) refl (and_right (is_input c.role) _ e)
-
-output_stands : (x : Payload) → kind_of x ≡ kind.Operation → (c : Placed) → suits role.Output c ≡ true → Stands x 1 c
-output_stands x is c e = variable_stands x role.Output c is (output_role c.role (and_left (is_output c.role) _ e)) refl (and_right (is_output c.role) _ e)
-
-inoutput_stands : (x : Payload) → kind_of x ≡ kind.Operation → (c : Placed) → suits role.Inoutput c ≡ true → Stands x 2 c
-inoutput_stands x is c e = variable_stands x role.Inoutput c is (inoutput_role c.role (and_left (is_inoutput c.role) _ e)) refl (and_right (is_inoutput c.role) _ e)
+variable_stands : (x : Payload) (r : Role) → kind_of x ≡ kind.Operation → is_variable r ≡ true → (c : Placed) → suits r c ≡ true → Stands x (rank r) c
+variable_stands p.Operation r is variable c e = stands p.Operation r c e (ap is_variable (has_role r c e) ∙ variable)
+variable_stands x r is variable c e = cc
 
 stands_from : (x : Payload) (m n : ℕ) → nat_le m n ≡ true → (c : Placed) → Stands x n c → IsFrom m c
 stands_from x m n e c s = ap (nat_le m) s.at ∙ e
@@ -175,10 +157,10 @@ stands_from x m n e c s = ap (nat_le m) s.at ∙ e
 pub variables_fit : (a b d : List Element) → list_all (λ e. suits role.Input (seen e)) a ≡ true → list_all (λ e. suits role.Output (seen e)) b ≡ true → list_all (λ e. suits role.Inoutput (seen e)) d ≡ true
     → FitUnder kind.Operation (a ++ (b ++ d))
 variables_fit a b d e f g c x r is =
-    let inputs = each_is (Stands x 0) (suits role.Input) seen (input_stands x is) a e in
-    let outputs = each_is (Stands x 1) (suits role.Output) seen (output_stands x is) b f in
-    let inoutputs = each_is (Stands x 2) (suits role.Inoutput) seen (inoutput_stands x is) d g in
-    let last = one_role role.Inoutput x (inoutput_stands x is) d g in
+    let inputs = each_is (Stands x 0) (suits role.Input) seen (variable_stands x role.Input is refl) a e in
+    let outputs = each_is (Stands x 1) (suits role.Output) seen (variable_stands x role.Output is refl) b f in
+    let inoutputs = each_is (Stands x 2) (suits role.Inoutput) seen (variable_stands x role.Inoutput is refl) d g in
+    let last = one_role role.Inoutput x (variable_stands x role.Inoutput is refl) d g in
     let later = stand_before x 1 (map seen b) (map seen d) outputs (each_so (Stands x 2) (IsFrom 1) (stands_from x 1 2 refl) (map seen d) inoutputs) last in
     let from = each_with (IsFrom 0) (map seen b) (map seen d) (each_so (Stands x 1) (IsFrom 0) (stands_from x 0 1 refl) (map seen b) outputs)
     (each_so (Stands x 2) (IsFrom 0) (stands_from x 0 2 refl) (map seen d) inoutputs) in

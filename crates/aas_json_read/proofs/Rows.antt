@@ -14,14 +14,11 @@ use Rattle.aas_json_members.proofs.Objects.{Agree, spelled_as}
 -- ---- each required member is there, in both orders
 
 there_swapped : (a x b y rest : Bool) → (if b then y && (if a then x && rest else rest) else (if a then x && rest else rest)) ≡ (if a then x && (if b then y && rest else rest) else (if b then y && rest else rest))
-there_swapped true true true true rest = refl
-there_swapped true true true false rest = refl
-there_swapped true true false y rest = refl
+there_swapped true true true y rest = refl
 there_swapped true false true true rest = refl
 there_swapped true false true false rest = refl
-there_swapped true false false y rest = refl
-there_swapped false x true y rest = refl
-there_swapped false x false y rest = refl
+there_swapped true x false y rest = refl
+there_swapped false x b y rest = refl
 
 there_inserted : (r : Row) (rows : List Row) (g : List ℕ → MemberType → Option Data) → are_there (insert_row r rows) g ≡ are_there (r ∷ rows) g
 there_inserted r [] g = refl

@@ -1,5 +1,5 @@
 -- What an element has of its own: the attributes of its kind, and its children (IDTA-01001-3-0, the subclasses of SubmodelElement).
-use Rattle.std.specs.Prelude.{◌≡◌, ◌&&◌, not, ℕ, List, [], Bool, true, false, codes, filter, Option, Some, unwrap_or}
+use Rattle.std.specs.Prelude.{◌≡◌, ◌&&◌, not, ℕ, List, [], Bool, true, false, codes, filter, map, Option, Some, unwrap_or, if◌then◌else◌}
 use Rattle.serde_json.specs.Data.{Data}
 use Rattle.aas_model_names.specs.KindNames.{name_of, is_data_element}
 use Rattle.aas_model_names.specs.declared.kind.Kind.{Kind}
@@ -8,8 +8,8 @@ use Rattle.aas_json_table.specs.Table.{Sort, element, data_element, operation_va
 use Rattle.aas_json_table.specs.Rows.{find, sorted}
 use Rattle.aas_json_table.specs.Canonical.{canonical_object}
 use Rattle.aas_json_table.specs.Spelled.{spelled}
-use Rattle.aas_json_mapping.specs.Elements.{Child, spell_variable, own_attributes, children_attribute, variables_attribute, is_input, is_output, is_inoutput}
-use Rattle.aas_json_mapping.specs.Whole.{Placed, placed_over, is_member, is_annotation, is_statement, is_placed}
+use Rattle.aas_json_mapping.specs.Elements.{Child, spelled_child, spell_variable, own_attributes, children_attribute, variables_attribute, is_input, is_output, is_inoutput}
+use Rattle.aas_json_mapping.specs.Whole.{Placed, placed_over, is_member, is_annotation, is_statement, is_variable, is_placed}
 use Rattle.aas_model.specs.Payload.{kind_of}
 use Rattle.aas_model.specs.declared.common.Common.{Common}
 use Rattle.aas_model.specs.declared.payload.Payload.{Payload}
@@ -45,16 +45,10 @@ elements_under r = element
 
 -- the objects of the list that holds the children of a role
 abbrev pub sort_under : Role → Sort
-sort_under role.Input = operation_variable
-sort_under role.Output = operation_variable
-sort_under role.Inoutput = operation_variable
-sort_under r = elements_under r
+sort_under r = if is_variable r then operation_variable else elements_under r
 
 abbrev pub spell_under : Role → Child → Data
-spell_under role.Input c = spell_variable c
-spell_under role.Output c = spell_variable c
-spell_under role.Inoutput c = spell_variable c
-spell_under r c = c.spelling
+spell_under r c = if is_variable r then spell_variable c else c.spelling
 
 -- the children of an element of a kind are found
 abbrev pub FindsKids : (List ℕ → MemberType → Option Data) → Kind → List Child → Type 0
@@ -91,3 +85,8 @@ may_have k r = true
 -- any element of a kind with these children is placed
 abbrev pub FitUnder : Kind → List Element → Type 0
 FitUnder k kids = (c : Common) (p : Payload) (r : Role) → kind_of p ≡ k → is_placed (roll-Element (record { common = c; payload = p; role = r; kids = kids })) ≡ true
+
+-- the children of an element of a kind are found, and each is in its place
+pub record AreRead (find : List ℕ → MemberType → Option Data) (k : Kind) (kids : List Element) : Type 0 where
+  pub says : FindsKids find k (map spelled_child kids)
+  pub places : FitUnder k kids

@@ -1,4 +1,4 @@
-ghost use Rattle.std.specs.Prelude.{◌≡◌, true, codes, map, IfOk, IfSome, Some, option_map};
+ghost use Rattle.std.specs.Prelude.{◌≡◌, true, codes, IfOk, IfSome, Some, option_map};
 ghost use Rattle.serde_json.specs.Data.{no_items, string};
 ghost use Rattle.serde_json.specs.View.{view, items_view, members_view};
 ghost use Rattle.aas_model_names.specs.KindNames.{name_of};
@@ -9,7 +9,7 @@ ghost use Rattle.aas_json_table.specs.Spelled.{list_of};
 ghost use Rattle.aas_json_spelling.specs.Lists.{Each};
 ghost use Rattle.aas_json_mapping.specs.Elements.{rows_for, spelled_child, spell_element, spell_variable};
 ghost use Rattle.aas_json_mapping.specs.Shape.{IsShaped};
-ghost use Rattle.aas_json_read.specs.Own.{elements_under, sort_under, spell_under, FindsKids, FitUnder, seen, suits, may_have};
+ghost use Rattle.aas_json_read.specs.Own.{elements_under, sort_under, spell_under, AreRead, seen, suits, may_have};
 ghost use Rattle.aas_json_read.specs.Children.{AddsItems, AddsChildren};
 
 use crate::common::common_in;
@@ -73,8 +73,7 @@ fn kids_in(
     members: &Map<String, Value>,
     kind: Kind,
 ) -> Result<Many<Element>, NoMemory>
-    ensures says { IfOk result (λ kids. FindsKids (canonical_member (members_view members.now.entries)) kind (map spelled_child kids)) }
-    ensures places { IfOk result (λ kids. FitUnder kind kids) }
+    ensures { IfOk result (λ kids. AreRead (canonical_member (members_view members.now.entries)) kind kids) }
 {
     let none = Many::new(alloc);
     match kind {
@@ -92,23 +91,14 @@ fn kids_in(
         Kind::SubmodelElementCollection | Kind::SubmodelElementList => {
             Ok(children_after(alloc, none, members, name::VALUE, Role::Member)?)
         }
-        Kind::Property
-        | Kind::MultiLanguageProperty
-        | Kind::Range
-        | Kind::File
-        | Kind::Blob
-        | Kind::ReferenceElement
-        | Kind::RelationshipElement
-        | Kind::BasicEventElement
-        | Kind::Capability => Ok(none),
+        _ => Ok(none),
     }
 }
 
 /// The input, output and inoutput variables of an Operation, in this order.
 #[cycle(element)]
 fn variables_in(alloc: Global, members: &Map<String, Value>) -> Result<Many<Element>, NoMemory>
-    ensures says { IfOk result (λ kids. FindsKids (canonical_member (members_view members.now.entries)) Kind.Operation (map spelled_child kids)) }
-    ensures places { IfOk result (λ kids. FitUnder Kind.Operation kids) }
+    ensures { IfOk result (λ kids. AreRead (canonical_member (members_view members.now.entries)) Kind.Operation kids) }
 {
     let input = children_after(
         alloc,

@@ -1,7 +1,7 @@
 -- A value in which no other lies is passed over, where kept data has a level left.
 use Rattle.std.proofs.Common.{◌≡◌, ℕ, zero, suc, List, true, nat_lt, Option, None, Some, option_map, refl, ap}
 use Rattle.serde_json.specs.Data.{Data, null, boolean, number, string, array, object, Members, member}
-use Rattle.aas_json_table.specs.Table.{MemberType, text, flag, word, one, many, kept, plain, Row}
+use Rattle.aas_json_table.specs.Table.{MemberType, plain, Row}
 use Rattle.aas_json_table.specs.Rows.{Pointer, below, first_of, in_member, row_named}
 use Rattle.aas_json_table.specs.TooDeep.{Levels, is_shallow, spend, too_deep, too_deep_member, too_deep_members, within}
 
@@ -12,34 +12,11 @@ spent (suc n) inside e = refl
 none_deep : (f : MemberType) (d : Data) (l : Levels) → is_shallow d l ≡ true → too_deep f d l ≡ None
 none_deep f (array ds) l e = absurd (cc)
 none_deep f (object ms) l e = absurd (cc)
-none_deep text null l e = refl
-none_deep flag null l e = refl
-none_deep (word ws) null l e = refl
-none_deep (one r) null l e = refl
-none_deep (many r) null l e = refl
-none_deep kept null l e = refl
 none_deep plain null l e = spent l.kept (λ n. record l { kept = n }) e
-none_deep text (boolean b) l e = refl
-none_deep flag (boolean b) l e = refl
-none_deep (word ws) (boolean b) l e = refl
-none_deep (one r) (boolean b) l e = refl
-none_deep (many r) (boolean b) l e = refl
-none_deep kept (boolean b) l e = refl
 none_deep plain (boolean b) l e = spent l.kept (λ n. record l { kept = n }) e
-none_deep text (number x) l e = refl
-none_deep flag (number x) l e = refl
-none_deep (word ws) (number x) l e = refl
-none_deep (one r) (number x) l e = refl
-none_deep (many r) (number x) l e = refl
-none_deep kept (number x) l e = refl
 none_deep plain (number x) l e = spent l.kept (λ n. record l { kept = n }) e
-none_deep text (string s) l e = refl
-none_deep flag (string s) l e = refl
-none_deep (word ws) (string s) l e = refl
-none_deep (one r) (string s) l e = refl
-none_deep (many r) (string s) l e = refl
-none_deep kept (string s) l e = refl
 none_deep plain (string s) l e = spent l.kept (λ n. record l { kept = n }) e
+none_deep f d l e = refl
 
 none_within : (k : List ℕ) (r : Option Row) (d : Data) (l : Levels) → is_shallow d l ≡ true → too_deep_member k r (λ f. too_deep f d l) ≡ None
 none_within k None d l e = refl

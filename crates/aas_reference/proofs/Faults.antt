@@ -2,7 +2,7 @@
 use Rattle.std.proofs.Common.{◌≡◌, ℕ, ◌<◌, ◌&&◌, not, cond, List, [], ◌∷◌, map, filter, Bool, true, false, Option, Some, None, option_map, unwrap_or, refl, sym, ap, ◌∙◌, lit<, arith}
 use Rattle.std.specs.Bool.{⊤}
 use Rattle.std.specs.List.{list_all}
-use Rattle.aas_model_names.specs.declared.reference_type.ReferenceType.{ReferenceType}
+use Rattle.aas_model_names.specs.declared.enumerations.ReferenceType.{ReferenceType}
 use Rattle.aas_model.specs.declared.reference.Key.{Key}
 use Rattle.aas_model.specs.declared.reference.Reference.{Reference, out-Reference}
 use Rattle.aas_model.specs.declared.reference.Reference.TheFolds.{fold-roll-Reference}

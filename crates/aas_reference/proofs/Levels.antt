@@ -4,7 +4,7 @@ use Rattle.serde_json.specs.Data.{Data}
 use Rattle.aas_json_spelling.specs.Lists.{is_any}
 use Rattle.aas_json_table.specs.Table.{parts, reference}
 use Rattle.aas_json_table.specs.Spelled.{Attributes, spelled}
-use Rattle.aas_model_names.specs.declared.reference_type.ReferenceType.{ReferenceType}
+use Rattle.aas_model_names.specs.declared.enumerations.ReferenceType.{ReferenceType}
 use Rattle.aas_model.specs.declared.reference.Key.{Key}
 use Rattle.aas_model.specs.declared.reference.Reference.{Reference, out-Reference, roll-Reference, roll-out-Reference}
 use Rattle.aas_model.specs.declared.reference.Reference.TheFolds.{ind-Reference, fold-roll-Reference, map-Reference}

@@ -2,7 +2,7 @@
 use Rattle.std.proofs.Common.{◌≡◌, ℕ, zero, suc, ◌≤◌, ◌&&◌, List, [], ◌∷◌, true, Option, Some, None, option_map, unwrap_or, refl, sym, ap, ◌∙◌, subst, true≢false, arith}
 use Rattle.aas_model_names.specs.KeyTypeNames as key_type
 use Rattle.aas_model_names.specs.ReferenceTypeNames as reference_type
-use Rattle.aas_model_names.specs.declared.reference_type.ReferenceType.{ReferenceType}
+use Rattle.aas_model_names.specs.declared.enumerations.ReferenceType.{ReferenceType}
 use Rattle.aas_json_table.specs.Table.{one, parts, reference, key}
 use Rattle.aas_json_table.specs.Rows.{rows_of, sorted}
 use Rattle.aas_json_table.specs.TooDeep.{Levels}

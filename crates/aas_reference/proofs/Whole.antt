@@ -2,7 +2,7 @@
 use Rattle.std.proofs.Common.{◌≡◌, ℕ, zero, suc, ◌≤◌, ◌&&◌, List, [], ◌∷◌, true, Option, Some, None, option_map, unwrap_or, is_some, codes, refl, sym, ap, ◌∙◌, subst, arith}
 use Rattle.std.proofs.lemmas.Bool.{and_from}
 use Rattle.serde_json.specs.Data.{Data, null, boolean, number, string, array, object, Members}
-use Rattle.aas_model_names.specs.declared.reference_type.ReferenceType.{ReferenceType}
+use Rattle.aas_model_names.specs.declared.enumerations.ReferenceType.{ReferenceType}
 use Rattle.aas_json_table.specs.Table.{one, many, word, parts, reference, key, optional}
 use Rattle.aas_json_table.specs.Names.{reference_types}
 use Rattle.aas_json_table.specs.Rows.{rows_of, sorted}

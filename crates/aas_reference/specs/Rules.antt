@@ -4,10 +4,10 @@ use Rattle.std.specs.Prelude.{ℕ, ◌&&◌, ◌||◌, not, nat_le, Bool, true, 
 use Rattle.std.specs.List.{list_all}
 use Rattle.aas_model_names.specs.ElementNameNames as element_name
 use Rattle.aas_model_names.specs.KeyTypeNames as key_type
-use Rattle.aas_model_names.specs.declared.key_type.KeyType.{KeyType}
-use Rattle.aas_model_names.specs.declared.key_type.KeyType.TheVariants as k
-use Rattle.aas_model_names.specs.declared.reference_type.ReferenceType.{ReferenceType}
-use Rattle.aas_model_names.specs.declared.reference_type.ReferenceType.TheVariants as r
+use Rattle.aas_model_names.specs.declared.kind.KeyType.{KeyType}
+use Rattle.aas_model_names.specs.declared.kind.KeyType.TheVariants as k
+use Rattle.aas_model_names.specs.declared.enumerations.ReferenceType.{ReferenceType}
+use Rattle.aas_model_names.specs.declared.enumerations.ReferenceType.TheVariants as r
 use Rattle.aas_json_table.specs.Names.{has}
 use Rattle.aas_model.specs.declared.reference.Key.{Key}
 use Rattle.aas_model.specs.declared.reference.Reference.{Reference, fold-Reference}

@@ -47,44 +47,22 @@ child_of-returns-in_ok-variable_in-in-Object-clause-says t c =
     variable_under c.args.role c.in_ok-variable_in-in-Object.field-0 (canonical (one (sort_under c.args.role)) (view c.args.value.now)) c.in-Input.is
     (c.in_ok-variable_in-in-Object.ensures.says ∙ ap (canonical (one operation_variable)) (sym seen) ∙ ap (λ s. canonical (one s) (view c.args.value.now)) (variable_sort c.args.role c.in-Input.is))
 
--- ---- children
+pub kids_in-returns-in_ok-children_after-in-AnnotatedRelationshipElement : goal.kids_in-returns-in_ok-children_after-in-AnnotatedRelationshipElement
+kids_in-returns-in_ok-children_after-in-AnnotatedRelationshipElement t c =
+    annotations_read (canonical_member (members_view c.args.members.now.entries)) c.args.kind c.new-none.result
+    c.in_ok-children_after-in-AnnotatedRelationshipElement.field-0 c.in-AnnotatedRelationshipElement.is c.new-none.ensures c.in_ok-children_after-in-AnnotatedRelationshipElement.ensures
 
-pub kids_in-returns-in_ok-children_after-in-AnnotatedRelationshipElement-clause-says : goal.kids_in-returns-in_ok-children_after-in-AnnotatedRelationshipElement-clause-says
-kids_in-returns-in_ok-children_after-in-AnnotatedRelationshipElement-clause-says t c =
-    let all = c.in_ok-children_after-in-AnnotatedRelationshipElement in
-    (annotations_read (canonical_member (members_view c.args.members.now.entries)) c.args.kind c.new-none.result all.field-0 c.in-AnnotatedRelationshipElement.is c.new-none.ensures all.ensures).says
+pub kids_in-returns-in_ok-children_after-in-Entity : goal.kids_in-returns-in_ok-children_after-in-Entity
+kids_in-returns-in_ok-children_after-in-Entity t c =
+    statements_read (canonical_member (members_view c.args.members.now.entries)) c.args.kind c.new-none.result
+    c.in_ok-children_after-in-Entity.field-0 c.in-Entity.is c.new-none.ensures c.in_ok-children_after-in-Entity.ensures
 
-pub kids_in-returns-in_ok-children_after-in-AnnotatedRelationshipElement-clause-places : goal.kids_in-returns-in_ok-children_after-in-AnnotatedRelationshipElement-clause-places
-kids_in-returns-in_ok-children_after-in-AnnotatedRelationshipElement-clause-places t c =
-    let all = c.in_ok-children_after-in-AnnotatedRelationshipElement in
-    (annotations_read (canonical_member (members_view c.args.members.now.entries)) c.args.kind c.new-none.result all.field-0 c.in-AnnotatedRelationshipElement.is c.new-none.ensures all.ensures).places
+pub kids_in-returns-in_ok-children_after-in-SubmodelElementCollection : goal.kids_in-returns-in_ok-children_after-in-SubmodelElementCollection
+kids_in-returns-in_ok-children_after-in-SubmodelElementCollection t c =
+    members_read (canonical_member (members_view c.args.members.now.entries)) c.args.kind c.new-none.result
+    c.in_ok-children_after-in-SubmodelElementCollection.field-0 c.in-SubmodelElementCollection.is c.new-none.ensures c.in_ok-children_after-in-SubmodelElementCollection.ensures
 
-pub kids_in-returns-in_ok-children_after-in-Entity-clause-says : goal.kids_in-returns-in_ok-children_after-in-Entity-clause-says
-kids_in-returns-in_ok-children_after-in-Entity-clause-says t c =
-    let all = c.in_ok-children_after-in-Entity in
-    (statements_read (canonical_member (members_view c.args.members.now.entries)) c.args.kind c.new-none.result all.field-0 c.in-Entity.is c.new-none.ensures all.ensures).says
-
-pub kids_in-returns-in_ok-children_after-in-Entity-clause-places : goal.kids_in-returns-in_ok-children_after-in-Entity-clause-places
-kids_in-returns-in_ok-children_after-in-Entity-clause-places t c =
-    let all = c.in_ok-children_after-in-Entity in
-    (statements_read (canonical_member (members_view c.args.members.now.entries)) c.args.kind c.new-none.result all.field-0 c.in-Entity.is c.new-none.ensures all.ensures).places
-
-pub kids_in-returns-in_ok-children_after-in-SubmodelElementCollection-clause-says : goal.kids_in-returns-in_ok-children_after-in-SubmodelElementCollection-clause-says
-kids_in-returns-in_ok-children_after-in-SubmodelElementCollection-clause-says t c =
-    let all = c.in_ok-children_after-in-SubmodelElementCollection in
-    (members_read (canonical_member (members_view c.args.members.now.entries)) c.args.kind c.new-none.result all.field-0 c.in-SubmodelElementCollection.is c.new-none.ensures all.ensures).says
-
-pub kids_in-returns-in_ok-children_after-in-SubmodelElementCollection-clause-places : goal.kids_in-returns-in_ok-children_after-in-SubmodelElementCollection-clause-places
-kids_in-returns-in_ok-children_after-in-SubmodelElementCollection-clause-places t c =
-    let all = c.in_ok-children_after-in-SubmodelElementCollection in
-    (members_read (canonical_member (members_view c.args.members.now.entries)) c.args.kind c.new-none.result all.field-0 c.in-SubmodelElementCollection.is c.new-none.ensures all.ensures).places
-
-pub variables_in-returns-clause-says : goal.variables_in-returns-clause-says
-variables_in-returns-clause-says t c =
-    (variables_read (canonical_member (members_view c.args.members.now.entries)) c.new.result c.in_ok-input.input c.in_ok-output.output c.in_ok-all.all c.new.ensures c.in_ok-input.ensures c.in_ok-output.ensures
-    c.in_ok-all.ensures).says
-
-pub variables_in-returns-clause-places : goal.variables_in-returns-clause-places
-variables_in-returns-clause-places t c =
-    (variables_read (canonical_member (members_view c.args.members.now.entries)) c.new.result c.in_ok-input.input c.in_ok-output.output c.in_ok-all.all c.new.ensures c.in_ok-input.ensures c.in_ok-output.ensures
-    c.in_ok-all.ensures).places
+pub variables_in-returns : goal.variables_in-returns
+variables_in-returns t c =
+    variables_read (canonical_member (members_view c.args.members.now.entries)) c.new.result c.in_ok-input.input c.in_ok-output.output
+    c.in_ok-all.all c.new.ensures c.in_ok-input.ensures c.in_ok-output.ensures c.in_ok-all.ensures

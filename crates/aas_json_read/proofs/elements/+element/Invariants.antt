@@ -1,5 +1,5 @@
-use Rattle.std.proofs.Common.{◌+◌, ◌*◌, drop}
-use Rattle.serde_json.specs.Data.{depth, items_depth, members_depth}
+use Rattle.std.proofs.Common.{ℕ, ◌+◌, ◌*◌, drop}
+use Rattle.serde_json.specs.Data.{Members, depth, items_depth, members_depth}
 use Rattle.serde_json.specs.View.{view, items_view, members_view}
 use Rattle.aas_json_table.specs.Table.{one}
 use Rattle.aas_json_table.specs.Canonical.{canonical_items}
@@ -13,20 +13,24 @@ decreases-child_of l = 8 * depth (view l.value.now) + 1
 abbrev pub decreases-element_of : goal.decreases-element_of
 decreases-element_of l = 8 * depth (view l.value.now)
 
+-- this step of what is done among the members of an object
+abbrev among : Members → ℕ → ℕ
+among ms step = 8 * members_depth ms + step
+
 abbrev pub decreases-variable_in : goal.decreases-variable_in
-decreases-variable_in l = 8 * members_depth (members_view l.members.now.entries) + 6
+decreases-variable_in l = among (members_view l.members.now.entries) 6
 
 abbrev pub decreases-element_in : goal.decreases-element_in
-decreases-element_in l = 8 * members_depth (members_view l.members.now.entries) + 6
+decreases-element_in l = among (members_view l.members.now.entries) 6
 
 abbrev pub decreases-kids_in : goal.decreases-kids_in
-decreases-kids_in l = 8 * members_depth (members_view l.members.now.entries) + 5
+decreases-kids_in l = among (members_view l.members.now.entries) 5
 
 abbrev pub decreases-variables_in : goal.decreases-variables_in
-decreases-variables_in l = 8 * members_depth (members_view l.members.now.entries) + 4
+decreases-variables_in l = among (members_view l.members.now.entries) 4
 
 abbrev pub decreases-children_after : goal.decreases-children_after
-decreases-children_after l = 8 * members_depth (members_view l.members.now.entries) + 3
+decreases-children_after l = among (members_view l.members.now.entries) 3
 
 abbrev pub decreases-items_after : goal.decreases-items_after
 decreases-items_after l = 8 * items_depth (items_view l.items.now.items) + 2
