@@ -52,7 +52,8 @@ pub(crate) fn list_semantics(above: Option<&Element>) -> Option<&Reference>
     }
 }
 
-fn list_type(payload: &Payload) -> Option<ElementName>
+/// The type of element that a list has, or `None` of anything else.
+pub fn list_type(payload: &Payload) -> Option<ElementName>
     ensures { result ≡ list_type payload.now }
 {
     match payload {
@@ -64,7 +65,8 @@ fn list_type(payload: &Payload) -> Option<ElementName>
     }
 }
 
-fn list_value_type(payload: &Payload) -> Option<ValueType>
+/// The valueType that a list gives its elements, if it is a list and gives one.
+pub fn list_value_type(payload: &Payload) -> Option<ValueType>
     ensures { result ≡ list_value_type payload.now }
 {
     match payload {
@@ -113,7 +115,8 @@ fn is_typed(element_type: ElementName) -> bool
     matches!(element_type, ElementName::Property | ElementName::Range)
 }
 
-fn value_type_of(payload: &Payload) -> Option<ValueType>
+/// The valueType of a Property or a Range, or `None` of anything else.
+pub fn value_type_of(payload: &Payload) -> Option<ValueType>
     ensures { result ≡ value_type_of payload.now }
 {
     match payload {

@@ -19,6 +19,7 @@ mod place;
 pub use check::{
     check_child, check_concept, check_element, check_shell, check_submodel, local_fault,
 };
+pub use demands::{list_type, list_value_type, value_type_of};
 pub use documents::is_template;
 pub use element::payload_fault;
 pub use place::step_to;

@@ -1,5 +1,6 @@
 -- What the definitions say of a few elements.
 use Rattle.std.proofs.Common.{◌≡◌, ℕ, false, List, [], ◌∷◌, map, flat_map, codes, Option, Some, None, refl, ap, ap₂}
+use Rattle.aas_model.specs.Common.{head_with, no_attributes, no_semantics}
 use Rattle.aas_model.specs.declared.documents.Submodel.{Submodel}
 use Rattle.aas_model.specs.declared.element.Element.{Element, Element-F, out-roll-Element}
 use Rattle.aas_model.specs.declared.element.Role.TheVariants.{Member}
@@ -7,7 +8,7 @@ use Rattle.aas_model.specs.declared.path.Fault.{Fault}
 use Rattle.aas_model.specs.declared.path.PathStep.TheVariants.{Name, Place}
 use Rattle.aas_model.specs.declared.payload.Payload.{Payload}
 use Rattle.aas_model.specs.declared.payload.Payload.TheVariants as p
-use Rattle.aas_model_names.specs.declared.element_name.ElementName.TheVariants as element_name
+use Rattle.aas_model_names.specs.declared.kind.ElementName.TheVariants as element_name
 use Rattle.aas_model_names.specs.declared.value_type.ValueType.TheVariants as value_type
 use Rattle.aas_constraint_rules.specs.Faults.{fault, faults_at}
 use Rattle.aas_constraint_rules.specs.Sites.{Own, own_of, Tree, node, none, sites, sites_among, trees}
@@ -16,20 +17,7 @@ use Rattle.aas_constraint_laws.proofs.Bare.{made, tree_made}
 use Rattle.aas_edit_faults.specs.Laws.{faults_as_child}
 
 abbrev own : Option (List ℕ) → Payload → Own
-own name payload = record {
-  common = record {
-    id_short = name;
-    category = None;
-    description = [];
-    display_name = [];
-    extensions = [];
-    embedded_data_specifications = [];
-    semantics = record { semantic_id = None; supplemental_semantic_ids = [] };
-    qualifiers = [];
-  };
-  payload = payload;
-  role = Member;
-}
+own name payload = record { common = record no_attributes { id_short = name }; payload = payload; role = Member }
 
 abbrev integer : Payload
 integer = p.Property value_type.Int (Some (codes "1")) None
@@ -69,18 +57,9 @@ named_text = refl
 
 abbrev d : List Element → Submodel
 d kids = record {
-  head = record {
-    id = codes "urn:d";
-    administration = None;
-    id_short = None;
-    category = None;
-    description = [];
-    display_name = [];
-    extensions = [];
-    embedded_data_specifications = [];
-  };
+  head = head_with (codes "urn:d");
   kind = None;
-  semantics = record { semantic_id = None; supplemental_semantic_ids = [] };
+  semantics = no_semantics;
   qualifiers = [];
   kids = kids;
 }

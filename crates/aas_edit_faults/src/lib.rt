@@ -22,6 +22,7 @@ ghost use Rattle.aas_edit_faults.specs.Laws.{EditsCount, EditsKeepValid, FaultsO
 
 /// Where an element is inserted into a submodel without faults, the faults are those of the element in its new place. Its
 /// siblings are no matter where it neither repeats an idShort nor, in a list, has another semanticId.
+#[tactic(auto, using(crate::proofs::Edits::faults_of_inserted, crate::proofs::Edits::inserted_stands_alone, crate::proofs::Edits::lists_have_no_names))]
 pub fn inserted_elements_have_the_faults()
     ensures faults { FaultsOfInserted }
     ensures alone { InsertedStandsAlone }
@@ -30,22 +31,26 @@ pub fn inserted_elements_have_the_faults()
 
 /// Where an element of a submodel without faults is replaced by one of the same idShort and semanticId, the faults are those
 /// of the new element in its place. Its siblings are no matter.
+#[tactic(auto, using(crate::proofs::Edits::faults_of_replaced, crate::proofs::Edits::replaced_stands_alone))]
 pub fn replacing_elements_have_the_faults()
     ensures faults { FaultsOfReplaced }
     ensures alone { ReplacedStandsAlone }
 {}
 
 /// A submodel without faults has none where an element is removed.
+#[tactic(auto, using(crate::proofs::Edits::removing_keeps_faultless))]
 pub fn removing_keeps_faultless()
     ensures { RemovingKeepsFaultless }
 {}
 
 /// A valid submodel stays valid by an edit where what comes in is whole, and has no fault in its place.
+#[tactic(auto, using(crate::proofs::Edits::edits_keep_valid))]
 pub fn edits_keep_valid()
     ensures { EditsKeepValid }
 {}
 
 /// What comes in is counted, and what is taken out is not.
+#[tactic(auto, using(crate::proofs::Count::edits_count))]
 pub fn edits_count()
     ensures { EditsCount }
 {}

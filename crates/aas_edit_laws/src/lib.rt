@@ -26,21 +26,25 @@ ghost use Rattle.aas_edit_laws.specs.Laws.{InsertKeepsWhole, ReplaceKeepsWhole, 
 ghost use Rattle.aas_edit_laws.specs.Others.{InsertLeavesOthers, ReplaceLeavesOthers, RemoveLeavesOthers};
 
 /// A whole submodel stays whole where an element is inserted that is whole at the level at which it comes to stand.
+#[tactic(auto, using(crate::proofs::Edits::insert_keeps_whole))]
 pub fn inserting_keeps_whole()
     ensures { InsertKeepsWhole }
 {}
 
 /// A whole submodel stays whole where an element is replaced by one that is whole at its level, and that fits its role.
+#[tactic(auto, using(crate::proofs::Edits::replace_keeps_whole))]
 pub fn replacing_keeps_whole()
     ensures { ReplaceKeepsWhole }
 {}
 
 /// A whole submodel stays whole where an element is removed.
+#[tactic(auto, using(crate::proofs::Edits::remove_keeps_whole))]
 pub fn removing_keeps_whole()
     ensures { RemoveKeepsWhole }
 {}
 
 /// No edit changes an attribute of the submodel itself, and so not its identifier; nor does a changed element.
+#[tactic(auto, using(crate::proofs::Attributes::insert_keeps_attributes, crate::proofs::Attributes::replace_keeps_attributes, crate::proofs::Attributes::remove_keeps_attributes, crate::proofs::Attributes::change_keeps_attributes))]
 pub fn edits_keep_attributes()
     ensures inserted { (d : Submodel) (p : List PathStep) (e : Element) → HasAttributesOf d (inserted d p e) }
     ensures replaced { (d : Submodel) (p : List PathStep) (e : Element) → HasAttributesOf d (replaced d p e) }
@@ -50,6 +54,7 @@ pub fn edits_keep_attributes()
 
 /// Where two paths part, an edit at one changes nothing at the other: it leads to the element that it led to, and nowhere
 /// where it led nowhere. Behind an element that is taken out of a list the places move up.
+#[tactic(auto, using(crate::proofs::Others::insert_leaves_others, crate::proofs::Others::replace_leaves_others, crate::proofs::Others::remove_leaves_others))]
 pub fn edits_leave_others()
     ensures inserted { InsertLeavesOthers }
     ensures replaced { ReplaceLeavesOthers }

@@ -10,7 +10,7 @@ use Rattle.aas_template.specs.Belonging.{belongs, id_short}
 use Rattle.aas_template.specs.Differences.{Compared, belonging, compared, compared_over, difference, differences, differences_among, differences_below, differences_beside, differences_in_list, list_differences, means_the_same, named_differences, same_kind, same_types, under, unless}
 use Rattle.aas_template.specs.declared.difference.Difference.{Difference}
 use Rattle.aas_template.specs.declared.difference.Reason.TheVariants.{KindDiffers, TypeDiffers, SemanticDiffers}
-use Rattle.aas_template.proofs.Lists.{first-append, first-map}
+use Rattle.aas_constraints.proofs.Lists.{first-append, first-map}
 
 -- ---- one element
 
@@ -61,19 +61,19 @@ alike : (t k : Element) → same_kind (own_of t).payload (own_of k).payload ≡ 
 unfolding at_level meaning
 alike t k h g f = sym (level t k ∙ ap₂ (λ b c. at_level b c (meaning t k) (below t k)) h g ∙ ap (λ b. at_level true true b (below t k)) f)
 
-pub alike_list : (t k : Element) → same_kind (own_of t).payload (own_of k).payload ≡ true → same_types (own_of t).payload (own_of k).payload ≡ true
-    → means_the_same (own_of t).common.semantics.semantic_id (own_of k).common.semantics.semantic_id ≡ true → is_list (own_of t).payload ≡ true
-    → first (differences_in_list (map compared (kids_of t)) (kids_of k)) ≡ first (differences t k)
+-- so it is the first difference among the children, those of a list or those by names
+pub alike_kids : (b : Bool) (t k : Element) → same_kind (own_of t).payload (own_of k).payload ≡ true
+    → same_types (own_of t).payload (own_of k).payload ≡ true
+    → means_the_same (own_of t).common.semantics.semantic_id (own_of k).common.semantics.semantic_id ≡ true
+    → is_list (own_of t).payload ≡ b
+    → first (if b then differences_in_list (map compared (kids_of t)) (kids_of k)
+    else differences_among (map compared (kids_of t)) (kids_of k))
+    ≡ first (differences t k)
 unfolding below
-alike_list t k h g f l =
-    sym (ap (λ b. first (if b then differences_in_list (map compared (kids_of t)) (kids_of k) else differences_among (map compared (kids_of t)) (kids_of k))) l) ∙ alike t k h g f
-
-pub alike_named : (t k : Element) → same_kind (own_of t).payload (own_of k).payload ≡ true → same_types (own_of t).payload (own_of k).payload ≡ true
-    → means_the_same (own_of t).common.semantics.semantic_id (own_of k).common.semantics.semantic_id ≡ true → is_list (own_of t).payload ≡ false
-    → first (differences_among (map compared (kids_of t)) (kids_of k)) ≡ first (differences t k)
-unfolding below
-alike_named t k h g f l =
-    sym (ap (λ b. first (if b then differences_in_list (map compared (kids_of t)) (kids_of k) else differences_among (map compared (kids_of t)) (kids_of k))) l) ∙ alike t k h g f
+alike_kids b t k h g f l =
+    sym (ap (λ b. first (if b then differences_in_list (map compared (kids_of t)) (kids_of k)
+    else differences_among (map compared (kids_of t)) (kids_of k))) l)
+    ∙ alike t k h g f
 
 -- ---- the children of a list
 

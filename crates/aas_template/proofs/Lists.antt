@@ -1,19 +1,9 @@
 -- Lists, item by item.
-use Rattle.std.proofs.Common.{◌≡◌, ◌≢◌, ℕ, zero, suc, ◌+◌, ◌<◌, Bool, true, false, List, [], ◌∷◌, ◌++◌, length, take, filter, flat_map, get_or, map, slice_get, Some, option_map, refl, sym, ap, ap₂, ◌∙◌, arith}
+use Rattle.std.proofs.Common.{◌≡◌, ◌≢◌, ℕ, zero, suc, ◌+◌, ◌<◌, Bool, true, false, List, [], ◌∷◌, ◌++◌, length, take, filter, flat_map, get_or, map, slice_get, Some, refl, sym, ap, ap₂, ◌∙◌, arith}
 use Rattle.std.specs.List.{slice_set}
 use Rattle.std.proofs.lemmas.Bool.{cond-true, cond-false}
 use Rattle.std.proofs.lemmas.List.{append-nil}
 use Rattle.std.proofs.lemmas.List.Elements.{filter_more}
-use Rattle.aas_json_table.specs.Rows.{first_of}
-use Rattle.aas_reference.specs.Rules.{first}
-
-pub first-append : {X : Type 0} (xs ys : List X) → first (xs ++ ys) ≡ first_of (first xs) (first ys)
-first-append [] ys = refl
-first-append (x ∷ xs) ys = refl
-
-pub first-map : {X Y : Type 0} (f : X → Y) (xs : List X) → first (map f xs) ≡ option_map f (first xs)
-first-map f [] = refl
-first-map f (x ∷ xs) = refl
 
 -- what passes, and one more item
 pub filter_with : {X : Type 0} (p : X → Bool) (xs : List X) (i : ℕ) (x : X) → i < length xs → x ≡ get_or xs i x → p x ≡ true → filter p (take (i + 1) xs) ≡ filter p (take i xs) ++ x ∷ []

@@ -8,14 +8,14 @@ use Rattle.aas_model_names.specs.KeyTypeNames as key_type
 use Rattle.aas_model_names.specs.KindNames as kind
 use Rattle.aas_model_names.specs.ReferenceTypeNames as reference_type
 use Rattle.aas_model_names.specs.ValueTypeNames as value_type
-use Rattle.aas_model_names.specs.declared.element_name.ElementName.{ElementName}
+use Rattle.aas_model_names.specs.declared.kind.ElementName.{ElementName}
 use Rattle.aas_model_names.specs.declared.value_type.ValueType.{ValueType}
 use Rattle.aas_constraint_rules.specs.Rules.{list_type, list_value_type, value_type_of}
 use Rattle.aas_model.specs.Payload.{kind_of}
 use Rattle.aas_model.specs.declared.documents.Submodel.{Submodel}
 use Rattle.aas_model.specs.declared.element.Element.{Element, out-Element}
 use Rattle.aas_model.specs.declared.element.Role.{Role}
-use Rattle.aas_model.specs.declared.element.Role.TheVariants.{Member, Annotation, Statement, Input, Output, Inoutput}
+use Rattle.aas_model.specs.declared.element.Role.TheVariants.{Member}
 use Rattle.aas_model.specs.declared.path.PathStep.TheVariants.{Name, Place}
 use Rattle.aas_model.specs.declared.payload.Payload.{Payload}
 use Rattle.aas_model.specs.declared.payload.Payload.TheVariants as payload
@@ -31,7 +31,7 @@ use Rattle.aas_rows.proofs.Trees.{Every, by_kids}
 use Rattle.aas_template.specs.Belonging.{admits, belongs, id_short, same_role}
 use Rattle.aas_template.specs.Cardinality.{allows, cardinality}
 use Rattle.aas_template.specs.declared.cardinality.Cardinality.{Cardinality}
-use Rattle.aas_template.specs.declared.cardinality.Cardinality.TheVariants.{One, ZeroToOne, ZeroToMany, OneToMany}
+use Rattle.aas_template.specs.declared.cardinality.Cardinality.TheVariants.{One, ZeroToMany}
 use Rattle.aas_template.specs.declared.difference.Difference.{Difference}
 use Rattle.aas_template.specs.declared.difference.Reason.TheVariants.{KindDiffers, TypeDiffers, SemanticDiffers}
 use Rattle.aas_template.specs.Differences.{Compared, belonging, compared, difference, differences, differences_among, differences_below, differences_in_list, group_differences, means_the_same, named_differences, same_element_type, same_if_any, same_kind, same_types, same_value_type, under, unless}
@@ -82,20 +82,14 @@ means (Some r) = reference_same r
 
 role_same : (r : Role) → same_role r r ≡ true
 role_same Member = refl
-role_same Annotation = refl
-role_same Statement = refl
-role_same Input = refl
-role_same Output = refl
-role_same Inoutput = refl
+role_same _ = refl
 
 unless_holds : (b : Bool) (d : Difference) → b ≡ true → unless b d ≡ []
 unless_holds b d h = ap (λ x. unless x d) h
 
 one_allowed : (c : Cardinality) → allows c 1 ≡ true
 one_allowed One = refl
-one_allowed ZeroToOne = refl
-one_allowed ZeroToMany = refl
-one_allowed OneToMany = refl
+one_allowed _ = refl
 
 admits_itself : (o : Own) → admits o o ≡ true
 admits_itself o = and_from _ _ (role_same o.role) (or_left _ _ (same_text (id_short o)))
@@ -114,20 +108,8 @@ its_group ks differ j t at =
 -- ---- an element and all below it
 
 list_payloads : (p : Payload) → sites.is_list p ≡ is_list_payload p
-list_payloads (payload.Property _ _ _) = refl
-list_payloads (payload.MultiLanguageProperty _ _) = refl
-list_payloads (payload.Range _ _ _) = refl
-list_payloads (payload.File _ _) = refl
-list_payloads (payload.Blob _ _) = refl
-list_payloads (payload.ReferenceElement _) = refl
-list_payloads (payload.RelationshipElement _ _) = refl
-list_payloads (payload.AnnotatedRelationshipElement _ _) = refl
-list_payloads (payload.Entity _ _ _) = refl
-list_payloads (payload.BasicEventElement _ _ _ _ _ _ _ _) = refl
 list_payloads payload.Capability = refl
-list_payloads payload.Operation = refl
-list_payloads payload.SubmodelElementCollection = refl
-list_payloads (payload.SubmodelElementList _ _ _ _) = refl
+list_payloads _ = refl
 
 pub list_tests : (e : Element) → sites.is_list (own_of e).payload ≡ is_list e
 list_tests e = list_payloads (out-Element e).payload

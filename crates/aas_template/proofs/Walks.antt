@@ -21,7 +21,7 @@ use Rattle.aas_template.specs.declared.difference.Reason.TheVariants.{CountDiffe
 use Rattle.aas_template.specs.Laws.{DifferBelow}
 use Rattle.aas_template.proofs.Gathered.{mine}
 use Rattle.aas_template.proofs.Levels.{listed_out, named_first, own_belonging, own_compared}
-use Rattle.aas_template.proofs.Lists.{first-append}
+use Rattle.aas_constraints.proofs.Lists.{first-append}
 use Rattle.aas_template.proofs.Themselves.{child_differs, list_tests}
 
 -- ---- here, or later

@@ -2,7 +2,7 @@
 use Rattle.std.specs.Prelude.{ℕ, ◌+◌, Bool, true, false, ◌&&◌, if◌then◌else◌, List, [], ◌∷◌, ◌++◌, length, map}
 use Rattle.std.specs.Prelude.{filter, flat_map, bytes_eq, Option, Some, None}
 use Rattle.aas_model_names.specs.ElementNameNames as element_name
-use Rattle.aas_model_names.specs.declared.element_name.ElementName.{ElementName}
+use Rattle.aas_model_names.specs.declared.kind.ElementName.{ElementName}
 use Rattle.aas_model_names.specs.declared.value_type.ValueType.{ValueType}
 use Rattle.aas_model_names.specs.KindNames as kind
 use Rattle.aas_model_names.specs.ValueTypeNames as value_type

@@ -1,10 +1,9 @@
-ghost use Rattle.std.specs.Prelude.{◌≡◌};
-ghost use Rattle.std.specs.Option.{option_copied};
-ghost use Rattle.aas_constraint_rules.specs.Rules.{list_type, list_value_type, value_type_of};
+ghost use Rattle.std.specs.Prelude.{◌≡◌, bytes_eq};
 ghost use Rattle.aas_constraint_rules.specs.Sites.{is_list};
-ghost use Rattle.aas_template.specs.Differences.{means_the_same, same_element_type, same_kind, same_types, same_value_type};
+ghost use Rattle.aas_template.specs.Differences.{means_the_same, same_if_any, same_kind, same_types};
 
-use aas_model::{ElementName, Payload, Reference, ValueType};
+use aas_constraints::{list_type, list_value_type, value_type_of};
+use aas_model::{Named, Payload, Reference};
 use aas_reference::same;
 
 /// Whether the payload is that of a SubmodelElementList.
@@ -21,55 +20,12 @@ pub(crate) fn same_kind(template: &Payload, instance: &Payload) -> bool
     template.kind() == instance.kind()
 }
 
-fn value_type(payload: &Payload) -> Option<ValueType>
-    ensures { result ≡ value_type_of payload.now }
-{
-    match payload {
-        Payload::Property { value_type, .. } => Some(*value_type),
-        Payload::Range { value_type, .. } => Some(*value_type),
-        _ => None,
-    }
-}
-
-fn list_type(payload: &Payload) -> Option<ElementName>
-    ensures { result ≡ list_type payload.now }
-{
-    match payload {
-        Payload::SubmodelElementList {
-            type_value_list_element,
-            ..
-        } => Some(*type_value_list_element),
-        _ => None,
-    }
-}
-
-fn list_value_type(payload: &Payload) -> Option<ValueType>
-    ensures { result ≡ list_value_type payload.now }
-{
-    match payload {
-        Payload::SubmodelElementList {
-            value_type_list_element,
-            ..
-        } => *value_type_list_element,
-        _ => None,
-    }
-}
-
-fn same_value_type(template: Option<ValueType>, instance: Option<ValueType>) -> bool
-    ensures { result ≡ same_value_type template instance }
+/// Whether both are absent, or of one name.
+fn same_if_any<T: Named>(template: Option<T>, instance: Option<T>) -> bool
+    ensures { result ≡ same_if_any (λ x y. bytes_eq (T.name_of x) (T.name_of y)) template instance }
 {
     match (template, instance) {
-        (Some(template), Some(instance)) => template == instance,
-        (None, None) => true,
-        _ => false,
-    }
-}
-
-fn same_element_type(template: Option<ElementName>, instance: Option<ElementName>) -> bool
-    ensures { result ≡ same_element_type template instance }
-{
-    match (template, instance) {
-        (Some(template), Some(instance)) => template == instance,
+        (Some(template), Some(instance)) => template.name() == instance.name(),
         (None, None) => true,
         _ => false,
     }
@@ -79,9 +35,9 @@ fn same_element_type(template: Option<ElementName>, instance: Option<ElementName
 pub(crate) fn same_types(template: &Payload, instance: &Payload) -> bool
     ensures { result ≡ same_types template.now instance.now }
 {
-    same_value_type(value_type(template), value_type(instance))
-        && same_element_type(list_type(template), list_type(instance))
-        && same_value_type(list_value_type(template), list_value_type(instance))
+    same_if_any(value_type_of(template), value_type_of(instance))
+        && same_if_any(list_type(template), list_type(instance))
+        && same_if_any(list_value_type(template), list_value_type(instance))
 }
 
 /// Whether the semanticId of the instance is that of the template, where this has one.

@@ -12,7 +12,7 @@ use Rattle.aas_template.specs.Differences.{compared, differences, differences_am
 use Rattle.aas_template.specs.declared.cardinality.Cardinality.TheVariants.{One, ZeroToMany}
 use Rattle.aas_template.specs.Walk.{elements, gathered, groups_of}
 use Rattle.aas_template.proofs.Gathered.{group_there, mine}
-use Rattle.aas_template.proofs.Levels.{alike_list, alike_named, kind_differs, meaning_differs, type_differs}
+use Rattle.aas_template.proofs.Levels.{alike_kids, kind_differs, meaning_differs, type_differs}
 use Rattle.aas_template.proofs.Walks.{count_allowed, count_differs, found, group_turn, left, list_count_allowed, list_count_differs, list_ended, list_turn, named_ended, named_turn, passed}
 use Rattle.aas_template.proofs.walk.+compare.Goals as goal
 
@@ -36,13 +36,13 @@ difference_beside-returns-then-not-means_the_same t c =
 pub difference_beside-returns-in_ok-difference_in_list : goal.difference_beside-returns-in_ok-difference_in_list
 difference_beside-returns-in_ok-difference_in_list t c =
     c.in_ok-difference_in_list.ensures
-    ∙ alike_list c.args.template.now c.args.instance.now (sym c.same_kind.ensures ∙ c.if-not-same_kind.false) (sym c.same_types.ensures ∙ c.if-not-same_types.false)
+    ∙ alike_kids true c.args.template.now c.args.instance.now (sym c.same_kind.ensures ∙ c.if-not-same_kind.false) (sym c.same_types.ensures ∙ c.if-not-same_types.false)
     (sym c.means_the_same.ensures ∙ c.if-not-means_the_same.false) (sym c.is_list.ensures ∙ c.if-is_list.true)
 
 pub difference_beside-returns-in_ok-difference_among : goal.difference_beside-returns-in_ok-difference_among
 difference_beside-returns-in_ok-difference_among t c =
     c.in_ok-difference_among.ensures
-    ∙ alike_named c.args.template.now c.args.instance.now (sym c.same_kind.ensures ∙ c.if-not-same_kind.false) (sym c.same_types.ensures ∙ c.if-not-same_types.false)
+    ∙ alike_kids false c.args.template.now c.args.instance.now (sym c.same_kind.ensures ∙ c.if-not-same_kind.false) (sym c.same_types.ensures ∙ c.if-not-same_types.false)
     (sym c.means_the_same.ensures ∙ c.if-not-means_the_same.false) (sym c.is_list.ensures ∙ c.if-is_list.false)
 
 -- ---- the children of a list
