@@ -8,11 +8,11 @@ use Rattle.aas_model.specs.declared.element.Element.{Element}
 use Rattle.aas_model.specs.declared.path.PathStep.{PathStep}
 use Rattle.aas_model.specs.declared.reference.Key.{Key}
 use Rattle.aas_model.specs.declared.reference.Reference.{Reference, roll-Reference}
-use Rattle.aas_model_names.specs.declared.key_type.KeyType.{KeyType}
-use Rattle.aas_model_names.specs.declared.key_type.KeyType.TheVariants as key_type
+use Rattle.aas_model_names.specs.declared.kind.KeyType.{KeyType}
+use Rattle.aas_model_names.specs.declared.kind.KeyType.TheVariants as key_type
 use Rattle.aas_model_names.specs.declared.kind.Kind.{Kind}
 use Rattle.aas_model_names.specs.declared.kind.Kind.TheVariants as kind
-use Rattle.aas_model_names.specs.declared.reference_type.ReferenceType.TheVariants.{ModelReference}
+use Rattle.aas_model_names.specs.declared.enumerations.ReferenceType.TheVariants.{ModelReference}
 use Rattle.aas_path_trees.specs.Children.{kids_of, id_short_of, is_list}
 use Rattle.aas_path_trees.specs.ElementAt.{child_by}
 

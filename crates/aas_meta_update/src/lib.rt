@@ -36,7 +36,7 @@ pub fn put_metadata(element: &Element, form: &Element) -> Result<Element, MetaFa
     if !are_alike(&element.payload, &form.payload) {
         return Err(MetaFault::Differs);
     }
-    Ok(with_form(element, form)?)
+    with_form(element, form).map_err(|_refused| MetaFault::NoMemory)
 }
 
 fn with_form(element: &Element, form: &Element) -> Result<Element, NoMemory>

@@ -1,4 +1,3 @@
-use aas_model::NoMemory;
 use thiserror::Error;
 
 /// Why metadata can't be put.
@@ -9,15 +8,4 @@ pub enum MetaFault {
     Differs,
     #[error("memory was refused")]
     NoMemory,
-}
-
-impl From<NoMemory> for MetaFault {
-    ghost use Rattle.std.specs.Prelude.{◌≡◌};
-    ghost use Rattle.aas_meta_update.specs.declared.meta_fault.MetaFault.TheVariants as meta_fault;
-
-    ghost from_gives = { λ _ fault. fault ≡ meta_fault.NoMemory };
-
-    fn from(_fault: NoMemory) -> MetaFault {
-        MetaFault::NoMemory
-    }
 }

@@ -6,7 +6,7 @@ use Rattle.serde_json.specs.Data.{Data, null, string, array, object, no_items, n
 use Rattle.aas_model_names.specs.EntityTypeNames as entity_type
 use Rattle.aas_json_table.specs.Spelled.{text_of, onto}
 use Rattle.aas_reference.specs.Spelling.{spell_reference}
-use Rattle.aas_model_names.specs.declared.entity_type.EntityType.{EntityType}
+use Rattle.aas_model_names.specs.declared.enumerations.EntityType.{EntityType}
 use Rattle.aas_model.specs.declared.parts.LangText.{LangText}
 use Rattle.aas_model.specs.declared.reference.Reference.{Reference}
 

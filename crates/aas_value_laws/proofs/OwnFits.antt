@@ -10,7 +10,7 @@ use Rattle.serde_json.specs.Data.{Data, null, Items, no_items, Members, no_membe
 use Rattle.serde_json.specs.Find.{get_member}
 use Rattle.aas_lemmas.proofs.Truth.{and_left, and_right}
 use Rattle.aas_model_names.specs.EntityTypeNames as entity_type
-use Rattle.aas_model_names.specs.declared.entity_type.EntityType.{EntityType}
+use Rattle.aas_model_names.specs.declared.enumerations.EntityType.{EntityType}
 use Rattle.aas_model_names.specs.declared.modifiers.Extent.{Extent}
 use Rattle.aas_model_names.specs.declared.modifiers.Extent.TheVariants as extent
 use Rattle.aas_model_names.specs.declared.value_type.ValueType.{ValueType}

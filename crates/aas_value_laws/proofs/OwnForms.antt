@@ -18,7 +18,7 @@ use Rattle.aas_model_names.specs.declared.modifiers.Extent.{Extent}
 use Rattle.aas_model_names.specs.declared.modifiers.Extent.TheVariants as extent
 use Rattle.aas_constraint_laws.proofs.StaysWhole.{parts_below, parts_below_child}
 use Rattle.aas_constraint_rules.specs.Faults.{submodel}
-use Rattle.aas_constraint_rules.specs.Sites.{no_attributes}
+use Rattle.aas_model.specs.Common.{no_attributes}
 use Rattle.aas_constraint_laws.specs.Valid.{IsValid}
 use Rattle.aas_path_trees.specs.Children.{kids_of}
 use Rattle.aas_path_trees.specs.ElementAt.{child_by}

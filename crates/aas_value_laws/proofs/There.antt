@@ -12,7 +12,7 @@ use Rattle.aas_model.specs.declared.element.Element.{Element, out-Element, out-r
 use Rattle.aas_model.specs.declared.element.Role.TheVariants as role
 use Rattle.aas_model.specs.declared.payload.Payload.{Payload}
 use Rattle.aas_model.specs.declared.payload.Payload.TheVariants as p
-use Rattle.aas_constraint_rules.specs.Sites.{no_attributes}
+use Rattle.aas_model.specs.Common.{no_attributes}
 use Rattle.aas_constraint_laws.specs.Values.{without_values}
 use Rattle.aas_path_trees.specs.Children.{kids_of}
 use Rattle.aas_path_trees.specs.Places.{element_in}

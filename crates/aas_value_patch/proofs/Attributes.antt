@@ -18,10 +18,10 @@ use Rattle.aas_model.specs.declared.parts.SpecificAssetId.{SpecificAssetId}
 use Rattle.aas_model.specs.declared.payload.Payload.{Payload}
 use Rattle.aas_model.specs.declared.payload.Payload.TheVariants as p
 use Rattle.aas_model.specs.declared.reference.Reference.{Reference}
-use Rattle.aas_model_names.specs.declared.direction.Direction.{Direction}
-use Rattle.aas_model_names.specs.declared.element_name.ElementName.{ElementName}
-use Rattle.aas_model_names.specs.declared.entity_type.EntityType.{EntityType}
-use Rattle.aas_model_names.specs.declared.state_of_event.StateOfEvent.{StateOfEvent}
+use Rattle.aas_model_names.specs.declared.enumerations.Direction.{Direction}
+use Rattle.aas_model_names.specs.declared.kind.ElementName.{ElementName}
+use Rattle.aas_model_names.specs.declared.enumerations.EntityType.{EntityType}
+use Rattle.aas_model_names.specs.declared.enumerations.StateOfEvent.{StateOfEvent}
 use Rattle.aas_model_names.specs.declared.value_type.ValueType.{ValueType}
 use Rattle.aas_value.specs.Single.{single}
 use Rattle.aas_value.specs.Children.{Child, named, in_order, annotation_value}

@@ -159,27 +159,20 @@ meets (x ∷ xs) k d ms none a = by_test (is_called k x.child) refl (meets xs k 
 
 -- ---- all members
 
+nothing : (a : Option (List ℕ)) (f : Option Data)
+    → under_name (object no_members) (record { name = a; form = f }) ≡ None
+nothing None None = refl
+nothing None (Some f) = refl
+nothing (Some m) None = refl
+nothing (Some m) (Some f) = refl
+
 none_found : (xs : List Part) → found xs no_members ≡ 0
 none_found [] = refl
 none_found (x ∷ xs) = ap₂ (λ o n. one_if_some o + n) (nothing x.child.name x.child.form) (none_found xs)
-  where
-    nothing : (a : Option (List ℕ)) (f : Option Data)
-        → under_name (object no_members) (record { name = a; form = f }) ≡ None
-    nothing None None = refl
-    nothing None (Some f) = refl
-    nothing (Some m) None = refl
-    nothing (Some m) (Some f) = refl
 
 none_unfit : (xs : List Part) → each_fits xs no_members ≡ true
 none_unfit [] = refl
 none_unfit (x ∷ xs) = ap₂ (λ o b. fits_if x.fits o && b) (nothing x.child.name x.child.form) (none_unfit xs)
-  where
-    nothing : (a : Option (List ℕ)) (f : Option Data)
-        → under_name (object no_members) (record { name = a; form = f }) ≡ None
-    nothing None None = refl
-    nothing None (Some f) = refl
-    nothing (Some m) None = refl
-    nothing (Some m) (Some f) = refl
 
 bounded : (xs : List Part) (ms : Members) → Apart (children xs) → Rises ms → found xs ms ≤ members_len ms
 bounded xs no_members a r = let none = none_found xs in omega arith

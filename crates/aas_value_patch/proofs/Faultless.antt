@@ -18,9 +18,7 @@ use Rattle.aas_value_update.specs.Update.{IsElementUpdate, IsSubmodelUpdate, bod
 use Rattle.aas_value_update.proofs.Place.{law_of_whole_submodel, valid_after_update}
 use Rattle.aas_value_patch.specs.Faults.{IsPatchFault}
 use Rattle.aas_value_patch.specs.Prepared.{Breaks, IsSubmodelFault, IsValueFault, SubmodelBreaks}
-use Rattle.aas_value_patch.specs.Prepared.{fault_by, fault_of_patch}
-use Rattle.aas_value_patch.specs.declared.fault.PatchFault.{PatchFault}
-use Rattle.aas_value_patch.specs.declared.fault.PatchFault.TheVariants as patch_fault
+use Rattle.aas_value_patch.specs.Prepared.{fault_by}
 use Rattle.aas_value_patch.specs.declared.preparing.ValueFault.{ValueFault}
 use Rattle.aas_value_patch.specs.declared.preparing.ValueFault.TheVariants as fault
 use Rattle.aas_value_patch.proofs.Updated.{body_form}
@@ -68,15 +66,15 @@ submodel_broken d u v f valid update is =
       first = ap first (law_of_whole_submodel d u valid.faultless update.outside update.update.metadata) ∙ sym is;
     }
 
-submodel_unfit : (d : Submodel) (v : Data) (f : PatchFault)
-    → IsPatchFault (body d) v f → IsSubmodelFault d v (fault_of_patch f)
-submodel_unfit d v patch_fault.NoValueForm none =
+submodel_unfit : (d : Submodel) (v : Data) (f : ValueFault) → IsPatchFault (body d) v f → IsSubmodelFault d v f
+submodel_unfit d v fault.NoValueForm none =
     absurd (true≢false (sym (body_form d) ∙ ap (λ (o : Option Data). is_some o) none))
-submodel_unfit d v (patch_fault.Shape path) is = is.1
-submodel_unfit d v patch_fault.NoMemory is = tt
+submodel_unfit d v (fault.Shape path) is = is.1
+submodel_unfit d v fault.NoMemory is = tt
+submodel_unfit d v _ none = absurd none
 
-pub submodel_unfit_at : (r : Result Patch ValueFault) (f : PatchFault) (d : Submodel) (v : Data)
-    → IsErr r → IsErrAnd r (λ g. g ≡ fault_of_patch f)
+pub submodel_unfit_at : (r : Result Patch ValueFault) (f : ValueFault) (d : Submodel) (v : Data)
+    → IsErr r → IsErrAnd r (λ g. g ≡ f)
     → IsPatchFault (body d) v f → IfErr r (λ g. IsSubmodelFault d v g)
 submodel_unfit_at (Ok patch) f d v err is unfit = absurd (cc)
 submodel_unfit_at (Err g) f d v err is unfit = subst (IsSubmodelFault d v) (sym is) (submodel_unfit d v f unfit)

@@ -40,11 +40,10 @@ use Rattle.aas_value_update.proofs.Elements.{part_at}
 use Rattle.aas_value_update.proofs.Judged.{misshapen_at}
 use Rattle.aas_value_patch.specs.Childless.{IsLaid, RefusesLaying, row_of}
 use Rattle.aas_value_patch.specs.Gathered.{AreTaken, HasTaken}
-use Rattle.aas_value_patch.specs.Prepared.{Bears, IsPreparedFor, IsValueFault, fault_by, fault_of_patch}
+use Rattle.aas_value_patch.specs.Prepared.{Bears, IsPreparedFor, IsValueFault, fault_by}
 use Rattle.aas_value_patch.specs.Takes.{Takes}
-use Rattle.aas_value_patch.specs.declared.fault.PatchFault.{PatchFault}
-use Rattle.aas_value_patch.specs.declared.fault.PatchFault.TheVariants as patch_fault
 use Rattle.aas_value_patch.specs.declared.preparing.ValueFault.{ValueFault}
+use Rattle.aas_value_patch.specs.declared.preparing.ValueFault.TheVariants as fault_is
 use Rattle.aas_value_patch.proofs.Faultless.{broken, no_first}
 use Rattle.aas_value_patch.proofs.Leaf.{leaf_patched, with_payload}
 use Rattle.aas_value_patch.proofs.Level.{level_taken}
@@ -229,12 +228,11 @@ module _ (e : Element) (x : Payload) (v : Data) (rows : List PatchRow)
 
 -- ---- what is refused
 
-pub refused : (e : Element) (x : Payload) (v : Data) (f : PatchFault)
+pub refused : (e : Element) (x : Payload) (v : Data) (f : ValueFault)
     → Bears x e → is_some (value_form extent.WithBlobValue e) ≡ true
     → RefusesLaying x v f
-    → IsValueFault e v (fault_of_patch f)
-refused e x v patch_fault.NoValueForm bears form none = absurd none
-refused e x v (patch_fault.Shape path) bears form refuses = (
+    → IsValueFault e v f
+refused e x v (fault_is.Shape path) bears form refuses = (
   some (value_form extent.WithBlobValue e) form,
   misshapen_here e v
       (ap (λ (y : Payload). fits_form (form_of y (map part_of (kids_of e))) v) bears.payload
@@ -245,12 +243,13 @@ refused e x v (patch_fault.Shape path) bears form refuses = (
     some : (f : Option Data) → is_some f ≡ true → IsSome f
     some None e = absurd (cc)
     some (Some d) e = refl
-refused e x v patch_fault.NoMemory bears form any = tt
+refused e x v fault_is.NoMemory bears form any = tt
+refused e x v _ bears form none = absurd none
 
 -- ---- parts of the code
 
-pub handed_on : {A : Type 0} (r : Result A ValueFault) (x : Payload) (v : Data) (f : PatchFault)
-    → IsErr r × IsErrAnd r (λ g. g ≡ fault_of_patch f) → RefusesLaying x v f
+pub handed_on : {A : Type 0} (r : Result A ValueFault) (x : Payload) (v : Data) (f : ValueFault)
+    → IsErr r × IsErrAnd r (λ g. g ≡ f) → RefusesLaying x v f
     → ((e : Element) → Bears x e → is_some (value_form extent.WithBlobValue e) ≡ true)
     → IfErr r (λ g. (e : Element) → Bears x e → IsValueFault e v g)
 handed_on (Ok a) x v f given refuses form = tt

@@ -28,11 +28,13 @@ use Rattle.aas_value_update.proofs.Elements.{part_at}
 use Rattle.aas_value_update.proofs.Judged.{misshapen_made, shape_is_judged}
 use Rattle.aas_value_update.proofs.Order.{order_below, body_kids}
 use Rattle.aas_value_update.proofs.Rest.{differ_in_values, unshown_stays}
-use Rattle.aas_constraint_rules.specs.Sites.{Own, no_attributes}
-use Rattle.aas_value_patch.specs.Faults.{IsPatchFault, Shapes, fault_of}
-use Rattle.aas_value_patch.specs.declared.fault.PatchFault.{PatchFault}
-use Rattle.aas_value_patch.specs.declared.fault.Stop.{Stop}
-use Rattle.aas_value_patch.specs.declared.fault.Stop.TheVariants as stop
+use Rattle.aas_model.specs.Common.{no_attributes}
+use Rattle.aas_constraint_rules.specs.Sites.{Own}
+use Rattle.aas_value_patch.specs.Faults.{IsPatchFault, Refuses, Shapes, fault_here}
+use Rattle.aas_value_patch.specs.declared.fault.Misfit.{Misfit}
+use Rattle.aas_value_patch.specs.declared.fault.Misfit.TheVariants as misfit
+use Rattle.aas_value_patch.specs.declared.preparing.ValueFault.{ValueFault}
+use Rattle.aas_value_patch.specs.declared.preparing.ValueFault.TheVariants as fault
 use Rattle.aas_value_patch.specs.Gathered.{HasTaken, AreTaken, SoFar, Gathered, GatheredAll, AllInOrder, AllOrdered}
 use Rattle.aas_value_patch.proofs.Attributes.{body_takes}
 use Rattle.aas_value_patch.proofs.Level.{level_taken}
@@ -83,18 +85,18 @@ form_some e there = some (part_of e).child.form there
     some None e = absurd (true≢false (sym e))
     some (Some d) e = refl
 
-pub stop_fault : (m : Stop) (e : Element) (v : Data)
-    → is_some (part_of e).child.form ≡ true → Shapes {A = ℕ} (Err m) (first_misshapen e v)
-    → IsPatchFault e v (fault_of m)
-stop_fault (stop.Shape path) e v there h = (form_some e there, h)
-stop_fault stop.NoMemory e v there h = tt
+shape_fault : (f : ValueFault) (e : Element) (v : Data)
+    → is_some (part_of e).child.form ≡ true → Shapes {A = ℕ} (Err f) (first_misshapen e v) → IsPatchFault e v f
+shape_fault (fault.Shape path) e v there h = (form_some e there, h)
+shape_fault fault.NoMemory e v there h = tt
+shape_fault _ e v there h = absurd h
 
-pub patch_fault : (r : Result Patch PatchFault) (m : Stop) (e : Element) (v : Data)
+pub patch_fault : (r : Result Patch ValueFault) (g : ValueFault) (e : Element) (v : Data)
     → is_some (part_of e).child.form ≡ true → IsErr r
-    → IsErrAnd r (λ f. f ≡ fault_of m)
-    → Shapes {A = ℕ} (Err m) (first_misshapen e v) → IfErr r (λ f. IsPatchFault e v f)
-patch_fault (Ok s) m e v there err and shown = absurd (cc)
-patch_fault (Err f) m e v there err and shown = subst (IsPatchFault e v) (sym and) (stop_fault m e v there shown)
+    → IsErrAnd r (λ f. f ≡ g)
+    → Shapes {A = ℕ} (Err g) (first_misshapen e v) → IfErr r (λ f. IsPatchFault e v f)
+patch_fault (Ok s) g e v there err and shown = absurd (cc)
+patch_fault (Err f) g e v there err and shown = subst (IsPatchFault e v) (sym and) (shape_fault g e v there shown)
 
 -- ---- a submodel
 
@@ -152,13 +154,18 @@ whole_body d v f old rows after empty order ordered fit sent walk =
           v fit tt (body_takes v (map part_of d.kids) fit) taken;
     }
 
-pub body_misshapen : (d : Submodel) (v : Data)
+body_misshapen : (d : Submodel) (v : Data)
     → fits_form (object_of (map part_of d.kids)) v ≡ false → first_misshapen (body d) v ≡ Some []
 body_misshapen d v unfit = body_shape d v
     ∙ ap (λ b. if b then among own 0 (map sendable d.kids) (by_names (children (map part_of d.kids)) v) else Some [])
     unfit
 
-pub body_walked : (r : Result ℕ Stop) (d : Submodel) (v : Data) (f : List Child → List (Option Data))
+pub body_misfit : (m : Misfit) (d : Submodel) (v : Data)
+    → Refuses m (fits_form (object_of (map part_of d.kids)) v) → IsPatchFault (body d) v (fault_here m)
+body_misfit misfit.Shape d v unfit = (form_some (body d) (body_form d), body_misshapen d v unfit)
+body_misfit misfit.NoMemory d v any = tt
+
+pub body_walked : (r : Result ℕ ValueFault) (d : Submodel) (v : Data) (f : List Child → List (Option Data))
     → IsInOrder (body d) → IsOrdered v
     → fits_form (object_of (map part_of d.kids)) v ≡ true
     → ((cs : List Child) → f cs ≡ by_names cs v)

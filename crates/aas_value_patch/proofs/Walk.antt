@@ -10,6 +10,7 @@ use Rattle.serde_json.specs.Data.{Data}
 use Rattle.aas_model.specs.Payload.{kind_of}
 use Rattle.aas_model.specs.declared.element.Element.{Element, out-Element}
 use Rattle.aas_model.specs.declared.patch.PatchRow.{PatchRow}
+use Rattle.aas_model.specs.declared.path.Path.{Path}
 use Rattle.aas_model.specs.declared.path.PathStep.{PathStep}
 use Rattle.aas_model.specs.declared.path.PathStep.TheVariants as step
 use Rattle.aas_model.specs.declared.payload.Payload.{Payload}
@@ -33,13 +34,16 @@ use Rattle.aas_value_update.specs.Took.{NamedIn}
 use Rattle.aas_value_update.proofs.Judged.{own_same, misshapen_at}
 use Rattle.aas_value_update.proofs.OneForm.{named_in}
 use Rattle.aas_value_update.proofs.Order.{order_below}
-use Rattle.aas_value_patch.specs.Faults.{Shapes}
+use Rattle.aas_value_patch.specs.Faults.{Refuses, Shapes, fault_here}
 use Rattle.aas_value_patch.specs.Gathered.{SoFar, Gathered, GatheredAll, Reached, AllInOrder, IfOrdered}
 use Rattle.aas_value_patch.specs.Gathered.{AllOrdered, misshapen}
 use Rattle.aas_value_patch.specs.Sent.{sent_by}
 use Rattle.aas_value_patch.specs.Steps.{IsStep}
 use Rattle.aas_value_patch.specs.Takes.{Takes}
-use Rattle.aas_value_patch.specs.declared.fault.Stop.{Stop}
+use Rattle.aas_value_patch.specs.declared.fault.Misfit.{Misfit}
+use Rattle.aas_value_patch.specs.declared.fault.Misfit.TheVariants as misfit
+use Rattle.aas_value_patch.specs.declared.preparing.ValueFault.{ValueFault}
+use Rattle.aas_value_patch.specs.declared.preparing.ValueFault.TheVariants as fault
 use Rattle.aas_value_patch.specs.declared.sent.Sent.{Sent}
 use Rattle.aas_value_patch.specs.declared.sent.Sent.TheVariants as to
 use Rattle.aas_value_patch.specs.declared.step.Step.{Step}
@@ -71,7 +75,13 @@ misshapen_here e v fits =
     (sent (out-Element e).payload (children (map part_of (kids_of e))) v)
     else Some []) fits
 
-pub shape_below : (r : Result ℕ Stop) (e : Element) (v : Data) (s : Step)
+pub misfit_here : (m : Misfit) (e : Element) (v : Data)
+    → Refuses m (fits_form (form_of (out-Element e).payload (map part_of (kids_of e))) v)
+    → Shapes {A = ℕ} (Err (fault_here m)) (first_misshapen e v)
+misfit_here misfit.Shape e v unfit = misshapen_here e v unfit
+misfit_here misfit.NoMemory e v any = tt
+
+pub shape_below : (r : Result ℕ ValueFault) (e : Element) (v : Data) (s : Step)
     → IsStep (out-Element e).payload (map part_of (kids_of e)) v s → IsInOrder e
     → IsOrdered v
     → ((o : Own) → is_list o.payload ≡ stands_in_list (Some (own_of e)) → AllInOrder (kids_of e)
@@ -207,6 +217,21 @@ loop_fault o a ks i k f g s all q same lt at next so_far some =
     place : ℕ → PathStep
     place n = step.Place n
 
+pub kid_shown : (m : ValueFault) (ks : List Element) (i : ℕ) (k : Element) (f g : List Child → List (Option Data))
+    (s : Option Data) → i < length ks → k ≡ get_or ks i k
+    → ((cs : List Child) → f ((part_of k).child ∷ cs) ≡ s ∷ g cs)
+    → (IsInOrder k → IfOrdered s → Shapes {A = ℕ} (Err m) (misshapen k s))
+    → AllInOrder ks → AllOrdered (f (children (map part_of (drop i ks)))) → Shapes {A = ℕ} (Err m) (misshapen k s)
+kid_shown m ks i k f g s lt at next walk all sent =
+    walk (kid_order ks i k lt at all) (loop_order ks i k f g s lt at next sent).0
+
+-- a fault that is no wrong shape says nothing of where one is
+pub unshaped : (m : ValueFault) (a b : Option (List PathStep)) → ((path : Path) → m ≡ fault.Shape path → ⊥)
+    → Shapes {A = ℕ} (Err m) a → Shapes {A = ℕ} (Err m) b
+unshaped (fault.Shape path) a b other h = absurd (other path refl)
+unshaped fault.NoMemory a b other h = tt
+unshaped _ a b other h = absurd h
+
 pub loop_end : (o : Own) (ks : List Element) (i : ℕ) (ss : List (Option Data)) (all : Option (List PathStep))
     → length ks ≤ i
     → all ≡ among o i (map sendable (drop i ks)) ss → all ≡ None
@@ -235,7 +260,7 @@ pub counted_below : (r : Result ℕ NoMemory) (e : Element) (rank next : ℕ) �
 counted_below (Ok after) e rank next is h = let own = ap length (kinds_out e) in omega (arith, own, is, h)
 counted_below (Err m) e rank next is h = tt
 
-pub if_ok : (r : Result ℕ Stop) (P Q : ℕ → Type 0) → ((after : ℕ) → P after → Q after) → IfOk r P → IfOk r Q
+pub if_ok : (r : Result ℕ ValueFault) (P Q : ℕ → Type 0) → ((after : ℕ) → P after → Q after) → IfOk r P → IfOk r Q
 if_ok (Ok after) P Q f h = f after h
 if_ok (Err m) P Q f h = tt
 

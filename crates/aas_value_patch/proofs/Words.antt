@@ -4,7 +4,7 @@ use Rattle.std.specs.Prelude.{if◌then◌else◌}
 use Rattle.serde_json.specs.Data.{string}
 use Rattle.aas_json_table.specs.Names.{has}
 use Rattle.aas_model_names.specs.EntityTypeNames as entity_type
-use Rattle.aas_model_names.specs.declared.entity_type.EntityType.{EntityType}
+use Rattle.aas_model_names.specs.declared.enumerations.EntityType.{EntityType}
 use Rattle.aas_json_members.proofs.Words.{word_is}
 use Rattle.std.specs.Prelude.{◌↔◌}
 

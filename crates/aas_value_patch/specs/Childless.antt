@@ -6,8 +6,8 @@ use Rattle.aas_model.specs.declared.payload.Payload.{Payload}
 use Rattle.aas_value_update.specs.Forms.{form_of}
 use Rattle.aas_value.specs.Parts.{Part, fits_form}
 use Rattle.aas_value_patch.specs.Takes.{Takes}
-use Rattle.aas_value_patch.specs.declared.fault.PatchFault.{PatchFault}
-use Rattle.aas_value_patch.specs.declared.fault.PatchFault.TheVariants as patch_fault
+use Rattle.aas_value_patch.specs.declared.preparing.ValueFault.{ValueFault}
+use Rattle.aas_value_patch.specs.declared.preparing.ValueFault.TheVariants as fault
 
 -- one row, for the element itself
 abbrev pub row_of : Payload → List PatchRow
@@ -20,7 +20,7 @@ pub record IsLaid (x : Payload) (v : Data) (rows : List PatchRow) : Type 0 where
   pub fits : (xs : List Part) → fits_form (form_of x xs) v ≡ true
   pub takes : Takes x v payload
 
-abbrev pub RefusesLaying : Payload → Data → PatchFault → Type 0
-RefusesLaying x v patch_fault.NoValueForm = ⊥
-RefusesLaying x v (patch_fault.Shape path) = (path.steps ≡ []) × ((xs : List Part) → fits_form (form_of x xs) v ≡ false)
-RefusesLaying x v patch_fault.NoMemory = ⊤
+abbrev pub RefusesLaying : Payload → Data → ValueFault → Type 0
+RefusesLaying x v (fault.Shape path) = (path.steps ≡ []) × ((xs : List Part) → fits_form (form_of x xs) v ≡ false)
+RefusesLaying x v fault.NoMemory = ⊤
+RefusesLaying x v _ = ⊥

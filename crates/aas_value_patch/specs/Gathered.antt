@@ -15,7 +15,7 @@ use Rattle.aas_value_update.specs.Laws.{IsInOrder}
 use Rattle.aas_value_update.specs.LeftAlone.{left_alone}
 use Rattle.aas_value_update.specs.Shape.{first_misshapen}
 use Rattle.aas_value_update.specs.Took.{TookOne}
-use Rattle.aas_value_patch.specs.declared.fault.Stop.{Stop}
+use Rattle.aas_value_patch.specs.declared.preparing.ValueFault.{ValueFault}
 
 -- ---- elements
 
@@ -93,12 +93,12 @@ abbrev pub misshapen : Element → Option Data → Option (List PathStep)
 misshapen e None = None
 misshapen e (Some v) = first_misshapen e v
 
-abbrev pub GathersRows : Result ℕ Stop → Element → Option Data → ℕ → List PatchRow → List PatchRow → Type 0
+abbrev pub GathersRows : Result ℕ ValueFault → Element → Option Data → ℕ → List PatchRow → List PatchRow → Type 0
 GathersRows result e sent rank old new =
     IfOk result (λ after. IsInOrder e → IfOrdered sent → (seen : List Kind) → length seen ≡ rank → SoFar seen old
     → (after ≡ length (seen ++ kinds e)) × Gathered e sent seen old new)
 
-abbrev pub GathersAllRows : Result ℕ Stop → List Element
+abbrev pub GathersAllRows : Result ℕ ValueFault → List Element
     → List (Option Data) → ℕ → List PatchRow → List PatchRow → Type 0
 GathersAllRows result ks sent rank old new =
     IfOk result (λ after. AllInOrder ks → AllOrdered sent → (seen : List Kind) → length seen ≡ rank → SoFar seen old

@@ -15,19 +15,12 @@ use Rattle.aas_value.specs.ValueForm.{value_form}
 use Rattle.aas_value_update.specs.Laws.{IsInOrder}
 use Rattle.aas_value_update.specs.Shape.{first_misshapen}
 use Rattle.aas_value_update.specs.Update.{IsElementUpdate, IsSubmodelUpdate, body}
-use Rattle.aas_value_patch.specs.declared.fault.PatchFault.{PatchFault}
-use Rattle.aas_value_patch.specs.declared.fault.PatchFault.TheVariants as patch_fault
 use Rattle.aas_value_patch.specs.declared.preparing.ValueFault.{ValueFault}
 use Rattle.aas_value_patch.specs.declared.preparing.ValueFault.TheVariants as fault
 
 -- number 0 is a lexical rule
 abbrev pub fault_by : Fault → ValueFault
 fault_by f = if f.number == 0 then fault.Lexical f.path else fault.Constraint f
-
-abbrev pub fault_of_patch : PatchFault → ValueFault
-fault_of_patch patch_fault.NoValueForm = fault.NoValueForm
-fault_of_patch (patch_fault.Shape path) = fault.Shape path
-fault_of_patch patch_fault.NoMemory = fault.NoMemory
 
 -- the update of e by v has f for its first fault, of those that it has by itself
 pub record Breaks (e : Element) (v : Data) (f : Fault) : Type 0 where

@@ -1,5 +1,5 @@
 // An element whose value form shows no children: nothing but the attributes of its kind is looked at.
-ghost use Rattle.std.specs.Prelude.{◌≡◌, [], false, IfErr, IfOk};
+ghost use Rattle.std.specs.Prelude.{◌≡◌, false, IfErr, IfOk};
 ghost use Rattle.serde_json.specs.View.{view};
 ghost use Rattle.aas_constraints.specs.Own.{payload_fault};
 ghost use Rattle.aas_json_spelling.specs.Values.{IsOrdered};
@@ -9,11 +9,11 @@ ghost use Rattle.aas_value.specs.ValueForm.{shows_children};
 ghost use Rattle.aas_value_patch.specs.Childless.{IsLaid, RefusesLaying, row_of};
 ghost use Rattle.aas_value_patch.specs.Prepared.{Bears, IsPreparedFor, IsValueFault};
 
-use crate::fault::{Misfit, PatchFault};
+use crate::fault::{fault_here, here};
 use crate::preparing::{ValueFault, fault_by};
 use crate::step::leaf_step;
 use aas_constraints::payload_fault;
-use aas_model::{Fault, Many, NoMemory, Patch, PatchRow, Path, Payload};
+use aas_model::{Fault, Many, NoMemory, Patch, PatchRow, Payload};
 use aas_value::has_value_form;
 use serde_json::Value;
 use std::alloc::Global;
@@ -47,7 +47,7 @@ pub fn prepare_leaf(alloc: Global, payload: &Payload, value: &Value) -> Result<P
 }
 
 /// The patch, whatever the element breaks with it.
-fn lay_value(alloc: Global, payload: &Payload, value: &Value) -> Result<Patch, PatchFault>
+fn lay_value(alloc: Global, payload: &Payload, value: &Value) -> Result<Patch, ValueFault>
     requires leaf { shows_children payload.now ≡ false }
     requires ordered { IsOrdered (view value.now) }
     ensures patch { IfOk result (λ patch. IsLaid payload.now (view value.now) patch.rows) }
@@ -55,8 +55,7 @@ fn lay_value(alloc: Global, payload: &Payload, value: &Value) -> Result<Patch, P
 {
     match leaf_step(alloc, payload, value) {
         Ok(step) => Ok(patch_of(alloc, step.payload)?),
-        Err(Misfit::Shape) => Err(PatchFault::Shape { path: here(alloc) }),
-        Err(Misfit::NoMemory) => Err(PatchFault::NoMemory),
+        Err(misfit) => Err(fault_here(alloc, misfit)),
     }
 }
 
@@ -67,15 +66,6 @@ fn fault_in(patch: &Patch) -> Option<u16>
     match patch.rows.get(0) {
         Some(row) => payload_fault(&row.payload),
         None => None,
-    }
-}
-
-/// The path to the element itself.
-fn here(alloc: Global) -> Path
-    ensures { result.steps ≡ [] }
-{
-    Path {
-        steps: Many::new(alloc),
     }
 }
 

@@ -1,5 +1,9 @@
-use aas_model::{NoMemory, Path};
-use thiserror::Error;
+ghost use Rattle.std.specs.Prelude.{◌≡◌, []};
+ghost use Rattle.aas_value_patch.specs.Faults.{fault_here};
+
+use crate::preparing::ValueFault;
+use aas_model::{Many, NoMemory, Path};
+use std::alloc::Global;
 
 /// Why nothing was made of a value.
 #[derive(Clone, Copy, Drop)]
@@ -20,59 +24,21 @@ impl From<NoMemory> for Misfit {
     }
 }
 
-/// Why a walk along an element and a sent value stopped.
-#[derive(Drop)]
-pub(crate) enum Stop {
-    /// The element to which the path leads is the first whose own part of the value has the wrong shape.
-    Shape(Path),
-    NoMemory,
-}
-
-impl From<NoMemory> for Stop {
-    ghost use Rattle.std.specs.Prelude.{◌≡◌};
-    ghost use Rattle.aas_value_patch.specs.declared.fault.Stop.TheVariants as stop;
-
-    ghost from_gives = { λ _ fault. fault ≡ stop.NoMemory };
-
-    fn from(_fault: NoMemory) -> Stop {
-        Stop::NoMemory
+/// The path to the element itself.
+pub(crate) fn here(alloc: Global) -> Path
+    ensures { result ≡ record { steps = [] } }
+{
+    Path {
+        steps: Many::new(alloc),
     }
 }
 
-/// Why there is no patch for a sent value.
-#[derive(Debug, Drop, Error)]
-pub enum PatchFault {
-    /// The element has no value form: it is a Capability or an Operation.
-    #[error("the element has no value form")]
-    NoValueForm,
-    /// The element to which the path leads is the first in preorder whose own part of the value has the wrong shape.
-    #[error("the value has the wrong shape")]
-    Shape { path: Path },
-    #[error("memory was refused")]
-    NoMemory,
-}
-
-impl From<NoMemory> for PatchFault {
-    ghost use Rattle.std.specs.Prelude.{◌≡◌};
-    ghost use Rattle.aas_value_patch.specs.declared.fault.PatchFault.TheVariants as patch_fault;
-
-    ghost from_gives = { λ _ fault. fault ≡ patch_fault.NoMemory };
-
-    fn from(_fault: NoMemory) -> PatchFault {
-        PatchFault::NoMemory
-    }
-}
-
-impl From<Stop> for PatchFault {
-    ghost use Rattle.std.specs.Prelude.{◌≡◌};
-    ghost use Rattle.aas_value_patch.specs.Faults.{fault_of};
-
-    ghost from_gives = { λ stop fault. fault ≡ fault_of stop };
-
-    fn from(stop: Stop) -> PatchFault {
-        match stop {
-            Stop::Shape(path) => PatchFault::Shape { path },
-            Stop::NoMemory => PatchFault::NoMemory,
-        }
+/// Why the element itself can't take a value of which nothing was made.
+pub(crate) fn fault_here(alloc: Global, misfit: Misfit) -> ValueFault
+    ensures { result ≡ fault_here misfit }
+{
+    match misfit {
+        Misfit::Shape => ValueFault::Shape { path: here(alloc) },
+        Misfit::NoMemory => ValueFault::NoMemory,
     }
 }

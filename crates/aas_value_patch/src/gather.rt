@@ -12,9 +12,9 @@ ghost use Rattle.aas_value_patch.specs.Faults.{Shapes};
 ghost use Rattle.aas_value_patch.specs.Gathered.{AllInOrder, AllOrdered, IfOrdered, misshapen};
 ghost use Rattle.aas_value_patch.specs.Gathered.{GathersRows, GathersAllRows};
 ghost use Rattle.aas_value_patch.specs.Sent.{sent_by};
-ghost use Rattle.aas_value_patch.specs.declared.fault.Stop.TheVariants as stop;
 
-use crate::fault::{Misfit, Stop};
+use crate::fault::fault_here;
+use crate::preparing::ValueFault;
 use crate::sent::{Sent, take_next};
 use crate::step::own_step;
 use aas_constraints::step_to;
@@ -50,14 +50,6 @@ fn ranks_behind(rank: u64, kids: &Many<Element>) -> Result<u64, NoMemory>
     Ok(rank)
 }
 
-pub(crate) fn shape_here(alloc: Global) -> Stop
-    ensures { result ≡ stop.Shape (record { steps = [] }) }
-{
-    Stop::Shape(Path {
-        steps: Many::new(alloc),
-    })
-}
-
 /// The path that goes on behind a step.
 fn behind(step: PathStep, path: Path) -> Result<Path, NoMemory>
     ensures { IfOk result (λ longer. longer ≡ record { steps = step ∷ path.steps }) }
@@ -76,7 +68,7 @@ fn gather(
     rank: u64,
     element: &Element,
     sent: Option<&Value>,
-) -> Result<u64, Stop>
+) -> Result<u64, ValueFault>
     ensures shape { IsInOrder element.now → IfOrdered (option_map (λ v. view v.now) sent.entry)
         → Shapes result (misshapen element.now (option_map (λ v. view v.now) sent.entry)) }
     ensures rows { GathersRows result element.now (option_map (λ v. view v.now) sent.entry) rank rows.old rows.new }
@@ -95,7 +87,7 @@ pub(crate) fn gather_here(
     rank: u64,
     element: &Element,
     value: &Value,
-) -> Result<u64, Stop>
+) -> Result<u64, ValueFault>
     ensures shape { IsInOrder element.now → IsOrdered (view value.now)
         → Shapes result (first_misshapen element.now (view value.now)) }
     ensures rows { GathersRows result element.now (Some (view value.now)) rank rows.old rows.new }
@@ -109,8 +101,7 @@ pub(crate) fn gather_here(
             let next = next_rank(rank)?;
             gather_all(alloc, rows, next, Some(element), &element.kids, step.kids)
         }
-        Err(Misfit::Shape) => Err(shape_here(alloc)),
-        Err(Misfit::NoMemory) => Err(Stop::NoMemory),
+        Err(misfit) => Err(fault_here(alloc, misfit)),
     }
 }
 
@@ -123,7 +114,7 @@ pub(crate) fn gather_all(
     above: Option<&Element>,
     kids: &Many<Element>,
     sent: Sent,
-) -> Result<u64, Stop>
+) -> Result<u64, ValueFault>
     ensures shape { (o : Own) → is_list o.payload ≡ stands_in_list (above_of above.entry) → AllInOrder kids.now
         → AllOrdered (sent_by sent.entry (children (map part_of kids.now)))
         → Shapes result (among o 0 (map sendable kids.now) (sent_by sent.entry (children (map part_of kids.now)))) }
@@ -139,11 +130,13 @@ pub(crate) fn gather_all(
                 rank = after;
                 sent = next.rest;
             }
-            Err(Stop::Shape(path)) => {
-                let step = step_to(above, place, kid)?;
-                return Err(Stop::Shape(behind(step, path)?));
+            Err(fault) => {
+                let ValueFault::Shape { path } = fault else {
+                    return Err(fault);
+                };
+                let path = behind(step_to(above, place, kid)?, path)?;
+                return Err(ValueFault::Shape { path });
             }
-            Err(Stop::NoMemory) => return Err(Stop::NoMemory),
         }
     }
     Ok(rank)

@@ -31,6 +31,5 @@ mod slots;
 mod step;
 
 pub use childless::prepare_leaf;
-pub use fault::PatchFault;
 pub use patch::{patch_for, patch_for_submodel};
 pub use preparing::{ValueFault, prepare, prepare_submodel};

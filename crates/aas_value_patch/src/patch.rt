@@ -6,9 +6,10 @@ ghost use Rattle.aas_value_update.specs.Laws.{IsInOrder};
 ghost use Rattle.aas_value_update.specs.Update.{IsElementUpdate, IsSubmodelUpdate, body};
 ghost use Rattle.aas_value_patch.specs.Faults.{IsPatchFault};
 
-use crate::fault::{Misfit, PatchFault};
-use crate::gather::{gather_all, gather_here, shape_here};
+use crate::fault::fault_here;
+use crate::gather::{gather_all, gather_here};
 use crate::parents::object_in;
+use crate::preparing::ValueFault;
 use crate::sent::has_form;
 use aas_model::{Element, Many, Patch, Submodel};
 use serde_json::Value;
@@ -22,7 +23,7 @@ use std::alloc::Global;
 ///
 /// Exactly one of these holds, or there is a patch: `NoValueForm` for a Capability or an Operation; `Shape` at the
 /// first element in preorder whose own part of the value has the wrong shape. `NoMemory` may come at any time.
-pub fn patch_for(alloc: Global, element: &Element, value: &Value) -> Result<Patch, PatchFault>
+pub fn patch_for(alloc: Global, element: &Element, value: &Value) -> Result<Patch, ValueFault>
     requires in_order { IsInOrder element.now }
     requires ordered { IsOrdered (view value.now) }
     ensures fits { IfOk result (λ patch. Fits (kinds element.now) patch.rows) }
@@ -31,7 +32,7 @@ pub fn patch_for(alloc: Global, element: &Element, value: &Value) -> Result<Patc
     ensures fault { IfErr result (λ fault. IsPatchFault element.now (view value.now) fault) }
 {
     if !has_form(element) {
-        return Err(PatchFault::NoValueForm);
+        return Err(ValueFault::NoValueForm);
     }
     let mut rows = Many::new(alloc);
     gather_here(alloc, &mut rows, 0, element, value)?;
@@ -43,7 +44,7 @@ pub fn patch_for_submodel(
     alloc: Global,
     submodel: &Submodel,
     value: &Value,
-) -> Result<Patch, PatchFault>
+) -> Result<Patch, ValueFault>
     requires in_order { IsInOrder (body submodel.now) }
     requires ordered { IsOrdered (view value.now) }
     ensures fits { IfOk result (λ patch. Fits (kinds_of_all submodel.now.kids) patch.rows) }
@@ -57,7 +58,6 @@ pub fn patch_for_submodel(
             gather_all(alloc, &mut rows, 0, None, &submodel.kids, sent)?;
             Ok(Patch { rows })
         }
-        Err(Misfit::Shape) => Err(PatchFault::from(shape_here(alloc))),
-        Err(Misfit::NoMemory) => Err(PatchFault::NoMemory),
+        Err(misfit) => Err(fault_here(alloc, misfit)),
     }
 }

@@ -10,12 +10,10 @@ ghost use Rattle.aas_value_update.specs.Laws.{IsInOrder};
 ghost use Rattle.aas_value_update.specs.Update.{IsElementUpdate, IsSubmodelUpdate, body};
 ghost use Rattle.aas_value_patch.specs.Prepared.{IsLeft, IsSubmodelFault, IsValueFault, fault_by};
 
-use crate::fault::PatchFault;
 use crate::patch::{patch_for, patch_for_submodel};
 use aas_constraints::local_fault;
 use aas_model::{
-    Common, Duplicate, Element, Fault, Many, NoMemory, Patch, Path, Payload, Role, Semantics,
-    Submodel,
+    Common, Duplicate, Element, Fault, Many, NoMemory, Patch, Path, Payload, Role, Submodel,
 };
 use aas_path::{apply, apply_all};
 use serde_json::Value;
@@ -49,21 +47,6 @@ impl From<NoMemory> for ValueFault {
 
     fn from(_fault: NoMemory) -> ValueFault {
         ValueFault::NoMemory
-    }
-}
-
-impl From<PatchFault> for ValueFault {
-    ghost use Rattle.std.specs.Prelude.{◌≡◌};
-    ghost use Rattle.aas_value_patch.specs.Prepared.{fault_of_patch};
-
-    ghost from_gives = { λ before fault. fault ≡ fault_of_patch before };
-
-    fn from(fault: PatchFault) -> ValueFault {
-        match fault {
-            PatchFault::NoValueForm => ValueFault::NoValueForm,
-            PatchFault::Shape { path } => ValueFault::Shape { path },
-            PatchFault::NoMemory => ValueFault::NoMemory,
-        }
     }
 }
 
@@ -133,19 +116,7 @@ fn into_body(alloc: Global, submodel: Submodel) -> Element
     ensures { result ≡ body submodel }
 {
     Element {
-        common: Common {
-            id_short: None,
-            category: None,
-            description: Many::new(alloc),
-            display_name: Many::new(alloc),
-            extensions: Many::new(alloc),
-            embedded_data_specifications: Many::new(alloc),
-            semantics: Semantics {
-                semantic_id: None,
-                supplemental_semantic_ids: Many::new(alloc),
-            },
-            qualifiers: Many::new(alloc),
-        },
+        common: Common::empty(alloc),
         payload: Payload::SubmodelElementCollection,
         role: Role::Member,
         kids: submodel.kids,

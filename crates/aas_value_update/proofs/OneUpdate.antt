@@ -20,7 +20,7 @@ use Rattle.aas_constraint_laws.specs.Values.{without_values}
 use Rattle.aas_value.specs.ValueForm.{shows_children}
 use Rattle.aas_value_update.specs.LeftAlone.{left_alone}
 use Rattle.aas_value_update.specs.Update.{IsElementUpdate, IsUpdateAt, body}
-use Rattle.aas_constraint_rules.specs.Sites.{no_attributes}
+use Rattle.aas_model.specs.Common.{no_attributes}
 use Rattle.aas_value_update.specs.Laws.{NamesDiffer, OneElementUpdate, OneValueUpdate}
 use Rattle.aas_value_update.proofs.Alone.{level, kids_made}
 use Rattle.aas_value_update.proofs.OneForm.{one_alone}

@@ -25,7 +25,7 @@ use Rattle.aas_constraint_laws.specs.Valid.{IsValid}
 use Rattle.aas_constraint_laws.proofs.Siblings.{siblings_differ}
 use Rattle.aas_value_update.specs.Laws.{NamesDiffer, IsInOrder}
 use Rattle.aas_value_update.specs.Update.{body}
-use Rattle.aas_constraint_rules.specs.Sites.{no_attributes}
+use Rattle.aas_model.specs.Common.{no_attributes}
 use Rattle.aas_value_update.proofs.Alone.{kids_made}
 
 pub names_below : (e : Element) → NamesDiffer e → (i : ℕ) (k : Element)

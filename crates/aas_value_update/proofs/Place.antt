@@ -11,7 +11,8 @@ use Rattle.aas_model.specs.declared.path.Fault.{Fault}
 use Rattle.aas_model.specs.declared.path.PathStep.TheVariants.{Place}
 use Rattle.aas_model.specs.declared.payload.Payload.TheVariants as payload
 use Rattle.aas_constraint_rules.specs.Faults.{faults, faults_at, is_template, submodel, HasNoFault}
-use Rattle.aas_constraint_rules.specs.Sites.{Own, no_attributes, Trees, none, first, root, sites_among, stands_in_list}
+use Rattle.aas_model.specs.Common.{no_attributes}
+use Rattle.aas_constraint_rules.specs.Sites.{Own, Trees, none, first, root, sites_among, stands_in_list}
 use Rattle.aas_constraint_rules.specs.Sites.{named_or, tree_of, trees}
 use Rattle.aas_constraint_rules.proofs.Elements.{under_fault}
 use Rattle.aas_constraint_laws.specs.Law.{behind, local_faults}

@@ -7,7 +7,7 @@ use Rattle.std.proofs.lemmas.Str.{encodes_same}
 use Rattle.serde_json.specs.Data.{Data, null, no_items}
 use Rattle.serde_json.specs.Find.{of_integer}
 use Rattle.aas_model_names.specs.EntityTypeNames as entity_type
-use Rattle.aas_model_names.specs.declared.entity_type.EntityType.{EntityType}
+use Rattle.aas_model_names.specs.declared.enumerations.EntityType.{EntityType}
 use Rattle.aas_model_names.specs.declared.value_type.ValueType.{ValueType}
 use Rattle.aas_lexical.specs.Natives.{native_of, IsNative}
 use Rattle.aas_lexical.specs.declared.natives.Native.{Native}

@@ -17,7 +17,7 @@ use Rattle.aas_json_mapping.specs.Parts.{spell_specific_asset_id}
 use Rattle.aas_json_mapping.specs.Whole.{whole_payload, whole_specific_asset_id}
 use Rattle.aas_json_mapping.proofs.Facts.{reference_facts}
 use Rattle.aas_json_mapping.proofs.Parts.{specific_asset_id_facts}
-use Rattle.aas_model_names.specs.declared.entity_type.EntityType.{EntityType}
+use Rattle.aas_model_names.specs.declared.enumerations.EntityType.{EntityType}
 use Rattle.aas_model.specs.declared.parts.SpecificAssetId.{SpecificAssetId}
 use Rattle.aas_model.specs.declared.payload.Payload.{Payload}
 use Rattle.aas_model.specs.declared.payload.Payload.TheVariants as p

@@ -23,7 +23,7 @@ use Rattle.aas_constraint_laws.specs.Values.{bare, DifferInValues}
 use Rattle.aas_constraint_laws.proofs.StaysWhole.{child_whole, parts_below, parts_below_child, stays_whole}
 use Rattle.aas_value_update.specs.Laws.{UpdateStaysWhole}
 use Rattle.aas_value_update.specs.Update.{IsUpdateAt, IsSubmodelUpdate, body}
-use Rattle.aas_constraint_rules.specs.Sites.{no_attributes}
+use Rattle.aas_model.specs.Common.{no_attributes}
 use Rattle.aas_value_update.proofs.Alone.{fields}
 use Rattle.aas_value_update.proofs.Order.{body_order, order_at}
 use Rattle.aas_value_update.proofs.Rest.{bare_at}

@@ -11,7 +11,7 @@ use Rattle.aas_model.specs.declared.payload.Payload.TheVariants as payload
 use Rattle.aas_path_trees.specs.ElementAt.{element_at}
 use Rattle.aas_path_trees.specs.WithElement.{with_element}
 use Rattle.aas_constraint_laws.specs.Values.{DifferInValues}
-use Rattle.aas_constraint_rules.specs.Sites.{no_attributes}
+use Rattle.aas_model.specs.Common.{no_attributes}
 use Rattle.aas_value.specs.ValueForm.{value_form}
 use Rattle.aas_value_update.specs.Forms.{lay}
 use Rattle.aas_value_update.specs.LeftAlone.{unshown}

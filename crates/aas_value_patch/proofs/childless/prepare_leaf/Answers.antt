@@ -3,6 +3,7 @@ use Rattle.serde_json.specs.View.{view}
 use Rattle.aas_lemmas.proofs.Truth.{None-from_is_some}
 use Rattle.aas_constraint_rules.specs.Faults.{fault}
 use Rattle.aas_model.specs.Payload.{kind_of}
+use Rattle.aas_model.specs.declared.path.Path.{Path}
 use Rattle.aas_model_names.specs.declared.modifiers.Extent.TheVariants as extent
 use Rattle.aas_value.specs.ValueForm.{value_form}
 use Rattle.aas_value_patch.specs.Prepared.{IsValueFault}
@@ -39,5 +40,5 @@ returns-in-Some-clause-fault c = λ e bears.
     (c.has_value_form.ensures extent.WithBlobValue e (ap kind_of bears.payload ∙ sym c.kind.ensures)
     ∙ c.if-not-has_value_form.false)
     laid
-    c.in-Some.number _ (ap (λ steps. fault steps c.in-Some.number) c.here.ensures)
+    c.in-Some.number _ (ap (λ (p : Path). fault p.steps c.in-Some.number) c.here.ensures)
     (sym (c.fault_in.ensures laid.payload laid.row) ∙ c.in-Some.is))

@@ -1,22 +1,21 @@
 use Rattle.std.proofs.Common.{◌≡◌, ℕ, ◌<◌, ◌++◌, ◌∷◌, Option, Some, Err, option_map, length, map, drop, get_or, sym, ap}
-use Rattle.std.proofs.Common.{ap₂, ◌∙◌, subst, arith, rules}
+use Rattle.std.proofs.Common.{◌∙◌, subst, arith, rules}
 use denote.Ref.{Bor}
 use Rattle.serde_json.specs.View.{view}
 use Rattle.serde_json.specs.declared.value.Value.{Value}
-use Rattle.aas_model.specs.declared.element.Element.{Element, out-Element}
-use Rattle.aas_model.specs.declared.path.Path.{Path}
+use Rattle.aas_model.specs.declared.element.Element.{Element}
 use Rattle.aas_constraints.specs.Walk.{above_of}
-use Rattle.aas_path_trees.specs.Children.{kids_of}
 use Rattle.aas_path_trees.specs.Patched.{kinds}
-use Rattle.aas_value_update.specs.Forms.{form_of, part_of}
-use Rattle.aas_value.specs.Parts.{children, fits_form}
+use Rattle.aas_value_update.specs.Forms.{part_of}
+use Rattle.aas_value.specs.Parts.{children}
 use Rattle.aas_value_update.specs.Shape.{sendable, among, first_misshapen}
-use Rattle.aas_value_patch.specs.Faults.{Refuses, Shapes}
-use Rattle.aas_value_patch.specs.declared.fault.Stop.{Stop}
+use Rattle.aas_value_patch.specs.Faults.{Shapes}
+use Rattle.aas_value_patch.specs.declared.preparing.ValueFault.{ValueFault}
 use Rattle.aas_value_patch.specs.Gathered.{AllOrdered, AllInOrder, Gathered, misshapen}
 use Rattle.aas_value_patch.specs.Sent.{sent_by}
-use Rattle.aas_value_patch.proofs.Walk.{misshapen_here, shape_below, skip_rows, rows_below, kid_order, loop_order}
-use Rattle.aas_value_patch.proofs.Walk.{loop_shape, loop_fault, loop_end, loop_rows, if_ok, walk_end, none_left}
+use Rattle.aas_value_patch.proofs.Walk.{misfit_here, shape_below, skip_rows, rows_below, kid_order, loop_order}
+use Rattle.aas_value_patch.proofs.Walk.{loop_shape, loop_fault, loop_end, loop_rows, if_ok, kid_shown, unshaped}
+use Rattle.aas_value_patch.proofs.Walk.{walk_end, none_left}
 use Rattle.aas_value_patch.proofs.gather.+gather.Goals as goal
 
 pub gather-returns-in_ok-rank_behind-in-None-clause-rows : goal.gather-returns-in_ok-rank_behind-in-None-clause-rows
@@ -44,16 +43,12 @@ gather_here-returns-in_ok-next-in-Ok-clause-rows t c =
     c.in_ok-push-in-Ok.ensures.ok c.in_ok-next-in-Ok.ensures h seen at so)
     c.gather_all.ensures.rows
 
-pub gather_here-returns-in-Err-Shape-clause-shape : goal.gather_here-returns-in-Err-Shape-clause-shape
-gather_here-returns-in-Err-Shape-clause-shape t c = λ order ordered.
+pub gather_here-returns-in-Err-clause-shape : goal.gather_here-returns-in-Err-clause-shape
+gather_here-returns-in-Err-clause-shape t c = λ order ordered.
     let e = c.args.element.now in
     let v = view c.args.value.now in
-    let unfit =
-    subst (λ m. Refuses m (fits_form (form_of (out-Element e).payload (map part_of (kids_of e))) v))
-    c.in-Err-Shape.field-0-is
-    (c.in-Err-Shape.ensures order ordered) in
-    subst (λ (f : Stop). Shapes {A = ℕ} (Err f) (first_misshapen e v))
-    (sym c.shape_here.ensures) (misshapen_here e v unfit)
+    subst (λ (f : ValueFault). Shapes {A = ℕ} (Err f) (first_misshapen e v))
+    (sym c.fault_here.ensures) (misfit_here c.in-Err.misfit e v (c.in-Err.ensures order ordered))
 
 pub gather_all-returns-clause-shape : goal.gather_all-returns-clause-shape
 gather_all-returns-clause-shape t c = λ o same all ordered.
@@ -97,8 +92,22 @@ gather_all-loop-place-preserved t c =
           (c.in-Ok.ensures.rows (kid_order ks l.place k lt at all) (turn ordered).0);
     }
 
-pub gather_all-returns-in-Err-Shape-clause-shape : goal.gather_all-returns-in-Err-Shape-clause-shape
-gather_all-returns-in-Err-Shape-clause-shape t c = λ o same all ordered.
+pub gather_all-returns-in_default : goal.gather_all-returns-in_default
+gather_all-returns-in_default t c = record {
+  shape = λ o same all ordered.
+      let l = c.loop-place in
+      let kids = c.as_slice-kid-items.ensures in
+      unshaped c.in-Err.fault _ _ c.in_default.not-Shape
+      (kid_shown c.in-Err.fault c.as_slice-kid-items.result.now l.place c.kid-item.result (sent_by l.sent)
+      (sent_by c.take_next-next.result.rest) _ (omega arith) (ap (λ (x : Element). x) c.kid-item.is)
+      c.take_next-next.ensures c.in-Err.ensures.shape (subst AllInOrder (sym kids) all)
+      (l.invariant.order
+      (subst (λ l. AllOrdered (sent_by c.args.sent (children (map part_of l)))) (sym kids) ordered)));
+  rows = tt;
+}
+
+pub gather_all-returns-in-Err-clause-shape : goal.gather_all-returns-in-Err-clause-shape
+gather_all-returns-in-Err-clause-shape t c = λ o same all ordered.
     let l = c.loop-place in
     let ks = c.as_slice-kid-items.result.now in
     let kids = c.as_slice-kid-items.ensures in
@@ -109,13 +118,12 @@ gather_all-returns-in-Err-Shape-clause-shape t c = λ o same all ordered.
     let next = c.take_next-next.ensures in
     let mine = subst AllInOrder (sym kids) all in
     let sent = subst (λ l. AllOrdered (sent_by c.args.sent (children (map part_of l)))) (sym kids) ordered in
-    let turn = loop_order ks l.place k (sent_by l.sent)
-    (sent_by c.take_next-next.result.rest) s lt at next (l.invariant.order sent) in
-    let h = c.in-Err-Shape.ensures.shape (kid_order ks l.place k lt at mine) turn.0 in
+    let h = kid_shown c.in-Err.fault ks l.place k (sent_by l.sent) (sent_by c.take_next-next.result.rest) s lt at next
+    c.in-Err.ensures.shape mine (l.invariant.order sent) in
     ap (λ l. among o 0 (map sendable l) (sent_by c.args.sent (children (map part_of l)))) (sym kids)
     ∙ loop_fault o (above_of c.args.above) ks l.place k (sent_by l.sent)
-    (sent_by c.take_next-next.result.rest) s _ c.in-Err-Shape.path.steps same lt at next
+    (sent_by c.take_next-next.result.rest) s _ c.in-Shape.path.steps same lt at next
     (l.invariant.shape o mine sent)
-    (subst (λ (f : Stop). Shapes {A = ℕ} (Err f) (misshapen k s)) c.in-Err-Shape.field-0-is h)
-    ∙ ap (λ p. Some p) (sym (ap (λ p. p.steps) c.in_ok-behind-in-Err-Shape.ensures
-    ∙ ap₂ (λ s (p : Path). s ∷ p.steps) c.in_ok-step-in-Err-Shape.ensures c.in-Err-Shape.path-is))
+    (subst (λ (f : ValueFault). Shapes {A = ℕ} (Err f) (misshapen k s)) c.in-Shape.is h)
+    ∙ ap (λ p. Some p) (sym (ap (λ p. p.steps) c.in_ok-path-in-Err.ensures
+    ∙ ap (λ s. s ∷ c.in-Shape.path.steps) c.in_ok-step_to-in-Err.ensures))

@@ -27,16 +27,10 @@ returns-then-not-has_only_two c = λ xs order.
     (sym c.has_only_two.ensures ∙ c.if-not-has_only_two.true)
 
 pub returns : goal.returns
-returns c = λ xs order.
-    let ms = members_view c.args.members.now.entries in
-    record {
-      fits =
-          (range_fits c.args.value_type c.args.min.now c.args.max.now xs ms order).all c.in_ok-max.ensures.fit
-          c.in_ok-min.ensures.fit
-          (sym c.has_only_two.ensures ∙ c.if-not-has_only_two.false);
-      takes =
-          range_takes c.args.value_type c.args.min.now c.args.max.now
-          c.in_ok-min.min c.in_ok-max.max ms c.in_ok-max.ensures.taken
-          c.in_ok-min.ensures.taken;
-      kids = refl;
-    }
+returns c = λ xs order. record {
+  fits =
+      (range_fits c.args.value_type c.args.min.now c.args.max.now xs (members_view c.args.members.now.entries) order).all
+      c.in_ok-max.ensures.fit c.in_ok-min.ensures.fit (sym c.has_only_two.ensures ∙ c.if-not-has_only_two.false);
+  takes = range_takes _ _ _ _ _ _ c.in_ok-max.ensures.taken c.in_ok-min.ensures.taken;
+  kids = refl;
+}

@@ -27,16 +27,11 @@ returns-then-not-has_only_two c = λ xs order.
     (sym c.has_only_two.ensures ∙ c.if-not-has_only_two.true)
 
 pub returns : goal.returns
-returns c = λ xs order.
-    let ms = members_view c.args.members.now.entries in
-    record {
-      fits =
-          (relationship_fits c.args.first.now c.args.second.now xs ms order).all c.in_ok-first.ensures.fit
-          c.in_ok-second.ensures.fit
-          (sym c.has_only_two.ensures ∙ c.if-not-has_only_two.false);
-      takes =
-          relationship_takes c.args.first.now c.args.second.now c.in_ok-first.first c.in_ok-second.second ms
-          (c.in_ok-first.ensures.taken order)
-          (c.in_ok-second.ensures.taken order);
-      kids = refl;
-    }
+returns c = λ xs order. record {
+  fits =
+      (relationship_fits c.args.first.now c.args.second.now xs (members_view c.args.members.now.entries) order).all
+      c.in_ok-first.ensures.fit c.in_ok-second.ensures.fit
+      (sym c.has_only_two.ensures ∙ c.if-not-has_only_two.false);
+  takes = relationship_takes _ _ _ _ _ (c.in_ok-first.ensures.taken order) (c.in_ok-second.ensures.taken order);
+  kids = refl;
+}

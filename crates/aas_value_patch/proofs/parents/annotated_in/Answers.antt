@@ -39,17 +39,12 @@ returns-then-not-has_only_three c = λ order.
     (sym c.has_only_three.ensures ∙ c.if-not-has_only_three.true)
 
 pub returns : goal.returns
-returns c = λ order.
-    let ms = members_view c.args.members.now.entries in
-    record {
-      fits =
-          (annotated_fits c.args.first.now c.args.second.now (map part_of c.args.kids.now) ms order).all
-          c.in_ok-kids.ensures.fit c.in_ok-first.ensures.fit
-          c.in_ok-second.ensures.fit
-          (sym c.has_only_three.ensures ∙ c.if-not-has_only_three.false);
-      takes =
-          annotated_takes c.args.first.now c.args.second.now c.in_ok-first.first c.in_ok-second.second ms
-          (c.in_ok-first.ensures.taken order)
-          (c.in_ok-second.ensures.taken order);
-      kids = c.in_ok-kids.ensures.sent _;
-    }
+returns c = λ order. record {
+  fits =
+      (annotated_fits c.args.first.now c.args.second.now (map part_of c.args.kids.now)
+      (members_view c.args.members.now.entries) order).all
+      c.in_ok-kids.ensures.fit c.in_ok-first.ensures.fit c.in_ok-second.ensures.fit
+      (sym c.has_only_three.ensures ∙ c.if-not-has_only_three.false);
+  takes = annotated_takes _ _ _ _ _ (c.in_ok-first.ensures.taken order) (c.in_ok-second.ensures.taken order);
+  kids = c.in_ok-kids.ensures.sent _;
+}

@@ -1,4 +1,4 @@
-use Rattle.std.proofs.Common.{◌<◌, length, arith}
+use Rattle.std.proofs.Common.{arith}
 use Rattle.serde_json.specs.View.{members_view}
 use Rattle.aas_value_patch.proofs.Children.{found_step, found_end}
 use Rattle.aas_value_patch.proofs.parents.count_found.Goals as goal
@@ -6,12 +6,10 @@ use Rattle.aas_value_patch.proofs.parents.count_found.Goals as goal
 pub loop-kid-preserved : goal.loop-kid-preserved
 loop-kid-preserved c =
     let l = c.loop-kid in
-    let ks = c.args.kids.now in
-    let lt : l.kid-index < length ks = omega arith in
     record {
       counted =
-          found_step ks l.kid-index c.kid-item.result
-          (members_view c.args.members.now.entries) l.count c.count_one-count.result _ lt c.kid-item.is
+          found_step c.args.kids.now l.kid-index c.kid-item.result
+          (members_view c.args.members.now.entries) l.count c.count_one-count.result _ (omega arith) c.kid-item.is
           c.count_one-count.ensures.value l.invariant.counted;
       small = omega arith;
     }

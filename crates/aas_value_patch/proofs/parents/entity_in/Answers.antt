@@ -57,20 +57,14 @@ returns-then-not-has_only_four c = λ differ order.
     (sym c.has_only_four.ensures ∙ c.if-not-has_only_four.true)
 
 pub returns : goal.returns
-returns c = λ differ order.
-    let ms = members_view c.args.members.now.entries in
-    record {
-      fits =
-          (entity_fits c.args.entity_type c.args.global_asset_id.now c.args.specific_asset_ids.now
-          (map part_of c.args.kids.now) ms order).all
-          c.in_ok-entity_type.ensures.fit c.in_ok-global_asset_id.ensures.fit c.in_ok-specific_asset_ids.ensures.fit
-          (c.in_ok-kids.ensures.fit differ order)
-          (sym c.has_only_four.ensures ∙ c.if-not-has_only_four.false);
-      takes =
-          entity_takes c.args.entity_type c.in_ok-entity_type.entity_type
-          c.args.global_asset_id.now c.in_ok-global_asset_id.global_asset_id
-          c.args.specific_asset_ids.now c.in_ok-specific_asset_ids.specific_asset_ids ms
-          c.in_ok-entity_type.ensures.taken c.in_ok-global_asset_id.ensures.taken
-          (c.in_ok-specific_asset_ids.ensures.taken order);
-      kids = c.in_ok-kids.ensures.sent _;
-    }
+returns c = λ differ order. record {
+  fits =
+      (entity_fits c.args.entity_type c.args.global_asset_id.now c.args.specific_asset_ids.now
+      (map part_of c.args.kids.now) (members_view c.args.members.now.entries) order).all
+      c.in_ok-entity_type.ensures.fit c.in_ok-global_asset_id.ensures.fit c.in_ok-specific_asset_ids.ensures.fit
+      (c.in_ok-kids.ensures.fit differ order) (sym c.has_only_four.ensures ∙ c.if-not-has_only_four.false);
+  takes =
+      entity_takes _ _ _ _ _ _ _ c.in_ok-entity_type.ensures.taken c.in_ok-global_asset_id.ensures.taken
+      (c.in_ok-specific_asset_ids.ensures.taken order);
+  kids = c.in_ok-kids.ensures.sent _;
+}

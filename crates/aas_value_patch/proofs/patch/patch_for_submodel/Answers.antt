@@ -1,13 +1,10 @@
-use Rattle.std.proofs.Common.{[], Ok, Err, map, refl, sym, ap, ◌∙◌, subst}
+use Rattle.std.proofs.Common.{Ok, Err, refl, sym, subst}
 use Rattle.serde_json.specs.View.{view}
-use Rattle.aas_value_update.specs.Forms.{part_of}
-use Rattle.aas_value.specs.Parts.{object_of, fits_form}
 use Rattle.aas_value_update.specs.Update.{body}
-use Rattle.aas_value_patch.specs.Faults.{Refuses, IsPatchFault, fault_of}
+use Rattle.aas_value_patch.specs.Faults.{IsPatchFault}
 use Rattle.aas_value_patch.specs.Sent.{sent_by}
-use Rattle.aas_value_patch.specs.declared.fault.Stop.TheVariants as stop
 use Rattle.aas_value_patch.proofs.Updated.{WholeBody, whole_body, updated, patch_fault, body_form, body_differ}
-use Rattle.aas_value_patch.proofs.Updated.{body_misshapen, body_walked, stop_fault, own}
+use Rattle.aas_value_patch.proofs.Updated.{body_misfit, body_walked, own}
 use Rattle.aas_value_patch.proofs.patch.patch_for_submodel.Goals as goal
 
 pub returns-in_err-gather_all-in-Ok-clause-fault : goal.returns-in_err-gather_all-in-Ok-clause-fault
@@ -42,11 +39,9 @@ returns-in_ok-gather_all-in-Ok c =
       fault = tt;
     }
 
-pub returns-in-Err-Shape-clause-fault : goal.returns-in-Err-Shape-clause-fault
-returns-in-Err-Shape-clause-fault c =
+pub returns-in-Err-clause-fault : goal.returns-in-Err-clause-fault
+returns-in-Err-clause-fault c =
     let d = c.args.submodel.now in
     let v = view c.args.value.now in
-    let unfit = subst (λ m. Refuses m (fits_form (object_of (map part_of d.kids)) v)) c.in-Err-Shape.field-0-is
-    (c.in-Err-Shape.ensures.fit (body_differ d c.requires.in_order) c.requires.ordered) in
-    subst (IsPatchFault (body d) v) (sym (c.from.ensures ∙ ap fault_of c.shape_here.ensures))
-    (stop_fault (stop.Shape (record { steps = [] })) (body d) v (body_form d) (body_misshapen d v unfit))
+    subst (IsPatchFault (body d) v) (sym c.fault_here.ensures)
+    (body_misfit c.in-Err.misfit d v (c.in-Err.ensures.fit (body_differ d c.requires.in_order) c.requires.ordered))
