@@ -3,10 +3,10 @@ use Rattle.std.proofs.Common.{◌≡◌, ℕ, Bool, true, false, List, [], ◌�
 use Rattle.std.proofs.Common.{if◌then◌else◌, refl, sym, ap, ◌∙◌, subst}
 use Rattle.serde_json.specs.Written.{compact_text}
 use Rattle.aas_json_table.specs.Spelled.{text_of}
-use Rattle.aas_model_names.specs.declared.direction.Direction.{Direction}
-use Rattle.aas_model_names.specs.declared.element_name.ElementName.{ElementName}
-use Rattle.aas_model_names.specs.declared.entity_type.EntityType.{EntityType}
-use Rattle.aas_model_names.specs.declared.state_of_event.StateOfEvent.{StateOfEvent}
+use Rattle.aas_model_names.specs.declared.enumerations.Direction.{Direction}
+use Rattle.aas_model_names.specs.declared.kind.ElementName.{ElementName}
+use Rattle.aas_model_names.specs.declared.enumerations.EntityType.{EntityType}
+use Rattle.aas_model_names.specs.declared.enumerations.StateOfEvent.{StateOfEvent}
 use Rattle.aas_model_names.specs.declared.value_type.ValueType.{ValueType}
 use Rattle.aas_model.specs.declared.parts.LangText.{LangText}
 use Rattle.aas_model.specs.declared.parts.SpecificAssetId.{SpecificAssetId}

@@ -4,12 +4,13 @@ use Rattle.aas_model.specs.declared.common.Common.{Common}
 use Rattle.aas_model.specs.declared.payload.Payload.{Payload}
 use Rattle.aas_model.specs.declared.payload.Payload.TheVariants as p
 use Rattle.aas_rows.specs.Rows.{Line}
-use Rattle.aas_json_write_members.specs.Members.{Field, names, part, shown_payload}
+use Rattle.aas_json_write_members.specs.Members.{Field, fields_text, later_after, names, part, shown_payload}
 use Rattle.aas_json_write_members.specs.Puts.{PutsFields, element_fields}
 use Rattle.aas_json_write_members.specs.declared.members.Pen.{Pen}
 use Rattle.aas_json_write_members.specs.declared.members.Show.{Show}
 use Rattle.aas_json_write_members.specs.declared.stops.Stop.{Stop}
 use Rattle.aas_json_write_members.specs.declared.stops.Stop.TheVariants as stop
+use Rattle.aas_out.specs.Adds.{Adds}
 use Rattle.aas_out.specs.Told.{Told}
 use Rattle.aas_out.proofs.Adding.{adds_nothing}
 
@@ -25,22 +26,40 @@ alike false c x stop.OutputVariables = refl
 alike false c x stop.Statements = refl
 alike false c x stop.Value = refl
 
-pub part_before : (w : Show) (r : Line) (s : Stop)
+part_before : (w : Show) (r : Line) (s : Stop)
     → element_fields r.common r.payload (names (Some s)) ≡ part w r (Some s)
 unfolding part
 part_before w r s = sym (alike w.blobs r.common r.payload s)
 
-pub last_part : (w : Show) (r : Line)
+last_part : (w : Show) (r : Line)
     → element_fields r.common (shown_payload w.blobs r.payload) (names None) ≡ part w r None
 unfolding part
 last_part w r = refl
 
+-- the members of the part before a stop were put, as the trait's contract has it
+abbrev PutsPart : {K : Type 0} → Pen → Pen → Told K → Told K → List Field → Type 0
+PutsPart p q a b fs = record {
+  text : Adds p.state q.state a b (fields_text p.later fs);
+  later : q.later ≡ later_after p.later fs;
+}
+
 -- what puts the members of a part puts the part
-pub puts_part : {K : Type 0} {p q : Pen} {a b : Told K} {fs : List Field}
+puts_part : {K : Type 0} {p q : Pen} {a b : Told K} {fs : List Field}
     (w : Show) (r : Line) (next known : Option Stop)
-    → next ≡ known → fs ≡ part w r known → PutsFields p q a b fs → PutsFields p q a b (part w r next)
+    → next ≡ known → fs ≡ part w r known → PutsFields p q a b fs → PutsPart p q a b (part w r next)
 puts_part {p = p} {q = q} {a = a} {b = b} w r next known at same h =
-    subst (PutsFields p q a b) (same ∙ ap (part w r) (sym at)) h
+    let put = subst (PutsFields p q a b) (same ∙ ap (part w r) (sym at)) h in
+    record { text = put.text; later = put.later }
+
+pub puts_before : {K : Type 0} {p q : Pen} {a b : Told K} {next : Option Stop} (w : Show) (r : Line) (s : Stop)
+    → next ≡ Some s → PutsFields p q a b (element_fields r.common r.payload (names (Some s)))
+    → PutsPart p q a b (part w r next)
+puts_before {next = next} w r s at h = puts_part w r next (Some s) at (part_before w r s) h
+
+pub puts_last : {K : Type 0} {p q : Pen} {a b : Told K} {next : Option Stop} (w : Show) (r : Line)
+    → next ≡ None → PutsFields p q a b (element_fields r.common (shown_payload w.blobs r.payload) (names None))
+    → PutsPart p q a b (part w r next)
+puts_last {next = next} w r at h = puts_part w r next None at (last_part w r) h
 
 pub put_nothing : {K : Type 0} (p : Pen) (a : Told K) → PutsFields p p a a []
 put_nothing p a = record { text = adds_nothing p.state a; later = refl }

@@ -21,6 +21,10 @@ described_names =
     codes "description" ∷ codes "displayName" ∷ codes "embeddedDataSpecifications"
     ∷ codes "extensions" ∷ codes "id" ∷ codes "idShort" ∷ []
 
+-- with what stands before them
+abbrev pub head_names : List (List ℕ)
+head_names = codes "administration" ∷ codes "category" ∷ described_names
+
 -- ---- submodels
 
 abbrev pub all_attributes : Submodel → Attributes
@@ -32,9 +36,7 @@ submodel_fields s ns = map (λ n. (n, option_map compact_text (attribute (all_at
 
 -- the names of the members before the elements, and of those behind
 abbrev pub names_before : List (List ℕ)
-names_before =
-    codes "administration" ∷ codes "category"
-    ∷ (described_names ++ codes "kind" ∷ codes "modelType" ∷ codes "qualifiers" ∷ codes "semanticId" ∷ [])
+names_before = head_names ++ codes "kind" ∷ codes "modelType" ∷ codes "qualifiers" ∷ codes "semanticId" ∷ []
 
 abbrev pub names_behind : List (List ℕ)
 names_behind = codes "supplementalSemanticIds" ∷ []

@@ -3,8 +3,8 @@ ghost use Rattle.std.specs.Prelude.{◌∷◌, ◌++◌, []};
 ghost use Rattle.serde_json.specs.Written.{compact_text};
 ghost use Rattle.aas_json_mapping.specs.Documents.{spell_concept, spell_shell};
 ghost use Rattle.aas_json_mapping.specs.Parts.{spell_administration, spell_asset_information, spell_resource};
-ghost use Rattle.aas_json_write_members.specs.Heads.{described_names, head_fields, names_behind};
-ghost use Rattle.aas_json_write_members.specs.Heads.{names_before, submodel_fields};
+ghost use Rattle.aas_json_write_members.specs.Heads.{described_names, head_fields, head_names};
+ghost use Rattle.aas_json_write_members.specs.Heads.{names_before, names_behind, submodel_fields};
 ghost use Rattle.aas_json_write_members.specs.Members.{fields_text};
 ghost use Rattle.aas_json_write_members.specs.Puts.{BeginsObject, PutsFields};
 ghost use Rattle.aas_out.specs.Adds.{Adds};
@@ -164,21 +164,7 @@ pub fn pour_shell<O: TextEnd>(so_far: Pouring, shell: &Shell, out: &mut O) -> Po
 pub fn pour_concept<O: TextEnd>(so_far: Pouring, concept: &Concept, out: &mut O) -> Pouring
     ensures { Adds so_far result (O.told out.old) (O.told out.new) (compact_text (spell_concept concept.now)) }
 {
-    let begun = begin_object(so_far, out);
-    let administration = &concept.head.administration;
-    let administered = put_optional::<Administrations, O>(
-        begun,
-        key::ADMINISTRATION,
-        administration,
-        out,
-    );
-    let category = put_optional::<Texts, O>(
-        administered,
-        key::CATEGORY,
-        &concept.head.category,
-        out,
-    );
-    let described = put_described(category, &concept.head, out);
+    let described = begin_described(so_far, &concept.head, out);
     let cases = put_list::<References, O>(described, key::IS_CASE_OF, &concept.is_case_of, out);
     let typed = put_string(cases, key::MODEL_TYPE, "ConceptDescription", out);
     end_object(typed, out)
@@ -188,21 +174,7 @@ pub fn pour_concept<O: TextEnd>(so_far: Pouring, concept: &Concept, out: &mut O)
 pub fn begin_submodel<O: TextEnd>(so_far: Pouring, submodel: &Submodel, out: &mut O) -> Pen
     ensures { BeginsObject so_far result (O.told out.old) (O.told out.new) (submodel_fields submodel.now names_before) }
 {
-    let begun = begin_object(so_far, out);
-    let administration = &submodel.head.administration;
-    let administered = put_optional::<Administrations, O>(
-        begun,
-        key::ADMINISTRATION,
-        administration,
-        out,
-    );
-    let category = put_optional::<Texts, O>(
-        administered,
-        key::CATEGORY,
-        &submodel.head.category,
-        out,
-    );
-    let described = put_described(category, &submodel.head, out);
+    let described = begin_described(so_far, &submodel.head, out);
     let kind = put_optional_word(described, key::KIND, submodel.kind, out);
     let typed = put_string(kind, key::MODEL_TYPE, "Submodel", out);
     let qualified = put_list::<Qualifiers, O>(typed, key::QUALIFIERS, &submodel.qualifiers, out);
@@ -218,6 +190,22 @@ pub fn end_submodel<O: TextEnd>(pen: Pen, submodel: &Submodel, out: &mut O) -> P
     let supplemental = &submodel.semantics.supplemental_semantic_ids;
     let meant = put_list::<References, O>(pen, key::SUPPLEMENTAL_SEMANTIC_IDS, supplemental, out);
     end_object(meant, out)
+}
+
+/// Begins an object, and puts the members from `administration` to `idShort` that all documents have.
+fn begin_described<O: TextEnd>(so_far: Pouring, head: &Head, out: &mut O) -> Pen
+    ensures { BeginsObject so_far result (O.told out.old) (O.told out.new) (head_fields head.now head_names) }
+{
+    let begun = begin_object(so_far, out);
+    let administration = &head.administration;
+    let administered = put_optional::<Administrations, O>(
+        begun,
+        key::ADMINISTRATION,
+        administration,
+        out,
+    );
+    let category = put_optional::<Texts, O>(administered, key::CATEGORY, &head.category, out);
+    put_described(category, head, out)
 }
 
 /// Puts the members from `description` to `idShort` that all documents have.

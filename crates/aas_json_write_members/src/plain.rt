@@ -26,9 +26,9 @@ fn is_plain_by_lanes(text: &[u8]) -> bool
 {
     let length = text.len();
     if length < 8 {
-        plain_4(text, 0) && plain_4(text, length - 4)
+        has_plain_lanes::<4>(text, 0) && has_plain_lanes::<4>(text, length - 4)
     } else if length < 16 {
-        plain_8(text, 0) && plain_8(text, length - 8)
+        has_plain_lanes::<8>(text, 0) && has_plain_lanes::<8>(text, length - 8)
     } else {
         is_plain_long(text)
     }
@@ -42,50 +42,25 @@ fn is_plain_long(text: &[u8]) -> bool
 {
     let mut at = 0;
     while text.len() - at > 16 {
-        if !plain_16(text, at) {
+        if !has_plain_lanes::<16>(text, at) {
             return false;
         }
         at += 16;
     }
-    plain_16(text, text.len() - 16)
+    has_plain_lanes::<16>(text, text.len() - 16)
 }
 
-/// Whether none of the 4 bytes from `at` on needs an escape.
+/// Whether none of the `N` bytes from `at` on needs an escape.
 #[inline]
-fn plain_4(text: &[u8], at: usize) -> bool
-    requires { at + 4 ≤ length text.now }
-    ensures { OnTrue result (PlainBetween text.now at (at + 4)) }
+fn has_plain_lanes<const N: usize>(text: &[u8], at: usize) -> bool
+    requires few { N ≤ 64 }
+    requires within { at + N ≤ length text.now }
+    ensures { OnTrue result (PlainBetween text.now at (at + N)) }
 {
-    let lanes = u8x4::from_slice(&text[at..]);
-    let escaped = lanes.simd_eq(u8x4::splat(b'"'))
-        | lanes.simd_eq(u8x4::splat(b'\\'))
-        | lanes.simd_lt(u8x4::splat(32));
-    escaped.to_bitmask() == 0
-}
-
-/// Whether none of the 8 bytes from `at` on needs an escape.
-#[inline]
-fn plain_8(text: &[u8], at: usize) -> bool
-    requires { at + 8 ≤ length text.now }
-    ensures { OnTrue result (PlainBetween text.now at (at + 8)) }
-{
-    let lanes = u8x8::from_slice(&text[at..]);
-    let escaped = lanes.simd_eq(u8x8::splat(b'"'))
-        | lanes.simd_eq(u8x8::splat(b'\\'))
-        | lanes.simd_lt(u8x8::splat(32));
-    escaped.to_bitmask() == 0
-}
-
-/// Whether none of the 16 bytes from `at` on needs an escape.
-#[inline]
-fn plain_16(text: &[u8], at: usize) -> bool
-    requires { at + 16 ≤ length text.now }
-    ensures { OnTrue result (PlainBetween text.now at (at + 16)) }
-{
-    let lanes = u8x16::from_slice(&text[at..]);
-    let escaped = lanes.simd_eq(u8x16::splat(b'"'))
-        | lanes.simd_eq(u8x16::splat(b'\\'))
-        | lanes.simd_lt(u8x16::splat(32));
+    let lanes = Simd::<u8, N>::from_slice(&text[at..]);
+    let escaped = lanes.simd_eq(Simd::splat(b'"'))
+        | lanes.simd_eq(Simd::splat(b'\\'))
+        | lanes.simd_lt(Simd::splat(32));
     escaped.to_bitmask() == 0
 }
 

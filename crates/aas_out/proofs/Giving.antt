@@ -1,18 +1,18 @@
 -- What a link was given of a text that was put into an end that holds some of it.
 use Rattle.std.proofs.Common.{◌≡◌, ℕ, ◌+◌, List, [], ◌++◌, take, length, Option, Some, None, sym, ap, ◌∙◌, append_assoc}
-use Rattle.std.proofs.Common.{length-append, arith}
+use Rattle.std.proofs.Common.{length-append, arith, subst}
 use Rattle.std.proofs.Math.Seq.{take-append_seam}
 use Rattle.std.proofs.lemmas.List.{append_cancel_left, append-nil}
 use Rattle.std.specs.Io.KnownBytes.{append_known}
 use Rattle.aas_outside.specs.Link.{GivesFront}
 use Rattle.aas_out.specs.Told.{Grows}
 use Rattle.std.specs.declared.result.Result.{Result}
-use Rattle.std.specs.Prelude.{Ok, Err, OnOk}
+use Rattle.std.specs.Prelude.{Ok, Err, OnErr, OnOk}
 use Rattle.std.proofs.lemmas.Option.{same_Some}
 use Rattle.aas_out.specs.Held.{held_by, HoldsNothing}
 use Rattle.aas_out.specs.declared.buffered.BufferOut.{BufferOut}
 use Rattle.aas_out.proofs.Adding.{append_known-nil, grows_both}
-use Rattle.aas_out.proofs.Putting.{emptied, nothing_held}
+use Rattle.aas_out.proofs.Putting.{emptied, nothing_held, on_err}
 
 -- a front of what was put is given
 front_given : (old new : Option (List ℕ)) (held front rest text : List ℕ)
@@ -30,6 +30,12 @@ front_given (Some b) new held front rest text parts put grows =
       omega (arith, long),
       grows.1 ∙ ap (λ t. Some (b ++ t)) (sym (ap (take (length more)) whole ∙ take-append_seam more (held ++ rest))),
     )
+
+-- the same of a link, by what it is when its loan is over
+pub gives_at : {X E T : Type 0} (result : Result T E) (sent : X → Option (List ℕ)) (old : Option (List ℕ))
+    (text : List ℕ) (later new : X) → later ≡ new → GivesFront old (sent new) text → OnErr result (GivesFront old (sent later) text)
+gives_at result sent old text later new same given =
+    on_err result (subst (λ l. GivesFront old (sent l) text) (sym same) given)
 
 -- a link of which nothing is held, by what it was before
 began_with : (first old : Option (List ℕ)) (held text : List ℕ)

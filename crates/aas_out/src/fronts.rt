@@ -27,11 +27,11 @@ fn has_front(bytes: &[u8], piece: &[u8]) -> bool
     if length < 4 {
         has_short_front(bytes, piece)
     } else if length < 8 {
-        same_4(bytes, piece, 0) && same_4(bytes, piece, length - 4)
+        has_same_lanes::<4>(bytes, piece, 0) && has_same_lanes::<4>(bytes, piece, length - 4)
     } else if length < 16 {
-        same_8(bytes, piece, 0) && same_8(bytes, piece, length - 8)
+        has_same_lanes::<8>(bytes, piece, 0) && has_same_lanes::<8>(bytes, piece, length - 8)
     } else if length <= 32 {
-        same_16(bytes, piece, 0) && same_16(bytes, piece, length - 16)
+        has_same_lanes::<16>(bytes, piece, 0) && has_same_lanes::<16>(bytes, piece, length - 16)
     } else {
         has_long_front(bytes, piece)
     }
@@ -60,43 +60,22 @@ fn has_long_front(bytes: &[u8], piece: &[u8]) -> bool
 {
     let mut at = 0;
     while piece.len() - at > 16 {
-        if !same_16(bytes, piece, at) {
+        if !has_same_lanes::<16>(bytes, piece, at) {
             return false;
         }
         at += 16;
     }
-    same_16(bytes, piece, piece.len() - 16)
+    has_same_lanes::<16>(bytes, piece, piece.len() - 16)
 }
 
-/// Whether both have the same 4 bytes from `at` on.
+/// Whether both have the same `N` bytes from `at` on.
 #[inline(always)]
-fn same_4(bytes: &[u8], piece: &[u8], at: usize) -> bool
-    requires bytes { at + 4 ≤ length bytes.now }
-    requires piece { at + 4 ≤ length piece.now }
-    ensures { OnTrue result (SameBetween bytes.now piece.now at (at + 4)) }
+fn has_same_lanes<const N: usize>(bytes: &[u8], piece: &[u8], at: usize) -> bool
+    requires few { N ≤ 64 }
+    requires bytes { at + N ≤ length bytes.now }
+    requires piece { at + N ≤ length piece.now }
+    ensures { OnTrue result (SameBetween bytes.now piece.now at (at + N)) }
 {
-    let other = u8x4::from_slice(&bytes[at..]).simd_ne(u8x4::from_slice(&piece[at..]));
-    other.to_bitmask() == 0
-}
-
-/// Whether both have the same 8 bytes from `at` on.
-#[inline(always)]
-fn same_8(bytes: &[u8], piece: &[u8], at: usize) -> bool
-    requires bytes { at + 8 ≤ length bytes.now }
-    requires piece { at + 8 ≤ length piece.now }
-    ensures { OnTrue result (SameBetween bytes.now piece.now at (at + 8)) }
-{
-    let other = u8x8::from_slice(&bytes[at..]).simd_ne(u8x8::from_slice(&piece[at..]));
-    other.to_bitmask() == 0
-}
-
-/// Whether both have the same 16 bytes from `at` on.
-#[inline(always)]
-fn same_16(bytes: &[u8], piece: &[u8], at: usize) -> bool
-    requires bytes { at + 16 ≤ length bytes.now }
-    requires piece { at + 16 ≤ length piece.now }
-    ensures { OnTrue result (SameBetween bytes.now piece.now at (at + 16)) }
-{
-    let other = u8x16::from_slice(&bytes[at..]).simd_ne(u8x16::from_slice(&piece[at..]));
+    let other = Simd::<u8, N>::from_slice(&bytes[at..]).simd_ne(Simd::from_slice(&piece[at..]));
     other.to_bitmask() == 0
 }

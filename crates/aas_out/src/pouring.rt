@@ -13,6 +13,17 @@ pub enum Pouring {
 }
 
 impl Pouring {
+    /// How a pouring that went on stands behind a put.
+    #[inline(always)]
+    pub(crate) fn after(outcome: Result<(), Failed>) -> Pouring
+        ensures { outcome ≡ outcome_of result }
+    {
+        match outcome {
+            Ok(()) => Pouring::Going,
+            Err(_) => Pouring::Stopped,
+        }
+    }
+
     /// `Ok` where the pouring goes on.
     pub fn outcome(self) -> Result<(), Failed>
         ensures { result ≡ outcome_of self }
@@ -32,9 +43,6 @@ pub fn add<O: Out>(so_far: Pouring, bytes: &[u8], out: &mut O) -> Pouring
 {
     match so_far {
         Pouring::Stopped => Pouring::Stopped,
-        Pouring::Going => match out.put(bytes) {
-            Ok(()) => Pouring::Going,
-            Err(_) => Pouring::Stopped,
-        },
+        Pouring::Going => Pouring::after(out.put(bytes)),
     }
 }

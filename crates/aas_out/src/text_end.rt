@@ -37,9 +37,6 @@ pub fn add_text<O: TextEnd>(so_far: Pouring, text: &str, out: &mut O) -> Pouring
 {
     match so_far {
         Pouring::Stopped => Pouring::Stopped,
-        Pouring::Going => match out.put_text(text) {
-            Ok(()) => Pouring::Going,
-            Err(_) => Pouring::Stopped,
-        },
+        Pouring::Going => Pouring::after(out.put_text(text)),
     }
 }

@@ -3,10 +3,7 @@ use Rattle.aas_json_write_members.proofs.documents.begin_submodel.Goals as goal
 
 pub returns : goal.returns
 returns g c =
-    object_more (object_more (object_more (object_more (object_more (object_more
-    (object_more c.begin_object-begun.ensures c.put_optional-administered.ensures) c.put_optional-category.ensures)
-    c.put_described-described.ensures)
-    c.put_optional_word-kind.ensures)
-    c.put_string-typed.ensures)
+    object_more (object_more (object_more
+    (object_more c.begin_described-described.ensures c.put_optional_word-kind.ensures) c.put_string-typed.ensures)
     c.put_list-qualified.ensures)
     c.put_optional.ensures

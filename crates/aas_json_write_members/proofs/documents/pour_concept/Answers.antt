@@ -11,9 +11,6 @@ returns g c =
     (typed (codes "ConceptDescription")
     (head_attributes c.args.concept.now.head ++ concept_attributes c.args.concept.now))
     c.end_object.result (g.O.TextEnd.told c.end_object.new.out)
-    (object_more (object_more (object_more (object_more
-    (object_more c.begin_object-begun.ensures c.put_optional-administered.ensures) c.put_optional-category.ensures)
-    c.put_described-described.ensures)
-    c.put_list-cases.ensures)
-    c.put_string-typed.ensures)
+    (object_more
+    (object_more c.begin_described-described.ensures c.put_list-cases.ensures) c.put_string-typed.ensures)
     c.end_object.ensures

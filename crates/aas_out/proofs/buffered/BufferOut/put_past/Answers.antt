@@ -2,27 +2,15 @@ use Rattle.std.proofs.Common.{◌≡◌, ◌≤◌, [], ap, sym, ◌∙◌, subs
 use Rattle.std.specs.Borrow.{MutBor}
 use Rattle.aas_out.specs.Held.{held_by}
 use Rattle.aas_out.specs.LinkTold.{LinkKept, link_kept}
-use Rattle.aas_out.proofs.Putting.{emptied, flush_failed, give_is_put, kept_by, nothing_held, put_failed, told_of}
+use Rattle.aas_out.proofs.Putting.{emptied, flush_failed, give_is_put, kept_by, nothing_held, put_failed}
 use Rattle.aas_out.proofs.buffered.BufferOut.put_past.Goals as goal
 
 pub returns-in_err-flush : goal.returns-in_err-flush
 returns-in_err-flush g c =
-    let sent = λ (l : g.row.L.Denot). (g.L.Link.state l).sent in
-    let faults = λ (l : g.row.L.Denot). (g.L.Link.state l).faults in
-    let left = λ (l : g.row.L.Denot). (g.L.Link.state l).left in
-    let around = λ (l : g.row.L.Denot). (g.L.Link.state l).surroundings in
-    let old : MutBor g.row.L.Denot = c.args.self.now.link in
-    let new : MutBor g.row.L.Denot = c.flush.new.self.link in
-    put_failed c.from_residual.result (told_of g.L.Link.state old (held_by c.args.self.now))
-    (told_of g.L.Link.state new (held_by c.flush.new.self)) c.args.bytes.now (search rules)
-    (flush_failed (sent old.now) (sent new.now) (held_by c.args.self.now)
-    (held_by c.flush.new.self) c.args.bytes.now (faults old.now) (faults new.now)
-    (link_kept old.ghost_name (left old.now) (around old.now))
-    (link_kept new.ghost_name (left new.now) (around new.now)) c.in_err-flush.ensures.more.0
-    c.in_err-flush.ensures.sent c.in_err-flush.ensures.more.1
-    c.in_err-flush.ensures.call.cause.later c.in_err-flush.ensures.call.cause.failed
-    (kept_by old.ghost_name new.ghost_name (left old.now) (left new.now) (around old.now) (around new.now)
-    c.in_err-flush.ensures.same_reference c.in_err-flush.ensures.call.left c.in_err-flush.ensures.call.surroundings))
+    let flushed = c.in_err-flush.ensures in
+    put_failed c.from_residual.result _ _ c.args.bytes.now (search rules)
+    (flush_failed _ _ _ _ c.args.bytes.now _ _ _ _ flushed.more.0 flushed.sent flushed.more.1 flushed.call.cause.later
+    flushed.call.cause.failed (kept_by _ _ _ _ _ _ flushed.same_reference flushed.call.left flushed.call.surroundings))
 
 pub returns : goal.returns
 returns g c =
