@@ -270,38 +270,29 @@ entry_present c d id later name any now mid new t u v shown some begun told same
         (adds_both now mid new t u v (before_entry later name any) shown begun told)
         (ap (λ t. before_entry later name any ++ t) (same text are) ∙ ap (entry_text later name any) (sym are))
 
+shown_of : {X : Type 0} (o : Option X) (f : X → List ℕ) (text : List ℕ)
+    → option_to_list (option_map f o) ≡ text ∷ [] → option_map_or f o [] ≡ text
+shown_of None f text is = absurd (cc)
+shown_of (Some x) f text is = cc
+
 -- what is shown of a document that is there is its text
 pub shown_is : (c : Collection) (d : Documents) (id : Identifier) (text : List ℕ)
     → texts_at c d id ≡ text ∷ [] → document_shown c Deep WithBlobValue id d ≡ text
-shown_is Shells d id text is = by (fin.get d.shells id) (λ s. compact_text (spell_shell s)) text is
-  where
-    by : {X : Type 0} (o : Option X) (f : X → List ℕ) (text : List ℕ)
-        → option_to_list (option_map f o) ≡ text ∷ [] → option_map_or f o [] ≡ text
-    by None f text is = absurd (cc)
-    by (Some x) f text is = cc
-shown_is Submodels d id text is = by (fin.get d.submodels id) (λ s. compact_text (spell_submodel s)) text is
-  where
-    by : {X : Type 0} (o : Option X) (f : X → List ℕ) (text : List ℕ)
-        → option_to_list (option_map f o) ≡ text ∷ [] → option_map_or f o [] ≡ text
-    by None f text is = absurd (cc)
-    by (Some x) f text is = cc
-shown_is Concepts d id text is = by (fin.get d.concepts id) (λ s. compact_text (spell_concept s)) text is
-  where
-    by : {X : Type 0} (o : Option X) (f : X → List ℕ) (text : List ℕ)
-        → option_to_list (option_map f o) ≡ text ∷ [] → option_map_or f o [] ≡ text
-    by None f text is = absurd (cc)
-    by (Some x) f text is = cc
+shown_is Shells d id text is = shown_of (fin.get d.shells id) (λ s. compact_text (spell_shell s)) text is
+shown_is Submodels d id text is = shown_of (fin.get d.submodels id) (λ s. compact_text (spell_submodel s)) text is
+shown_is Concepts d id text is = shown_of (fin.get d.concepts id) (λ s. compact_text (spell_concept s)) text is
+
+begun_as : (later : Bool) (name named : List ℕ) → name ≡ named
+    → codes "\"" ++ (named ++ codes "\":[") ≡ (quoted named ++ 58 ∷ []) ++ 91 ∷ []
+    → comma_if later ++ (codes "\"" ++ (name ++ codes "\":[")) ≡ before_entry later named false
+begun_as later name named is plain =
+    ap (λ name. comma_if later ++ (codes "\"" ++ (name ++ codes "\":["))) is ∙ ap (λ t. comma_if later ++ t) plain
+    ∙ sym (append_assoc (comma_if later) (quoted named ++ 58 ∷ []) (91 ∷ []))
 
 -- the names have nothing to escape
 pub begun_is : (c : Collection) (later : Bool) (name : List ℕ)
     → name ≡ name_of c → comma_if later ++ (codes "\"" ++ (name ++ codes "\":[")) ≡ before_entry later (name_of c) false
 unfolding escape_byte
-begun_is Shells later name is =
-    ap (λ name. comma_if later ++ (codes "\"" ++ (name ++ codes "\":["))) is
-    ∙ sym (append_assoc (comma_if later) (quoted (name_of Shells) ++ 58 ∷ []) (91 ∷ []))
-begun_is Submodels later name is =
-    ap (λ name. comma_if later ++ (codes "\"" ++ (name ++ codes "\":["))) is
-    ∙ sym (append_assoc (comma_if later) (quoted (name_of Submodels) ++ 58 ∷ []) (91 ∷ []))
-begun_is Concepts later name is =
-    ap (λ name. comma_if later ++ (codes "\"" ++ (name ++ codes "\":["))) is
-    ∙ sym (append_assoc (comma_if later) (quoted (name_of Concepts) ++ 58 ∷ []) (91 ∷ []))
+begun_is Shells later name is = begun_as later name (name_of Shells) is refl
+begun_is Submodels later name is = begun_as later name (name_of Submodels) is refl
+begun_is Concepts later name is = begun_as later name (name_of Concepts) is refl

@@ -55,6 +55,27 @@ over : (d : Documents) (c : Collection) (level : Level)
     → page_over d c level extent ids cursor ≡ page_told d c level extent ids cursor
 over d c level extent ids cursor = ap (page_over d c level extent ids) (same cursor)
 
+-- a page whose entries and end were put is the one that is asked for
+documents_shown : (c : Collection) (level : Level) (extent : Extent) (d : Documents)
+    (s : Selection) (ids : List (List ℕ)) (more : Bool) (cursor : Option (List ℕ)) (written page : List ℕ)
+    → record { entries = map encode_utf8_all ids; more = more }
+    ≡ page_of c s.filter (option_map encode_utf8_all s.after) s.limit d
+    → cursor ≡ (if more then option_map (encode_of url_safe_no_pad) (last_or None (map encode_utf8_all ids)) else None)
+    → written ≡ page_begin cursor ++ joined (λ id. document_shown c level extent (encode_utf8_all id) d) ids
+    → page ≡ written ++ codes "]}"
+    → Ok page ≡ page_shown c level extent d s
+documents_shown Shells level extent d s =
+    told_on d.shells (passes_shell s.filter) (canonical_text shells) (λ id. document_shown Shells level extent id d)
+    (λ id. refl) (option_map encode_utf8_all s.after) s.limit
+documents_shown Submodels level extent d s =
+    told_on d.submodels (passes_submodel s.filter) (submodel_shown level extent)
+    (λ id. document_shown Submodels level extent id d)
+    (λ id. refl) (option_map encode_utf8_all s.after) s.limit
+documents_shown Concepts level extent d s =
+    told_on d.concepts (passes_concept s.filter) (canonical_text concepts)
+    (λ id. document_shown Concepts level extent id d)
+    (λ id. refl) (option_map encode_utf8_all s.after) s.limit
+
 -- the page of a plan
 pub page_planned : (c : Collection) (level : Level) (extent : Extent) (d : Documents)
     (s : Selection) (ids : List (List ℕ)) (more : Bool) (cursor : Option (List ℕ))
@@ -64,26 +85,9 @@ pub page_planned : (c : Collection) (level : Level) (extent : Extent) (d : Docum
     → page_shown c level extent d s
     ≡ Ok (page_text (λ id. document_shown c level extent (encode_utf8_all id) d) cursor
     (record { entries = ids; more = is_some cursor }))
-page_planned Shells level extent d s ids more cursor shown next =
+page_planned c level extent d s ids more cursor shown next =
     sym
-    (told_on d.shells (passes_shell s.filter) (canonical_text shells) (λ id. document_shown Shells level extent id d)
-    (λ id. refl) (option_map encode_utf8_all s.after) s.limit ids more cursor
-    (page_begin cursor ++ joined (λ id. document_shown Shells level extent (encode_utf8_all id) d) ids)
-    (page_over d Shells level extent ids cursor) shown next refl refl)
-    ∙ ap (λ t. Ok t) (over d Shells level extent ids cursor)
-page_planned Submodels level extent d s ids more cursor shown next =
-    sym
-    (told_on d.submodels (passes_submodel s.filter) (submodel_shown level extent)
-    (λ id. document_shown Submodels level extent id d)
-    (λ id. refl) (option_map encode_utf8_all s.after) s.limit ids more cursor
-    (page_begin cursor ++ joined (λ id. document_shown Submodels level extent (encode_utf8_all id) d) ids)
-    (page_over d Submodels level extent ids cursor) shown next refl refl)
-    ∙ ap (λ t. Ok t) (over d Submodels level extent ids cursor)
-page_planned Concepts level extent d s ids more cursor shown next =
-    sym
-    (told_on d.concepts (passes_concept s.filter) (canonical_text concepts)
-    (λ id. document_shown Concepts level extent id d)
-    (λ id. refl) (option_map encode_utf8_all s.after) s.limit ids more cursor
-    (page_begin cursor ++ joined (λ id. document_shown Concepts level extent (encode_utf8_all id) d) ids)
-    (page_over d Concepts level extent ids cursor) shown next refl refl)
-    ∙ ap (λ t. Ok t) (over d Concepts level extent ids cursor)
+    (documents_shown c level extent d s ids more cursor
+    (page_begin cursor ++ joined (λ id. document_shown c level extent (encode_utf8_all id) d) ids)
+    (page_over d c level extent ids cursor) shown next refl refl)
+    ∙ ap (λ t. Ok t) (over d c level extent ids cursor)

@@ -96,6 +96,12 @@ submodel_shown level extent s = canonical_text submodels (submodel_without_blobs
 abbrev pub submodel_valued : Level → Extent → Submodel → List ℕ
 submodel_valued level extent s = compact_text (submodel_value extent (submodel_core level s))
 
+abbrev pub submodel_metadata_text : Submodel → List ℕ
+submodel_metadata_text s = canonical_text submodels (submodel_metadata s)
+
+abbrev pub element_metadata_text : Element → List ℕ
+element_metadata_text e = canonical_text elements (metadata_form e)
+
 abbrev pub element_shown : Level → Extent → Element → List ℕ
 element_shown level extent e = canonical_text elements (without_blobs extent (core_form level e))
 
@@ -164,12 +170,11 @@ answer_of d (question.Shells s) = of_shells d s (canonical_text shells)
 answer_of d (question.ShellsReference s) = of_shells d s (λ x. reference_text (shell_reference x))
 answer_of d (question.ReferencesOf id span) = of_shell d id (λ s. places_page reference_text span s.submodels)
 answer_of d (question.Submodels s level extent) = of_submodels d s (submodel_shown level extent)
-answer_of d (question.SubmodelsMetadata s) = of_submodels d s (λ x. canonical_text submodels (submodel_metadata x))
+answer_of d (question.SubmodelsMetadata s) = of_submodels d s submodel_metadata_text
 answer_of d (question.SubmodelsValue s level extent) = of_submodels d s (submodel_valued level extent)
 answer_of d (question.SubmodelsReference s) = of_submodels d s (λ x. reference_text (submodel_reference x))
 answer_of d (question.Elements id span level extent) = of_children d id span (λ s. element_shown level extent)
-answer_of d (question.ElementsMetadata id span) =
-    of_children d id span (λ s e. canonical_text elements (metadata_form e))
+answer_of d (question.ElementsMetadata id span) = of_children d id span (λ s. element_metadata_text)
 answer_of d (question.ElementsReference id span) = of_children d id span (λ s e. reference_text (child_reference s e))
 answer_of d (question.Concepts s) = of_concepts d s (canonical_text concepts)
 answer_of d (question.Shell id) = of_shell d id (λ s. Ok (canonical_text shells s))
@@ -177,15 +182,14 @@ answer_of d (question.ShellReference id) = of_shell d id (λ s. Ok (reference_te
 answer_of d (question.Asset id) = of_shell d id (λ s. Ok (canonical_text asset_informations s.asset))
 answer_of d (question.Submodel id level extent) =
     of_submodel d id (λ s. Ok (submodel_shown level extent s))
-answer_of d (question.SubmodelMetadata id) = of_submodel d id (λ s. Ok (canonical_text submodels (submodel_metadata s)))
+answer_of d (question.SubmodelMetadata id) = of_submodel d id (λ s. Ok (submodel_metadata_text s))
 answer_of d (question.SubmodelValue id level extent) = of_submodel d id (λ s. Ok (submodel_valued level extent s))
 answer_of d (question.SubmodelReference id) = of_submodel d id (λ s. of_reference (reference_to s []) (lost [] s))
 answer_of d (question.SubmodelPaths id level) =
     of_submodel d id (λ s. Ok (paths_text (submodel_paths (submodel_core level s))))
 answer_of d (question.Element id p level extent) =
     of_element d id p.steps (λ e. Ok (element_shown level extent e))
-answer_of d (question.ElementMetadata id p) =
-    of_element d id p.steps (λ e. Ok (canonical_text elements (metadata_form e)))
+answer_of d (question.ElementMetadata id p) = of_element d id p.steps (λ e. Ok (element_metadata_text e))
 answer_of d (question.ElementValue id p level extent) =
     of_element d id p.steps (λ e. value_answer (value_form extent (core_form level e)))
 answer_of d (question.ElementReference id p) =

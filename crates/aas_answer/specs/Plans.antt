@@ -19,6 +19,7 @@ use Rattle.aas_answer.specs.declared.plans.Listing.{Listing}
 use Rattle.aas_answer.specs.declared.plans.Plan.{Plan}
 use Rattle.aas_answer.specs.declared.plans.Plan.TheVariants as plan
 use Rattle.aas_serialization.specs.Chosen.{chosen_environment}
+use Rattle.aas_serialization.specs.declared.choice.Chosen.{Chosen}
 
 -- what is told of the document of an identifier
 abbrev pub entry_text : Documents → Listing → List ℕ → List ℕ
@@ -31,9 +32,13 @@ listing_text d p =
     then option_map_or (entry_text d p) (slice_get p.ids 0) []
     else page_text (entry_text d p) p.cursor (record { entries = p.ids; more = is_some p.cursor })
 
+-- the text of the environment of some chosen documents
+abbrev pub environment_text : Documents → Chosen → List ℕ
+environment_text d chosen = canonical_text environments (chosen_environment d chosen)
+
 abbrev pub plan_text : Documents → Plan → List ℕ
 plan_text d (plan.Listing listing) = listing_text d listing
-plan_text d (plan.Environment chosen) = canonical_text environments (chosen_environment d chosen)
+plan_text d (plan.Environment chosen) = environment_text d chosen
 
 -- whether answers to a question are planned, which those are that tell whole documents:
 -- a page of any, one submodel, an environment

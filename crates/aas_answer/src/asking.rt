@@ -5,12 +5,12 @@ ghost use Rattle.aas_step.specs.Valid.{AreValid};
 ghost use Rattle.aas_answer.specs.Answers.{answer_of};
 ghost use Rattle.aas_answer.specs.Plans.{is_planned};
 
-use crate::answers::{asset_answer, concept_answer, shell_answer, shell_reference_answer};
+use crate::answers::{concept_answer, shell_answer};
 use crate::document_pages::documents_answer;
 use crate::element_answers::{
     element_answer, element_metadata_answer, element_paths_answer, element_value_answer,
 };
-use crate::forms::{ChildForm, DocumentForm, SubmodelForm};
+use crate::forms::{ChildForm, DocumentForm, ShellForm, SubmodelForm};
 use crate::identifier_pages::lookup_answer;
 use crate::place_pages::{children_answer, references_answer};
 use crate::planning::plan;
@@ -94,9 +94,9 @@ fn tell_unplanned<S: Lookup>(
         Question::ElementsReference { id, span } => {
             children_answer(alloc, store, id, *span, ChildForm::Reference)
         }
-        Question::Shell { id } => shell_answer(alloc, store, id),
-        Question::ShellReference { id } => shell_reference_answer(alloc, store, id),
-        Question::Asset { id } => asset_answer(alloc, store, id),
+        Question::Shell { id } => shell_answer(alloc, store, id, ShellForm::Whole),
+        Question::ShellReference { id } => shell_answer(alloc, store, id, ShellForm::Reference),
+        Question::Asset { id } => shell_answer(alloc, store, id, ShellForm::Asset),
         Question::SubmodelMetadata { id } => submodel_metadata_answer(alloc, store, id),
         Question::SubmodelValue { id, level, extent } => {
             submodel_value_answer(alloc, store, id, *level, *extent)

@@ -5,13 +5,10 @@ ghost use Rattle.std.specs.List.{join_by};
 ghost use Rattle.std.specs.Option.{option_map_or};
 ghost use Rattle.std.specs.Str.{encode_utf8_all};
 ghost use Rattle.aas_command.specs.declared.refusal.Refusal.TheVariants as refused;
-ghost use Rattle.aas_form.specs.MetadataForm.{submodel_metadata};
-ghost use Rattle.aas_json_mapping.specs.Trees.{submodels};
-ghost use Rattle.aas_json_spelling.specs.Spells.{canonical_text};
 ghost use Rattle.aas_out.specs.Adds.{Adds};
 ghost use Rattle.aas_page.specs.Pages.{page_of, shown};
 ghost use Rattle.aas_page.specs.declared.filter.Selection as asked;
-ghost use Rattle.aas_answer.specs.Answers.{submodel_valued};
+ghost use Rattle.aas_answer.specs.Answers.{submodel_metadata_text, submodel_valued};
 ghost use Rattle.aas_answer.specs.Listed.{collection_of, document_text, documents_in, submodel_text};
 
 use crate::forms::{DocumentForm, SubmodelForm};
@@ -101,10 +98,7 @@ fn pour_told<S: Store, O: Out>(
 {
     match form {
         DocumentForm::ShellReference => match store.shell(id) {
-            Some(shell) => {
-                let reference = reference_of_shell(alloc, shell)?;
-                Ok(References::pour(so_far, &reference, out))
-            }
+            Some(shell) => Ok(References::pour(so_far, &reference_of_shell(alloc, shell)?, out)),
             None => Ok(so_far),
         },
         DocumentForm::Submodel(form) => pour_submodel_told(alloc, so_far, store, id, form, out),
@@ -132,10 +126,7 @@ fn pour_submodel_told<S: Store, O: Out>(
             None => Ok(so_far),
         },
         SubmodelForm::Reference => match store.submodel_head(id) {
-            Some(head) => {
-                let reference = reference_of_submodel(alloc, head)?;
-                Ok(References::pour(so_far, &reference, out))
-            }
+            Some(head) => Ok(References::pour(so_far, &reference_of_submodel(alloc, head)?, out)),
             None => Ok(so_far),
         },
     }
@@ -149,7 +140,7 @@ fn pour_metadata<O: Out>(
     out: &mut O,
 ) -> Result<Pouring, NoMemory>
     ensures { IfOk result (λ state. Adds so_far state (O.told out.old)
-        (O.told out.new) (canonical_text submodels (submodel_metadata submodel.now))) }
+        (O.told out.new) (submodel_metadata_text submodel.now)) }
 {
     let form = metadata_of(alloc, submodel)?;
     Ok(pour_submodel_tree(so_far, &form, out))

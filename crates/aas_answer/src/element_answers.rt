@@ -2,22 +2,20 @@
 ghost use Rattle.std.specs.Prelude.{◌≡◌, ◌⊎◌, Ok, Err, IfOk, option_map};
 ghost use Rattle.aas_command.specs.declared.refusal.Refusal.TheVariants as refused;
 ghost use Rattle.aas_form.specs.CoreForm.{core_form};
-ghost use Rattle.aas_form.specs.MetadataForm.{metadata_form};
 ghost use Rattle.aas_form.specs.PathsFrom.{element_paths};
-ghost use Rattle.aas_json_mapping.specs.Trees.{elements};
 ghost use Rattle.aas_json_members.specs.Exact.{data_of};
-ghost use Rattle.aas_json_spelling.specs.Spells.{canonical_text};
 ghost use Rattle.aas_step.specs.Valid.{AreValid};
 ghost use Rattle.aas_value.specs.ValueForm.{value_form};
-ghost use Rattle.aas_answer.specs.Answers.{element_shown, of_element, paths_text, value_answer};
+ghost use Rattle.aas_answer.specs.Answers.{element_metadata_text, element_shown, of_element, paths_text, value_answer};
 
 use crate::pouring::row_in_memory;
 use crate::stored_elements::{stored_element, stored_row};
 use crate::stored_rows::StoredRows;
-use crate::texts::{element_text, paths_text, value_text};
+use crate::texts::{paths_text, value_text};
 use aas_command::Refusal;
 use aas_form::{cut_element, metadata, paths_of_element};
 use aas_json_members::Exact;
+use aas_json_write::element_text;
 use aas_model::{Element, Extent, Level, Many, NoMemory, Path, Text};
 use aas_step::valid_submodels_are_storable;
 use aas_store::Store;
@@ -54,18 +52,18 @@ pub(crate) fn element_metadata_answer<S: Store>(
     path: &Path,
 ) -> Result<Many<u8>, Refusal>
     ensures { (result ≡ Err refused.NoMemory) ⊎ (result ≡ of_element (S.documents store.now) id.now path.now.steps
-        (λ e. Ok (canonical_text elements (metadata_form e)))) }
+        (λ e. Ok (element_metadata_text e))) }
 {
     let (_, row) = stored_row(alloc, store, id, path)?;
     let alone = row.copy(alloc)?;
     let text = metadata_text(alloc, &alone);
     drop(alone);
-    Ok(text?)
+    Ok(Many::from(text?))
 }
 
 /// The text of the metadata of the element.
-fn metadata_text(alloc: Global, element: &Element) -> Result<Many<u8>, NoMemory>
-    ensures { IfOk result (λ text. text ≡ canonical_text elements (metadata_form element.now)) }
+fn metadata_text(alloc: Global, element: &Element) -> Result<Vec<u8>, NoMemory>
+    ensures { IfOk result (λ text. text.items ≡ element_metadata_text element.now) }
 {
     let form = metadata(alloc, element)?;
     let text = element_text(alloc, &form);

@@ -1,15 +1,14 @@
 // Environments of chosen documents: their plan, and their text, put into an end.
 ghost use Rattle.std.specs.Prelude.{◌≡◌, ◌⊎◌, ◌∷◌, ◌||◌, [], IfErr, IfOk, Err, Ok};
 ghost use Rattle.aas_command.specs.declared.refusal.Refusal.TheVariants as refused;
-ghost use Rattle.aas_json_mapping.specs.Trees.{environments};
-ghost use Rattle.aas_json_spelling.specs.Spells.{canonical_text};
 ghost use Rattle.aas_json_write_members.specs.Puts.{PutsFields};
 ghost use Rattle.aas_out.specs.Adds.{Adds};
-ghost use Rattle.aas_serialization.specs.Chosen.{chosen_environment, gathered};
+ghost use Rattle.aas_serialization.specs.Chosen.{gathered};
 ghost use Rattle.aas_step.specs.Valid.{AreValid};
 ghost use Rattle.aas_store.specs.Documents.{has};
 ghost use Rattle.aas_answer.specs.Answers.{of_gathered, refusal_of_gather};
 ghost use Rattle.aas_answer.specs.Arrays.{array_end, before_entry, entry_text, listed_documents, name_of, texts_at};
+ghost use Rattle.aas_answer.specs.Plans.{environment_text};
 
 use crate::pouring::pour_document;
 use aas_command::{Absent, Refusal};
@@ -29,7 +28,7 @@ pub(crate) fn plan_environment<S: Store>(
 ) -> Result<Chosen, Refusal>
     ensures planned { IfOk result (λ chosen.
         of_gathered (gathered (S.documents store.now) shells.now submodels.now concepts)
-        ≡ Ok (canonical_text environments (chosen_environment (S.documents store.now) chosen))) }
+        ≡ Ok (environment_text (S.documents store.now) chosen)) }
     ensures refused { IfErr result (λ refusal. (refusal ≡ refused.NoMemory)
         ⊎ (of_gathered (gathered (S.documents store.now) shells.now submodels.now concepts) ≡ Err refusal)) }
 {
@@ -63,7 +62,7 @@ pub(crate) fn pour_environment<S: Store, O: Out>(
 ) -> Pouring
     requires { AreValid (S.documents store.now) }
     ensures { Adds so_far result (O.told out.old) (O.told out.new)
-        (canonical_text environments (chosen_environment (S.documents store.now) chosen.now)) }
+        (environment_text (S.documents store.now) chosen.now) }
 {
     let begun = begin_object(so_far, out);
     let shells = put_documents(begun, store, Collection::Shells, &chosen.shells, out);

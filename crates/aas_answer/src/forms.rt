@@ -1,8 +1,16 @@
-// What pages tell of their entries.
+// What is told of a shell, and what pages tell of their entries.
 ghost use Rattle.std.specs.Prelude.{◌≡◌};
 ghost use Rattle.aas_answer.specs.Listed.{collection_of};
 
 use aas_model::{Collection, Extent, Level};
+
+/// What is told of a shell.
+#[derive(Clone, Copy)]
+pub(crate) enum ShellForm {
+    Whole,
+    Reference,
+    Asset,
+}
 
 /// What a page tells of each of its submodels, if it doesn't tell them whole.
 #[derive(Clone, Copy)]

@@ -1,11 +1,8 @@
 // Documents of a store, and elements of them, are put into an end.
-ghost use Rattle.std.specs.Prelude.{◌≡◌, [], IfOk};
-ghost use Rattle.std.specs.FinMap as map;
-ghost use Rattle.std.specs.Option.{option_map_or};
+ghost use Rattle.std.specs.Prelude.{◌≡◌, IfOk};
 ghost use Rattle.aas_out.specs.Adds.{Adds};
 ghost use Rattle.aas_json_write_rows.specs.Poured.{AreLow, HasRow};
 ghost use Rattle.aas_step.specs.Valid.{AreValid};
-ghost use Rattle.aas_answer.specs.Answers.{submodel_shown};
 ghost use Rattle.aas_answer.specs.Shown.{document_shown, row_shown};
 
 use crate::page_text::text_of;
@@ -38,34 +35,18 @@ pub fn pour_document<S: Store, O: TextEnd>(
             Some(shell) => pour_shell(so_far, shell, out),
             None => so_far,
         },
-        Collection::Submodels => pour_stored(so_far, store, id, level, extent, out),
+        Collection::Submodels => match store.table(id) {
+            Some(table) => {
+                valid_submodels_are_storable();
+                let rows = StoredRows::new(table);
+                pour_submodel(so_far, table.head(), &rows, level, extent, out)
+            }
+            None => so_far,
+        },
         Collection::Concepts => match store.concept(id) {
             Some(concept) => pour_concept(so_far, concept, out),
             None => so_far,
         },
-    }
-}
-
-/// Puts the text of the submodel of the identifier, at a level and to an extent; nothing where there is none.
-fn pour_stored<S: Store, O: TextEnd>(
-    so_far: Pouring,
-    store: &S,
-    id: &str,
-    level: Level,
-    extent: Extent,
-    out: &mut O,
-) -> Pouring
-    requires { AreValid (S.documents store.now) }
-    ensures { Adds so_far result (O.told out.old) (O.told out.new)
-        (option_map_or (submodel_shown level extent) (map.get (S.documents store.now).submodels id.now) []) }
-{
-    match store.table(id) {
-        Some(table) => {
-            valid_submodels_are_storable();
-            let rows = StoredRows::new(table);
-            pour_submodel(so_far, table.head(), &rows, level, extent, out)
-        }
-        None => so_far,
     }
 }
 

@@ -5,14 +5,12 @@ ghost use Rattle.std.specs.Str.{encode_utf8_all};
 ghost use Rattle.aas_command.specs.declared.refusal.Absent.TheVariants as absent;
 ghost use Rattle.aas_command.specs.declared.refusal.Refusal.TheVariants as refused;
 ghost use Rattle.aas_form.specs.CoreForm.{submodel_core};
-ghost use Rattle.aas_form.specs.MetadataForm.{submodel_metadata};
 ghost use Rattle.aas_form.specs.PathsFrom.{submodel_paths};
 ghost use Rattle.aas_form.specs.ReferenceTo.{reference_to};
-ghost use Rattle.aas_json_mapping.specs.Trees.{submodels};
-ghost use Rattle.aas_json_spelling.specs.Spells.{canonical_text};
 ghost use Rattle.serde_json.specs.Written.{compact_text};
 ghost use Rattle.aas_value.specs.ValueForm.{submodel_value};
-ghost use Rattle.aas_answer.specs.Answers.{lost, of_reference, of_submodel, paths_text, submodel_valued};
+ghost use Rattle.aas_answer.specs.Answers.{lost, of_reference, of_submodel, paths_text};
+ghost use Rattle.aas_answer.specs.Answers.{submodel_metadata_text, submodel_valued};
 
 use crate::texts::{paths_text, reference_text};
 use aas_command::{Absent, Refusal};
@@ -48,7 +46,7 @@ pub(crate) fn submodel_metadata_answer<S: Store>(
     id: &Text,
 ) -> Result<Many<u8>, Refusal>
     ensures { (result ≡ Err refused.NoMemory) ⊎ (result ≡ of_submodel (S.documents store.now) id.now
-        (λ s. Ok (canonical_text submodels (submodel_metadata s)))) }
+        (λ s. Ok (submodel_metadata_text s))) }
 {
     let Some(head) = store.submodel_head(id.as_str()) else {
         return Err(Refusal::NotFound {
@@ -60,7 +58,7 @@ pub(crate) fn submodel_metadata_answer<S: Store>(
 
 /// The text of the metadata of the submodel, for which its children don't count.
 fn metadata_text(alloc: Global, submodel: &Submodel) -> Result<Vec<u8>, NoMemory>
-    ensures { IfOk result (λ text. text.items ≡ canonical_text submodels (submodel_metadata submodel.now)) }
+    ensures { IfOk result (λ text. text.items ≡ submodel_metadata_text submodel.now) }
 {
     let form = metadata_of(alloc, submodel)?;
     submodel_text(alloc, &form)

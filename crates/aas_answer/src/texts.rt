@@ -2,14 +2,12 @@
 ghost use Rattle.std.specs.Prelude.{◌≡◌, IfOk};
 ghost use Rattle.serde_json.specs.Data.{string};
 ghost use Rattle.serde_json.specs.Written.{compact_text};
-ghost use Rattle.aas_json_mapping.specs.Trees.{elements};
 ghost use Rattle.aas_json_members.specs.Exact.{data_of};
-ghost use Rattle.aas_json_spelling.specs.Spells.{canonical_text};
 ghost use Rattle.aas_path.specs.PathText.{path_text};
 ghost use Rattle.aas_answer.specs.Answers.{paths_text, reference_text};
 
 use aas_json_members::{Array, Exact, string_value};
-use aas_model::{Element, Many, NoMemory, Path, Reference};
+use aas_model::{Many, NoMemory, Path, Reference};
 use aas_path::print_path;
 use std::alloc::Global;
 
@@ -18,13 +16,6 @@ pub(crate) fn reference_text(alloc: Global, reference: &Reference) -> Result<Man
     ensures { IfOk result (λ text. text ≡ reference_text reference.now) }
 {
     Ok(Many::from(aas_json_write::reference_text(alloc, reference)?))
-}
-
-/// The canonical text of an element.
-pub(crate) fn element_text(alloc: Global, element: &Element) -> Result<Many<u8>, NoMemory>
-    ensures { IfOk result (λ text. text ≡ canonical_text elements element.now) }
-{
-    Ok(Many::from(aas_json_write::element_text(alloc, element)?))
 }
 
 /// The compact text of a JSON value.

@@ -1,5 +1,5 @@
 -- What the places of a list of identifiers say of their set.
-use Rattle.std.proofs.Common.{◌≡◌, ℕ, zero, suc, ◌<◌, ◌≤◌, ◌-◌, ◌⊎◌, inl, inr, T, List, [], ◌∷◌, map, length, get_or}
+use Rattle.std.proofs.Common.{◌≡◌, ℕ, zero, suc, ◌<◌, ◌≤◌, ◌-◌, T, List, [], ◌∷◌, map, length, get_or}
 use Rattle.std.proofs.Common.{slice_get, cond, Some, None, Result, Ok, Err, MatchResult, OnOk, OnErr, option_map, Bool}
 use Rattle.std.proofs.Common.{true, false, not, drop, refl, sym, ap, ◌∙◌, subst, arith}
 use Rattle.std.specs.Prelude.{filter, ⊤}
@@ -11,46 +11,18 @@ use Rattle.std.specs.FinMap as fin
 use Rattle.std.specs.FinMap.{FinMap, entries-from_sorted, entries_sorted, entries-insert, get-entries, get-from_sorted}
 use Rattle.std.specs.FinMap.{get-remove, same_map}
 use Rattle.std.specs.Ordering.{is_le, is_lt, ordering_index, ordering_reverse, eq_by_cmp}
-use Rattle.std.proofs.lemmas.Bool.{cases_order}
 use Rattle.std.proofs.lemmas.Cmp.{nat_list_cmp_total}
 use Rattle.std.proofs.lemmas.List.{length-map}
 use Rattle.std.proofs.lemmas.Option.{slice_get-map, slice_get_within, slice_get-get_or, get_or_from_slice_get}
-use Rattle.std.proofs.lemmas.Option.{same_Some}
 use Rattle.std.proofs.lemmas.Simd.{map-map}
 use Rattle.std.specs.declared.cmp.Ordering.{Ordering}
 use Rattle.std.specs.declared.cmp.Ordering.TheVariants.{Less, Equal, Greater}
 use Rattle.aas_store.specs.Documents.{is_above}
 use Rattle.aas_store.specs.Places.{IsAt, IsGapFor}
-use Rattle.aas_store.proofs.Ordered.{order, same_id, comparisons_rise, rising, sorted_removed, put_between}
+use Rattle.aas_store.proofs.Ordered.{order, same_id, keys_compare, not_above_stand_first, rising, sorted_removed, put_between}
 use Rattle.aas_store.proofs.Ordered.{found_removed}
-use Rattle.aas_store.proofs.Shelves.{gap_behind, stands_for}
+use Rattle.aas_store.proofs.Shelves.{gap_behind, map-insert, map-remove, mapped_at, some_at, stands_for}
 use Rattle.aas_discovery.specs.Ids.{marks}
-
--- ---- lists
-
-mapped_at : {X Y : Type 0} (f : X → Y) (xs : List X) (i : ℕ) (y : Y) → slice_get (map f xs) i ≡ Some y
-    → (x : X) × (slice_get xs i ≡ Some x) × (f x ≡ y)
-mapped_at f [] i y at = absurd (cc)
-mapped_at f (x ∷ xs) zero y at = (x, refl, same_Some (f x) y at)
-mapped_at f (x ∷ xs) (suc i) y at = mapped_at f xs i y at
-
-some_at : {X : Type 0} (xs : List X) (i : ℕ) → i < length xs → (x : X) × (slice_get xs i ≡ Some x)
-some_at [] i lt = absurd (omega arith)
-some_at (x ∷ xs) zero lt = (x, refl)
-some_at (x ∷ xs) (suc i) lt = some_at xs i (omega arith)
-
-map-insert : {X Y : Type 0} (f : X → Y) (xs : List X) (i : ℕ) (x : X) → i ≤ length xs
-    → map f (insert xs i x) ≡ insert (map f xs) i (f x)
-map-insert f [] zero x le = refl
-map-insert f [] (suc i) x le = absurd (omega arith)
-map-insert f (y ∷ xs) zero x le = refl
-map-insert f (y ∷ xs) (suc i) x le = ap (λ ys. f y ∷ ys) (map-insert f xs i x (omega arith))
-
-map-remove : {X Y : Type 0} (f : X → Y) (xs : List X) (i : ℕ) → map f (remove xs i) ≡ remove (map f xs) i
-map-remove f [] zero = refl
-map-remove f [] (suc i) = refl
-map-remove f (y ∷ xs) zero = refl
-map-remove f (y ∷ xs) (suc i) = ap (λ ys. f y ∷ ys) (map-remove f xs i)
 
 -- ---- a list of identifiers and its set
 
@@ -86,15 +58,8 @@ module _ (ids : List (List ℕ)) (sorted : T (fin.is_sorted order (marks ids))) 
   mark_read i d lt = slice_get-map _ ids i ∙ ap (option_map _) (slice_get-get_or ids i d lt)
 
   rises : (id : List ℕ) → IsNonDecreasingBy (λ own. ordering_index (order (encode_utf8_all own) id)) ids
-  rises id i j d le lt = by (cases_order i j)
-    where
-      by : (i ≡ j) ⊎ ((i < j) ⊎ (j < i)) → ordering_index (order (encode_utf8_all (get_or ids i d)) id)
-          ≤ ordering_index (order (encode_utf8_all (get_or ids j d)) id)
-      by (inl same) = subst (λ j. ordering_index (order (encode_utf8_all (get_or ids i d)) id)
-          ≤ ordering_index (order (encode_utf8_all (get_or ids j d)) id)) same (omega arith)
-      by (inr (inl less)) = comparisons_rise _ _ id (rising (marks ids) i j _ _ sorted less
-          (mark_read i d (omega arith)) (mark_read j d lt))
-      by (inr (inr more)) = absurd (omega arith)
+  rises id = keys_compare encode_utf8_all id ids
+      (λ i j d less lt. rising (marks ids) i j _ _ sorted less (mark_read i d (omega arith)) (mark_read j d lt))
 
   compared : (i : ℕ) (e : List ℕ × ⊤) (id : List ℕ) (at : slice_get (fin.entries m) i ≡ Some e)
       → order (encode_utf8_all (get_or ids i (id_at i e at).0)) id ≡ order e.0 id
@@ -166,14 +131,7 @@ module _ (ids : List (List ℕ)) (sorted : T (fin.is_sorted order (marks ids))) 
       )
 
   pub not_above_first : (a : List ℕ) → IsPartitionedBy (λ own. is_le (order (encode_utf8_all own) a)) ids
-  not_above_first a i j d le lt holds = by _ _ (rises a i j d le lt) holds
-    where
-      by : (r s : Ordering) → ordering_index r ≤ ordering_index s → is_le s ≡ true → is_le r ≡ true
-      by Less s le e = refl
-      by Equal s le e = refl
-      by Greater Less le e = absurd (omega arith)
-      by Greater Equal le e = absurd (omega arith)
-      by Greater Greater le e = e
+  not_above_first a = not_above_stand_first encode_utf8_all a ids (rises a)
 
 -- ---- those above another one
 

@@ -1,17 +1,19 @@
 -- What the definitions say of a few references.
 use Rattle.std.specs.Prelude.{◌≡◌, ℕ, List, [], ◌∷◌, true, false, if◌then◌else◌, codes, refl, Option, Some, None}
 use Rattle.std.specs.Prelude.{Result, Ok}
-use Rattle.aas_constraint_rules.specs.Sites.{Own}
+use Rattle.std.specs.List.{list_all, list_any}
+use Rattle.aas_model.specs.Common.{no_attributes}
+use Rattle.aas_constraint_rules.specs.Sites.{Own, of_payload}
 use Rattle.aas_model.specs.declared.path.PathStep.TheVariants.{Name, Place}
-use Rattle.aas_model.specs.declared.element.Role.TheVariants.{Member}
 use Rattle.aas_model.specs.declared.payload.Payload.{Payload}
 use Rattle.aas_model.specs.declared.payload.Payload.TheVariants as p
 use Rattle.aas_model.specs.declared.reference.Key.{Key}
 use Rattle.aas_model.specs.declared.reference.Reference.{Reference}
 use Rattle.aas_model_names.specs.declared.collection.Collection.TheVariants.{Submodels}
-use Rattle.aas_model_names.specs.declared.element_name.ElementName.TheVariants as element_name
-use Rattle.aas_model_names.specs.declared.key_type.KeyType.{KeyType}
-use Rattle.aas_model_names.specs.declared.key_type.KeyType.TheVariants as key_type
+use Rattle.aas_model_names.specs.declared.kind.ElementName.TheVariants as element_name
+use Rattle.aas_model_names.specs.declared.kind.KeyType.{KeyType}
+use Rattle.aas_model_names.specs.declared.kind.KeyType.TheVariants as key_type
+use Rattle.aas_model_names.specs.declared.kind.Kind.{Kind}
 use Rattle.aas_model_names.specs.declared.kind.Kind.TheVariants as kind
 use Rattle.aas_model_names.specs.declared.value_type.ValueType.TheVariants as value_type
 use Rattle.aas_store.specs.declared.spot.Spot.{Spot}
@@ -36,32 +38,26 @@ name_elsewhere = refl
 
 -- ---- types of later keys
 
-pub own_class : admits key_type.Property kind.Property ≡ true
-own_class = refl
+-- what a later key of each type may name: its own class, a subclass, an annotated relationship, any element
+pub admitted : list_all (λ (e : KeyType × Kind). admits e.0 e.1) (
+    (key_type.Property, kind.Property)
+    ∷ (key_type.DataElement, kind.Blob)
+    ∷ (key_type.RelationshipElement, kind.AnnotatedRelationshipElement)
+    ∷ (key_type.EventElement, kind.BasicEventElement)
+    ∷ (key_type.Referable, kind.Entity)
+    ∷ [])
+    ≡ true
+admitted = refl
 
-pub other_class : admits key_type.Property kind.Range ≡ false
-other_class = refl
-
-pub superclass : admits key_type.DataElement kind.Blob ≡ true
-superclass = refl
-
-pub no_superclass : admits key_type.DataElement kind.Capability ≡ false
-no_superclass = refl
-
-pub annotated : admits key_type.RelationshipElement kind.AnnotatedRelationshipElement ≡ true
-annotated = refl
-
-pub subclass : admits key_type.AnnotatedRelationshipElement kind.RelationshipElement ≡ false
-subclass = refl
-
-pub event : admits key_type.EventElement kind.BasicEventElement ≡ true
-event = refl
-
-pub each_element : admits key_type.Referable kind.Entity ≡ true
-each_element = refl
-
-pub no_element : admits key_type.Identifiable kind.Entity ≡ false
-no_element = refl
+-- and what it may not: another class, one that is no subclass, a superclass, what no element has for its class
+pub not_admitted : list_any (λ (e : KeyType × Kind). admits e.0 e.1) (
+    (key_type.Property, kind.Range)
+    ∷ (key_type.DataElement, kind.Capability)
+    ∷ (key_type.AnnotatedRelationshipElement, kind.RelationshipElement)
+    ∷ (key_type.Identifiable, kind.Entity)
+    ∷ [])
+    ≡ false
+not_admitted = refl
 
 -- ---- keys behind that of a submodel: L leads to a list of rank 4, and 0 from there to its first child
 
@@ -109,19 +105,8 @@ fragment_of_the_submodel = refl
 -- ---- references in the order of canonical text
 
 abbrev element : Option Reference → List Reference → Payload → Own
-element main others payload = record {
-  common = record {
-    id_short = None;
-    category = None;
-    description = [];
-    display_name = [];
-    extensions = [];
-    embedded_data_specifications = [];
-    semantics = record { semantic_id = main; supplemental_semantic_ids = others };
-    qualifiers = [];
-  };
-  payload = payload;
-  role = Member;
+element main others payload = record (of_payload payload) {
+  common = record no_attributes { semantics = record { semantic_id = main; supplemental_semantic_ids = others } };
 }
 
 -- first, second, semanticId, supplementalSemanticIds

@@ -20,8 +20,8 @@ use Rattle.aas_model_names.specs.KeyTypeNames as key_names
 use Rattle.aas_model_names.specs.KindNames as kind_names
 use Rattle.aas_model_names.specs.declared.collection.Collection.{Collection}
 use Rattle.aas_model_names.specs.declared.collection.Collection.TheVariants.{Shells, Submodels, Concepts}
-use Rattle.aas_model_names.specs.declared.key_type.KeyType.{KeyType}
-use Rattle.aas_model_names.specs.declared.key_type.KeyType.TheVariants as key_type
+use Rattle.aas_model_names.specs.declared.kind.KeyType.{KeyType}
+use Rattle.aas_model_names.specs.declared.kind.KeyType.TheVariants as key_type
 use Rattle.aas_model_names.specs.declared.kind.Kind.{Kind}
 use Rattle.aas_model_names.specs.declared.kind.Kind.TheVariants as kind
 use Rattle.aas_reference.specs.Rules.{is_digit, is_external, is_fragment}

@@ -1,35 +1,19 @@
 -- A walk over the identifiers of a set, in their order.
-use Rattle.std.proofs.Common.{◌≡◌, suc, ◌<◌, T, List, [], ◌∷◌, ◌++◌, length, map, flat_map, Option, Some, None, refl, sym, ap, ◌∙◌, arith, append_assoc}
+use Rattle.std.proofs.Common.{◌≡◌, suc, ◌<◌, List, [], ◌∷◌, ◌++◌, length, flat_map, Option, Some, None, refl, sym, ap, ◌∙◌, arith, append_assoc}
 use Rattle.std.specs.FinMap as fin
 use Rattle.std.specs.FinMap.{entries_sorted}
-use Rattle.std.specs.FinMap.Entries.{below_all, is_sorted}
-use Rattle.std.specs.List.{AllByRecursion, cons_option, filter_map}
-use Rattle.std.specs.List.Sorted.{IsStrictlySortedBy}
+use Rattle.std.specs.List.{cons_option, filter_map}
 use Rattle.std.specs.Option.{option_to_list}
-use Rattle.std.specs.Ordering.{is_lt}
-use Rattle.std.specs.declared.cmp.Ordering.TheVariants.{Less}
 use Rattle.std.proofs.lemmas.Grind.{flat_map-append}
 use Rattle.std.proofs.lemmas.List.{append-nil}
 use Rattle.std.proofs.lemmas.List.Elements.{filter_map-append}
 use Rattle.aas_model.specs.declared.reference.Reference.{Reference}
 use Rattle.aas_store.specs.Documents.{Documents, Identifier, Map, first_above}
-use Rattle.aas_store.proofs.Above.{above, all_above_none, next, none_above}
-use Rattle.aas_store.proofs.Ordered.{less, order, parts}
+use Rattle.aas_store.proofs.Above.{above, all_above_none, keys_rise, next, none_above}
 use Rattle.aas_serialization.specs.Reaches.{Set}
 use Rattle.aas_serialization.specs.Taken.{TakesAlong}
 use Rattle.aas_serialization.specs.declared.taken.Taken.{Taken}
 use Rattle.aas_serialization.proofs.Along.{along_both, along_nothing, along_same}
-
--- ---- the identifiers rise
-
-keys_above : {X : Type 0} (id : Identifier) (es : List (Identifier × X)) → T (below_all order id es) → AllByRecursion (λ other. order id other ≡ Less) (map (λ (e : Identifier × X). e.0) es)
-keys_above id [] h = tt
-keys_above id (e ∷ es) h = let both = parts (is_lt (order id e.0)) (below_all order id es) h in (less (order id e.0) both.0, keys_above id es both.1)
-
-keys_rise : {X : Type 0} (es : List (Identifier × X)) → T (is_sorted order es) → IsStrictlySortedBy order (map (λ (e : Identifier × X). e.0) es)
-unfolding IsStrictlySortedBy
-keys_rise [] h = tt
-keys_rise (e ∷ es) h = let both = parts (below_all order e.0 es) (is_sorted order es) h in (keys_above e.0 es both.0, keys_rise es both.1)
 
 -- ---- those up to one, and those above it
 

@@ -15,8 +15,8 @@ use Rattle.aas_model.specs.declared.documents.Concept.{Concept}
 use Rattle.aas_model.specs.declared.reference.Key.{Key}
 use Rattle.aas_model.specs.declared.reference.Reference.{Reference, out-Reference}
 use Rattle.aas_model_names.specs.declared.collection.Collection.TheVariants.{Concepts}
-use Rattle.aas_model_names.specs.declared.key_type.KeyType.{KeyType}
-use Rattle.aas_model_names.specs.declared.key_type.KeyType.TheVariants as key_type
+use Rattle.aas_model_names.specs.declared.kind.KeyType.{KeyType}
+use Rattle.aas_model_names.specs.declared.kind.KeyType.TheVariants as key_type
 use Rattle.aas_store.specs.Documents.{Documents, Identifier, Map, has, ids}
 use Rattle.aas_serialization.specs.Reached.{contains_cases, contains_first, contains_more, contains_none, equal_from}
 use Rattle.aas_serialization.specs.Reached.{reached, reached_is, same_reached}

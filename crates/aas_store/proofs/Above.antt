@@ -26,7 +26,7 @@ keys_above : {X : Type 0} (id : Identifier) (es : List (Identifier × X)) → T 
 keys_above id [] h = tt
 keys_above id (e ∷ es) h = let both = parts (is_lt (order id e.0)) (below_all order id es) h in (less (order id e.0) both.0, keys_above id es both.1)
 
-keys_rise : {X : Type 0} (es : List (Identifier × X)) → T (is_sorted order es) → IsStrictlySortedBy order (map (λ (e : Identifier × X). e.0) es)
+pub keys_rise : {X : Type 0} (es : List (Identifier × X)) → T (is_sorted order es) → IsStrictlySortedBy order (map (λ (e : Identifier × X). e.0) es)
 unfolding IsStrictlySortedBy
 keys_rise [] h = tt
 keys_rise (e ∷ es) h = let both = parts (below_all order e.0 es) (is_sorted order es) h in (keys_above e.0 es both.0, keys_rise es both.1)

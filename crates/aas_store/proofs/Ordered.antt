@@ -1,12 +1,15 @@
 -- Lists of entries whose identifiers rise strictly.
-use Rattle.std.proofs.Common.{◌≡◌, ℕ, zero, suc, ◌<◌, ◌≤◌, Bool, true, false, cond, ◌&&◌, T, List, [], ◌∷◌, length, slice_get, slice_set, Some, None, refl, sym, ap, ◌∙◌, subst, arith}
+use Rattle.std.proofs.Common.{◌≡◌, ℕ, zero, suc, ◌<◌, ◌≤◌, ◌⊎◌, inl, inr, Bool, true, false, cond, ◌&&◌, T, List, [], ◌∷◌}
+use Rattle.std.proofs.Common.{length, get_or, slice_get, slice_set, Some, None, refl, sym, ap, ◌∙◌, subst, arith}
 use Rattle.std.specs.List.{insert, remove}
+use Rattle.std.specs.List.Sorted.{IsNonDecreasingBy, IsPartitionedBy}
 use Rattle.std.specs.FinMap.{find, put, is_sorted, nat_cmp-IsAntisymmetric, slice_cmp-IsAntisymmetric}
 use Rattle.std.specs.FinMap.Entries.{below_all}
-use Rattle.std.specs.Ordering.{nat_cmp, is_lt, is_eq, eq_by_cmp, ordering_reverse, ordering_index}
+use Rattle.std.specs.Ordering.{nat_cmp, is_le, is_lt, is_eq, eq_by_cmp, ordering_reverse, ordering_index}
 use Rattle.std.specs.declared.cmp.Ordering.{Ordering}
 use Rattle.std.specs.declared.cmp.Ordering.TheVariants.{Less, Equal, Greater}
 use Rattle.std.specs.Cmp.Lexicographic.{slice_cmp}
+use Rattle.std.proofs.lemmas.Bool.{cases_order}
 use Rattle.std.proofs.lemmas.Cmp.{nat_list_cmp_total, tied_itself}
 use Rattle.std.proofs.lemmas.Option.{same_Some}
 
@@ -52,6 +55,31 @@ comparisons_rise p q a e = by (order q a) refl
         top Less = omega arith
         top Equal = omega arith
         top Greater = omega arith
+
+-- keys that rise along a list compare with another one by rising
+pub keys_compare : {X : Type 0} (key : X → List ℕ) (a : List ℕ) (xs : List X)
+    → ((i j : ℕ) (d : X) → i < j → j < length xs → order (key (get_or xs i d)) (key (get_or xs j d)) ≡ Less)
+    → IsNonDecreasingBy (λ x. ordering_index (order (key x) a)) xs
+keys_compare key a xs rise i j d le lt = by (cases_order i j)
+  where
+    by : (i ≡ j) ⊎ ((i < j) ⊎ (j < i))
+        → ordering_index (order (key (get_or xs i d)) a) ≤ ordering_index (order (key (get_or xs j d)) a)
+    by (inl same) = subst (λ j. ordering_index (order (key (get_or xs i d)) a)
+        ≤ ordering_index (order (key (get_or xs j d)) a)) same (omega arith)
+    by (inr (inl before)) = comparisons_rise _ _ a (rise i j d before lt)
+    by (inr (inr behind)) = absurd (omega arith)
+
+-- those that aren't above another one stand first
+pub not_above_stand_first : {X : Type 0} (key : X → List ℕ) (a : List ℕ) (xs : List X)
+    → IsNonDecreasingBy (λ x. ordering_index (order (key x) a)) xs → IsPartitionedBy (λ x. is_le (order (key x) a)) xs
+not_above_stand_first key a xs rises i j d le lt holds = by _ _ (rises i j d le lt) holds
+  where
+    by : (r s : Ordering) → ordering_index r ≤ ordering_index s → is_le s ≡ true → is_le r ≡ true
+    by Less s le e = refl
+    by Equal s le e = refl
+    by Greater Less le e = absurd (omega arith)
+    by Greater Equal le e = absurd (omega arith)
+    by Greater Greater le e = e
 
 -- ---- lists in order
 

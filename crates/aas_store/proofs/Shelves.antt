@@ -20,16 +20,16 @@ use Rattle.aas_store.specs.Documents.{first_above, is_above}
 use Rattle.aas_store.specs.Lent.{with_document, with_document_at}
 use Rattle.aas_store.specs.Places.{IsAt, IsGapFor}
 use Rattle.aas_store.specs.Shelf.{pairs}
-use Rattle.aas_store.proofs.Ordered.{order, same_id, greater, comparisons_rise, rising, sorted_removed, found_none, found_at, put_at, put_between, found_removed}
+use Rattle.aas_store.proofs.Ordered.{order, same_id, greater, keys_compare, not_above_stand_first, rising, sorted_removed, found_none, found_at, put_at, put_between, found_removed}
 
 -- ---- lists
 
-mapped_at : {X Y : Type 0} (f : X → Y) (xs : List X) (i : ℕ) (y : Y) → slice_get (map f xs) i ≡ Some y → (x : X) × (slice_get xs i ≡ Some x) × (f x ≡ y)
+pub mapped_at : {X Y : Type 0} (f : X → Y) (xs : List X) (i : ℕ) (y : Y) → slice_get (map f xs) i ≡ Some y → (x : X) × (slice_get xs i ≡ Some x) × (f x ≡ y)
 mapped_at f [] i y at = absurd (cc)
 mapped_at f (x ∷ xs) zero y at = (x, refl, same_Some (f x) y at)
 mapped_at f (x ∷ xs) (suc i) y at = mapped_at f xs i y at
 
-some_at : {X : Type 0} (xs : List X) (i : ℕ) → i < length xs → (x : X) × (slice_get xs i ≡ Some x)
+pub some_at : {X : Type 0} (xs : List X) (i : ℕ) → i < length xs → (x : X) × (slice_get xs i ≡ Some x)
 some_at [] i lt = absurd (omega arith)
 some_at (x ∷ xs) zero lt = (x, refl)
 some_at (x ∷ xs) (suc i) lt = some_at xs i (omega arith)
@@ -42,13 +42,13 @@ find_at_point p (x ∷ xs) (suc i) fails passes =
     ap (λ b. cond b (Some x) (find p xs)) (fails zero x (omega arith) refl)
     ∙ find_at_point p xs i (λ j x lt at. fails (suc j) x (omega arith) at) passes
 
-map-insert : {X Y : Type 0} (f : X → Y) (xs : List X) (i : ℕ) (x : X) → i ≤ length xs → map f (insert xs i x) ≡ insert (map f xs) i (f x)
+pub map-insert : {X Y : Type 0} (f : X → Y) (xs : List X) (i : ℕ) (x : X) → i ≤ length xs → map f (insert xs i x) ≡ insert (map f xs) i (f x)
 map-insert f [] zero x le = refl
 map-insert f [] (suc i) x le = absurd (omega arith)
 map-insert f (y ∷ xs) zero x le = refl
 map-insert f (y ∷ xs) (suc i) x le = ap (λ ys. f y ∷ ys) (map-insert f xs i x (omega arith))
 
-map-remove : {X Y : Type 0} (f : X → Y) (xs : List X) (i : ℕ) → map f (remove xs i) ≡ remove (map f xs) i
+pub map-remove : {X Y : Type 0} (f : X → Y) (xs : List X) (i : ℕ) → map f (remove xs i) ≡ remove (map f xs) i
 map-remove f [] zero = refl
 map-remove f [] (suc i) = refl
 map-remove f (y ∷ xs) zero = refl
@@ -148,12 +148,8 @@ module _ {D : Type 0} (entries : List (Entry D)) (sorted : T (fin.is_sorted orde
   pair_read i d lt = slice_get-map _ entries i ∙ ap (option_map _) (read i d lt)
 
   pub rises : (id : List ℕ) → IsNonDecreasingBy (λ e. ordering_index (order (encode_utf8_all e.id) id)) entries
-  rises id i j d le lt = by (cases_order i j)
-    where
-      by : (i ≡ j) ⊎ ((i < j) ⊎ (j < i)) → ordering_index (order (encode_utf8_all (get_or entries i d).id) id) ≤ ordering_index (order (encode_utf8_all (get_or entries j d).id) id)
-      by (inl same) = subst (λ j. ordering_index (order (encode_utf8_all (get_or entries i d).id) id) ≤ ordering_index (order (encode_utf8_all (get_or entries j d).id) id)) same (omega arith)
-      by (inr (inl less)) = comparisons_rise _ _ id (rising (pairs entries) i j _ _ sorted less (pair_read i d (omega arith)) (pair_read j d lt))
-      by (inr (inr more)) = absurd (omega arith)
+  rises id = keys_compare (λ e. encode_utf8_all e.id) id entries
+      (λ i j d less lt. rising (pairs entries) i j _ _ sorted less (pair_read i d (omega arith)) (pair_read j d lt))
 
   -- what is read of an entry of the map is read of the shelf's
   compared : (i : ℕ) (p : List ℕ × D) (id : List ℕ) (at : slice_get (fin.entries m) i ≡ Some p) → order (encode_utf8_all (get_or entries i (entry_at i p at).0).id) id ≡ order p.0 id
@@ -194,14 +190,7 @@ module _ {D : Type 0} (entries : List (Entry D)) (sorted : T (fin.is_sorted orde
   id_at place = ap (λ ks. slice_get ks place) ids_are ∙ slice_get-map _ entries place
 
   pub not_above_first : (a : List ℕ) → IsPartitionedBy (λ e. is_le (order (encode_utf8_all e.id) a)) entries
-  not_above_first a i j d le lt holds = by _ _ (rises a i j d le lt) holds
-    where
-      by : (r s : Ordering) → ordering_index r ≤ ordering_index s → is_le s ≡ true → is_le r ≡ true
-      by Less s le e = refl
-      by Equal s le e = refl
-      by Greater Less le e = absurd (omega arith)
-      by Greater Equal le e = absurd (omega arith)
-      by Greater Greater le e = e
+  not_above_first a = not_above_stand_first (λ e. encode_utf8_all e.id) a entries (rises a)
 
   above_where_not : (a k : List ℕ) (b : Bool) → is_le (order k a) ≡ b → is_above (Some a) k ≡ not b
   above_where_not a k b e = ap is_lt (nat_list_cmp_total.antisymm a k) ∙ by (order k a) ∙ ap not e

@@ -2,10 +2,8 @@ use Rattle.std.proofs.Common.{[], sym, ap, ◌∙◌}
 use Rattle.std.specs.FinMap as map
 use Rattle.std.specs.Option.{option_map_or}
 use Rattle.std.proofs.lemmas.Result.{IfOk-weaker}
-use Rattle.aas_form.specs.MetadataForm.{submodel_metadata}
-use Rattle.aas_json_mapping.specs.Trees.{submodels}
-use Rattle.aas_json_spelling.specs.Spells.{canonical_text}
 use Rattle.aas_out.proofs.Adding.{adds_same}
+use Rattle.aas_answer.specs.Answers.{submodel_metadata_text}
 use Rattle.aas_answer.specs.Listed.{submodel_text}
 use Rattle.aas_answer.proofs.Entries.{adds_none}
 use Rattle.aas_answer.proofs.Pages.{told_of_head}
@@ -25,8 +23,7 @@ returns-in-Some-submodel_head g c =
     let u = g.O.Out.told c.pour_metadata.new.out in
     IfOk-weaker c.pour_metadata.result _ _
     (λ state told. adds_same c.args.so_far state t u _ _ told
-    (told_of_head (λ s. canonical_text submodels (submodel_metadata s))
-    [] found c.in-Some-submodel_head.head.now c.in-Some-submodel_head.ensures
+    (told_of_head submodel_metadata_text [] found c.in-Some-submodel_head.head.now c.in-Some-submodel_head.ensures
     ∙ ap (λ form. option_map_or (submodel_text form) found []) (sym c.in-Metadata.is)))
     c.pour_metadata.ensures
 

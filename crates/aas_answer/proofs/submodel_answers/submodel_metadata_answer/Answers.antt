@@ -2,17 +2,14 @@ use Rattle.std.proofs.Common.{List, ℕ, Ok, Err, inr, ap, ◌∙◌}
 use Rattle.std.specs.FinMap as map
 use Rattle.aas_command.specs.declared.refusal.Absent.TheVariants as absent
 use Rattle.aas_command.specs.declared.refusal.Refusal.TheVariants.{NotFound}
-use Rattle.aas_form.specs.MetadataForm.{submodel_metadata}
-use Rattle.aas_json_mapping.specs.Trees.{submodels}
-use Rattle.aas_json_spelling.specs.Spells.{canonical_text}
 use Rattle.aas_model.specs.declared.documents.Submodel.{Submodel}
 use Rattle.aas_answer.proofs.Pages.{told_of_head}
 use Rattle.aas_answer.proofs.submodel_answers.submodel_metadata_answer.Goals as goal
-use Rattle.aas_answer.specs.Answers.{Answer}
+use Rattle.aas_answer.specs.Answers.{Answer, submodel_metadata_text}
 use Rattle.std.specs.Option.{option_map_or}
 
 tell : Submodel → Answer
-tell s = Ok (canonical_text submodels (submodel_metadata s))
+tell s = Ok (submodel_metadata_text s)
 
 pub returns : goal.returns
 unfolding tell
