@@ -20,7 +20,11 @@ pub record Reaches (listed : List Parameter) (all left : List Pair) (given : Giv
   pub bad : (p : Parameter) → IsFirstBad given (filter_map (setting_of listed) left) p
       → IsFirstBad nothing_given (filter_map (setting_of listed) all) p
 
-module _ (listed : List Parameter) (all left : List Pair) (pair : Pair) (given : Given) (r : Reaches listed all (pair ∷ left) given) where
+module _ (listed : List Parameter) (all pairs left : List Pair) (pair : Pair) (given : Given)
+    (is_next : pairs ≡ pair ∷ left) (reached : Reaches listed all pairs given) where
+  r : Reaches listed all (pair ∷ left) given
+  r = subst (λ pairs'. Reaches listed all pairs' given) is_next reached
+
   -- one setting more
   next_by : (s : Option Setting) (more : Given) → setting_of listed pair ≡ s → TakesIfListed given s more → Reaches listed all left more
   next_by None more is same =
@@ -49,6 +53,6 @@ module _ (listed : List Parameter) (all left : List Pair) (pair : Pair) (given :
   stops p refused = stops_by (setting_of listed pair) p refl refused
 
 -- all are taken
-pub ends : (listed : List Parameter) (all : List Pair) (given : Given) → Reaches listed all [] given
-    → TakesAll nothing_given (filter_map (setting_of listed) all) given
-ends listed all given r = r.gives given refl
+pub ends : (listed : List Parameter) (all pairs : List Pair) (given : Given) → pairs ≡ []
+    → Reaches listed all pairs given → TakesAll nothing_given (filter_map (setting_of listed) all) given
+ends listed all pairs given none r = r.gives given (rw none refl)

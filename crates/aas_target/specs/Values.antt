@@ -2,9 +2,7 @@
 -- That base64url has all of its padding or none, and the bounds of numbers, are this profile's own rules.
 use Rattle.std.specs.Prelude.{Bool, true, false, ◌≡◌, ◌<◌, ◌≤◌, ◌^◌, ℕ, List, codes, decimal, bytes_eq, if◌then◌else◌, Option, Some, None, Ok}
 use Rattle.base64.specs.GeneralPurpose.{IsBytes}
-use Rattle.serde_json.specs.Data.{Data}
 use Rattle.aas_json_table.specs.TooDeep.{limits}
-use Rattle.aas_json_spelling.specs.Reading.{reading}
 use Rattle.aas_json_spelling.specs.Reads.{ReadsBytes}
 use Rattle.aas_json_spelling.specs.Spells.{Trees}
 use Rattle.aas_model_names.specs.declared.modifiers.Extent.{Extent}
@@ -17,10 +15,6 @@ use Rattle.aas_page.specs.Segment.{IsBase64Url}
 abbrev pub IsTreeCode : {A : Type 0} → Trees A → List ℕ → A → Type 0
 IsTreeCode trees text tree = (json : List ℕ) × IsBytes json × IsBase64Url text json × ReadsBytes trees limits (Ok tree) json
 
--- the text is base64url of a JSON text that is read as the value
-abbrev pub IsValueCode : List ℕ → Data → Type 0
-IsValueCode text v = (json : List ℕ) × IsBytes json × IsBase64Url text json × (reading json ≡ Some v)
-
 -- the most entries of a page, in digits without a leading zero
 abbrev pub IsLimit : List ℕ → ℕ → Type 0
 IsLimit text n = (text ≡ decimal n) × (1 ≤ n) × (n ≤ 1000)
@@ -29,13 +23,16 @@ IsLimit text n = (text ≡ decimal n) × (1 ≤ n) × (n ≤ 1000)
 abbrev pub IsPlaceCursor : List ℕ → ℕ → Type 0
 IsPlaceCursor text n = (text ≡ decimal n) × (1 ≤ n) × (n < 10 ^ 19)
 
+-- the value that has this name, of two that are named
+abbrev pub one_named : {A : Type 0} → List ℕ → List ℕ × A → List ℕ × A → Option A
+one_named text one other =
+    if bytes_eq text one.0 then Some one.1 else (if bytes_eq text other.0 then Some other.1 else None)
+
 abbrev pub level_named : List ℕ → Option Level
-level_named text = if bytes_eq text (codes "deep") then Some Deep else (if bytes_eq text (codes "core") then Some Core else None)
+level_named text = one_named text (codes "deep", Deep) (codes "core", Core)
 
 abbrev pub extent_named : List ℕ → Option Extent
-extent_named text =
-    if bytes_eq text (codes "withoutBlobValue") then Some WithoutBlobValue
-    else (if bytes_eq text (codes "withBlobValue") then Some WithBlobValue else None)
+extent_named text = one_named text (codes "withoutBlobValue", WithoutBlobValue) (codes "withBlobValue", WithBlobValue)
 
 abbrev pub flag_named : List ℕ → Option Bool
-flag_named text = if bytes_eq text (codes "true") then Some true else (if bytes_eq text (codes "false") then Some false else None)
+flag_named text = one_named text (codes "true", true) (codes "false", false)

@@ -1,15 +1,11 @@
 // What a query gives.
-ghost use Rattle.std.specs.Prelude.{◌≡◌, ◌≢◌, Some, None, Err, OnErr, OnOk};
+ghost use Rattle.std.specs.Prelude.{◌≡◌, ◌∷◌, ◌++◌, [], Some, None, IsSome, Ok, true, false};
 ghost use Rattle.aas_target.specs.Given.{nothing_given};
-ghost use Rattle.aas_target.specs.declared.values.ValueFault.TheVariants.{Bad};
 
 use crate::parameter::Parameter;
-use crate::values::{
-    ValueFault, asset_id, cursor, extent_named, flag_named, identifier, level_named, limit, place,
-    reference,
-};
+use crate::values::{decode_tree, extent_named, flag_named, level_named, limit, place};
 use aas_model::{Extent, Level, Many, NoMemory, Reference, SpecificAssetId, Text};
-use aas_page::{Filter, Selection, Span};
+use aas_page::{Filter, Selection, Span, id_from_base64url, id_from_cursor};
 use std::alloc::Global;
 
 /// What a query gives: values of the parameters that the resource lists.
@@ -79,36 +75,44 @@ impl Given {
         }
     }
 
-    /// Takes a value of a parameter, if it is of its form and none was given before; asset ids and the identifiers of documents
-    /// may be given again.
+    /// Takes a value of a parameter, and tells whether it did: it is to be of its form, and the first one; asset ids and
+    /// the identifiers of documents may be given again.
     pub(crate) fn take(
         &mut self,
         alloc: Global,
         parameter: Parameter,
         value: &str,
-    ) -> Result<(), ValueFault>
-        ensures ok { OnOk result (Takes self.old (parameter, value.now) self.new) }
-        ensures bad { result ≡ Err Bad → (more : Given) → ¬ Takes self.old (parameter, value.now) more }
+    ) -> Result<bool, NoMemory>
+        ensures taken { result ≡ Ok true → Takes self.old (parameter, value.now) self.new }
+        ensures refused { result ≡ Ok false → (more : Given) → ¬ Takes self.old (parameter, value.now) more }
     {
         match parameter {
-            Parameter::IdShort => gain(&mut self.id_short, Text::from_str(alloc, value)?),
-            Parameter::AssetIds => Ok(self.asset_ids.push(asset_id(alloc, value)?)?),
-            Parameter::SemanticId => gain(&mut self.semantic_id, reference(alloc, value)?),
-            Parameter::IsCaseOf => gain(&mut self.is_case_of, reference(alloc, value)?),
-            Parameter::Limit => gain(&mut self.limit, limit(value)?),
-            Parameter::After => gain(&mut self.after, cursor(alloc, value)?),
-            Parameter::From => gain(&mut self.from, place(value)?),
-            Parameter::Level => gain(&mut self.level, level_named(value).ok_or(ValueFault::Bad)?),
-            Parameter::Extent => gain(
-                &mut self.extent,
-                extent_named(value).ok_or(ValueFault::Bad)?,
-            ),
-            Parameter::AasIds => Ok(self.shells.push(identifier(alloc, value)?)?),
-            Parameter::SubmodelIds => Ok(self.submodels.push(identifier(alloc, value)?)?),
-            Parameter::IncludeConceptDescriptions => gain(
-                &mut self.concepts,
-                flag_named(value).ok_or(ValueFault::Bad)?,
-            ),
+            Parameter::IdShort => {
+                let text = Text::from_str(alloc, value)?;
+                Ok(gain(&mut self.id_short, Some(text)))
+            }
+            Parameter::AssetIds => add(&mut self.asset_ids, decode_tree(alloc, value)?),
+            Parameter::SemanticId => Ok(gain(&mut self.semantic_id, decode_tree(alloc, value)?)),
+            Parameter::IsCaseOf => Ok(gain(&mut self.is_case_of, decode_tree(alloc, value)?)),
+            Parameter::Limit => Ok(gain(&mut self.limit, limit(value))),
+            Parameter::After => {
+                let id = id_from_cursor(alloc, value.as_bytes())?;
+                Ok(gain(&mut self.after, id))
+            }
+            Parameter::From => Ok(gain(&mut self.from, place(value))),
+            Parameter::Level => Ok(gain(&mut self.level, level_named(value))),
+            Parameter::Extent => Ok(gain(&mut self.extent, extent_named(value))),
+            Parameter::AasIds => {
+                let id = id_from_base64url(alloc, value.as_bytes())?;
+                add(&mut self.shells, id)
+            }
+            Parameter::SubmodelIds => {
+                let id = id_from_base64url(alloc, value.as_bytes())?;
+                add(&mut self.submodels, id)
+            }
+            Parameter::IncludeConceptDescriptions => {
+                Ok(gain(&mut self.concepts, flag_named(value)))
+            }
         }
     }
 
@@ -157,14 +161,29 @@ impl Given {
     }
 }
 
-/// Puts a value where there is none.
-fn gain<T: Drop>(place: &mut Option<T>, value: T) -> Result<(), ValueFault>
-    ensures ok { OnOk result ((place.old ≡ None) × (place.new ≡ Some value)) }
-    ensures err { OnErr result ((place.old ≢ None) × (place.new ≡ place.old)) }
+/// Puts a value, if there is one, where there is none, and tells whether it did.
+fn gain<T: Drop>(place: &mut Option<T>, value: Option<T>) -> bool
+    ensures gained { result ≡ true → (place.old ≡ None) × IsSome value × (place.new ≡ value) }
+    ensures kept { result ≡ false → place.new ≡ place.old }
+    ensures none { result ≡ false → place.old ≡ None → value ≡ None }
 {
-    if place.is_some() {
-        return Err(ValueFault::Bad);
+    let gains = place.is_none() && value.is_some();
+    if gains {
+        *place = value;
     }
-    *place = Some(value);
-    Ok(())
+    gains
+}
+
+/// Puts a value, if there is one, behind those that there are, and tells whether it did.
+fn add<T: Drop>(values: &mut Many<T>, value: Option<T>) -> Result<bool, NoMemory>
+    ensures added { result ≡ Ok true → (v : T) × (value ≡ Some v) × (values.new ≡ values.old ++ v ∷ []) }
+    ensures kept { result ≡ Ok false → (value ≡ None) × (values.new ≡ values.old) }
+{
+    match value {
+        Some(value) => {
+            values.push(value)?;
+            Ok(true)
+        }
+        None => Ok(false),
+    }
 }

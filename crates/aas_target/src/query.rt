@@ -1,17 +1,18 @@
 // Queries, read setting by setting.
-ghost use Rattle.std.specs.Prelude.{◌≡◌, Err, IfOk, OnOk};
+ghost use Rattle.std.specs.Prelude.{◌≡◌, Err, IfOk, OnErr, OnOk};
+ghost use Rattle.std.specs.Cow.{cow_str_bytes};
 ghost use Rattle.aas_target.specs.Given.{Gives, IsBadIn, shown_of};
 ghost use Rattle.aas_target.specs.Pairs.{IsRefused, TakesIfListed};
-ghost use Rattle.aas_target.specs.Query.{parameter_among, setting_of};
+ghost use Rattle.aas_target.specs.Query.{form_text, parameter_among, setting_of};
 ghost use Rattle.aas_target.specs.declared.given.Given.{Given};
 ghost use Rattle.aas_target.specs.declared.parameter.Parameter.{Parameter};
-ghost use Rattle.aas_target.specs.declared.query.QueryFault.TheVariants.{BadQuery};
+ghost use Rattle.aas_target.specs.declared.query.QueryFault.TheVariants.{BadQuery, NoMemory};
 
 use crate::given::{Given, Shown};
 use crate::parameter::Parameter;
-use crate::values::ValueFault;
 use form_urlencoded::{decode, raw_pairs};
-use std::alloc::{AllocError, Global};
+use std::alloc::Global;
+use std::borrow::CowStr;
 use thiserror::Error;
 
 /// Why a query gives nothing.
@@ -22,17 +23,6 @@ pub enum QueryFault {
     BadQuery { parameter: Parameter },
     #[error("memory was refused")]
     NoMemory,
-}
-
-impl From<AllocError> for QueryFault {
-    ghost use Rattle.std.specs.Prelude.{◌≡◌};
-    ghost use Rattle.aas_target.specs.declared.query.QueryFault.TheVariants as fault;
-
-    ghost from_gives = { λ _ given. given ≡ fault.NoMemory };
-
-    fn from(_: AllocError) -> QueryFault {
-        QueryFault::NoMemory
-    }
 }
 
 /// What the query gives of the parameters that a resource lists.
@@ -87,15 +77,26 @@ fn take_pair(
     ensures bad { (parameter : Parameter) → result ≡ Err (BadQuery parameter)
         → IsRefused given.old (setting_of listed.now (name.now, value.now)) parameter }
 {
-    let name = decode(alloc, name)?;
+    let name = text_of(alloc, name)?;
     let Some(parameter) = parameter_among(listed, name.as_str()) else {
         return Ok(());
     };
-    let value = decode(alloc, value)?;
+    let value = text_of(alloc, value)?;
     match given.take(alloc, parameter, value.as_str()) {
-        Ok(()) => Ok(()),
-        Err(ValueFault::Bad) => Err(QueryFault::BadQuery { parameter }),
-        Err(ValueFault::NoMemory) => Err(QueryFault::NoMemory),
+        Ok(true) => Ok(()),
+        Ok(false) => Err(QueryFault::BadQuery { parameter }),
+        Err(_) => Err(QueryFault::NoMemory),
+    }
+}
+
+/// The text for which a name or a value stands.
+fn text_of(alloc: Global, part: &[u8]) -> Result<CowStr<'_, Global>, QueryFault>
+    ensures ok { IfOk result (λ text. cow_str_bytes text ≡ form_text part.now) }
+    ensures err { OnErr result (result ≡ Err NoMemory) }
+{
+    match decode(alloc, part) {
+        Ok(text) => Ok(text),
+        Err(_) => Err(QueryFault::NoMemory),
     }
 }
 

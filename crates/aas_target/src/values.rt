@@ -1,16 +1,19 @@
-// The values of parameters, each read in its form.
-ghost use Rattle.std.specs.Prelude.{◌≡◌, ◌≢◌, ◌<◌, ◌^◌, ℕ, List, Some, Err, decimal, IfNone, IfOk, IfSome};
+// The values of parameters, each read in its form. Nothing where a text isn't of the form.
+ghost use Rattle.std.specs.Prelude.{◌≡◌, ◌≢◌, ◌<◌, ◌≤◌, ◌^◌, ℕ, decimal, IfNone, IfOk, IfSome, IsErrAnd, Ok};
 ghost use Rattle.serde_json.specs.View.{view};
 ghost use Rattle.aas_json_mapping.specs.Trees.{specific_asset_ids};
-ghost use Rattle.aas_page.specs.Segment.{IsCursor, IsIdentifierCode};
+ghost use Rattle.aas_json_spelling.specs.Reads.{Reads, ReadsBytes, ReadsEach, ReadsEachOfBytes};
+ghost use Rattle.aas_json_spelling.specs.Spells.{Trees};
+ghost use Rattle.aas_json_table.specs.TooDeep.{limits};
+ghost use Rattle.aas_model.specs.declared.read_fault.ReadFault.TheVariants as fault;
 ghost use Rattle.aas_reference.specs.Trees.{references};
-ghost use Rattle.aas_target.specs.Values.{IsLimit, IsPlaceCursor, IsTreeCode, IsValueCode, extent_named, flag_named, level_named};
-ghost use Rattle.aas_target.specs.declared.values.ValueFault.TheVariants.{Bad};
+ghost use Rattle.aas_target.specs.Values.{IsLimit, IsPlaceCursor, IsTreeCode};
+ghost use Rattle.aas_target.specs.Values.{extent_named, flag_named, level_named, one_named};
 
 use aas_json_input::read_value;
 use aas_json_parts::read_specific;
-use aas_model::{Extent, Level, NoMemory, ReadFault, Reference, SpecificAssetId, Text};
-use aas_page::{from_base64url, id_from_base64url, id_from_cursor};
+use aas_model::{Extent, Level, NoMemory, ReadFault, Reference, SpecificAssetId};
+use aas_page::from_base64url;
 use aas_reference::read_reference;
 use itoa::Buffer;
 use serde_json::Value;
@@ -19,111 +22,92 @@ use std::alloc::Global;
 /// The most entries of a page that may be asked for.
 const MOST_ENTRIES: u64 = 1000;
 
-/// A place of more digits than 19 isn't asked for.
-const NO_PLACE: u64 = 10_000_000_000_000_000_000;
+/// The last place that may be asked for: one of more digits than 19 isn't.
+const LAST_PLACE: u64 = 9_999_999_999_999_999_999;
 
-/// Why a value isn't taken.
-#[derive(Clone, Copy)]
-pub(crate) enum ValueFault {
-    /// It isn't of its form, or is given again.
-    Bad,
-    NoMemory,
+/// A tree whose JSON is the value of a parameter.
+pub(crate) trait Coded: Drop + Sized {
+    ghost trees: { Trees Self };
+
+    /// The tree that the JSON value spells.
+    fn read(alloc: Global, value: &Value) -> Result<Self, ReadFault>
+        ensures reads { Reads trees limits result (view value.now) }
+        ensures each { ReadsEach trees limits result (view value.now) };
 }
 
-impl From<NoMemory> for ValueFault {
-    ghost use Rattle.std.specs.Prelude.{◌≡◌};
-    ghost use Rattle.aas_target.specs.declared.values.ValueFault.TheVariants as fault;
+impl Coded for Reference {
+    ghost trees = { references };
 
-    ghost from_gives = { λ _ given. given ≡ fault.NoMemory };
-
-    fn from(_: NoMemory) -> ValueFault {
-        ValueFault::NoMemory
+    fn read(alloc: Global, value: &Value) -> Result<Reference, ReadFault> {
+        read_reference(alloc, value)
     }
 }
 
-impl From<ReadFault> for ValueFault {
-    ghost use Rattle.aas_target.specs.Faults.{fault_of_read};
+impl Coded for SpecificAssetId {
+    ghost trees = { specific_asset_ids };
 
-    ghost from_gives = { λ fault given. given ≡ fault_of_read fault };
-
-    fn from(fault: ReadFault) -> ValueFault {
-        match fault {
-            ReadFault::NoMemory => ValueFault::NoMemory,
-            _ => ValueFault::Bad,
-        }
+    fn read(alloc: Global, value: &Value) -> Result<SpecificAssetId, ReadFault> {
+        read_specific(alloc, value)
     }
 }
 
-/// The reference whose JSON the value is, in base64url.
-pub(crate) fn reference(alloc: Global, text: &str) -> Result<Reference, ValueFault>
-    ensures ok { IfOk result (λ reference. IsTreeCode references text.now reference) }
-    ensures bad { result ≡ Err Bad → (reference : _) → ¬ IsTreeCode references text.now reference }
-{
-    let value = json(alloc, text)?;
-    Ok(read_reference(alloc, &value)?)
-}
-
-/// The specific asset identifier whose JSON the value is, in base64url.
-pub(crate) fn asset_id(alloc: Global, text: &str) -> Result<SpecificAssetId, ValueFault>
-    ensures ok { IfOk result (λ id. IsTreeCode specific_asset_ids text.now id) }
-    ensures bad { result ≡ Err Bad → (id : _) → ¬ IsTreeCode specific_asset_ids text.now id }
-{
-    let value = json(alloc, text)?;
-    Ok(read_specific(alloc, &value)?)
-}
-
-/// The JSON value for which base64url stands.
-fn json(alloc: Global, text: &str) -> Result<Value, ValueFault>
-    ensures ok { IfOk result (λ value. IsValueCode text.now (view value)) }
-    ensures bad { result ≡ Err Bad → (value : _) → ¬ IsValueCode text.now value }
+/// The tree whose JSON the value is, in base64url.
+pub(crate) fn decode_tree<T: Coded>(alloc: Global, text: &str) -> Result<Option<T>, NoMemory>
+    ensures some { IfOk result (λ found. IfSome found (λ tree. IsTreeCode T.trees text.now tree)) }
+    ensures none { IfOk result (λ found. IfNone found ((tree : T) → ¬ IsTreeCode T.trees text.now tree)) }
 {
     match from_base64url(alloc, text.as_bytes())? {
-        Some(bytes) => Ok(read_value(alloc, &bytes)?),
-        None => Err(ValueFault::Bad),
+        Some(bytes) => read_or_none(read_tree(alloc, &bytes)),
+        None => Ok(None),
     }
 }
 
-/// The identifier that a cursor over documents tells.
-pub(crate) fn cursor(alloc: Global, text: &str) -> Result<Text, ValueFault>
-    ensures ok { IfOk result (IsCursor text.now) }
-    ensures bad { result ≡ Err Bad → (id : List ℕ) → ¬ IsCursor text.now id }
+/// What was read, or nothing where nothing is spelled.
+fn read_or_none<T: Drop>(read: Result<T, ReadFault>) -> Result<Option<T>, NoMemory>
+    ensures some { IfOk result (λ found. IfSome found (λ tree. read ≡ Ok tree)) }
+    ensures none { IfOk result (λ found. IfNone found (IsErrAnd read (λ cause. cause ≢ fault.NoMemory))) }
 {
-    match id_from_cursor(alloc, text.as_bytes())? {
-        Some(id) => Ok(id),
-        None => Err(ValueFault::Bad),
+    match read {
+        Ok(tree) => Ok(Some(tree)),
+        Err(ReadFault::NoMemory) => Err(NoMemory),
+        Err(_) => Ok(None),
     }
 }
 
-/// The identifier of a document, in base64url.
-pub(crate) fn identifier(alloc: Global, text: &str) -> Result<Text, ValueFault>
-    ensures ok { IfOk result (IsIdentifierCode text.now) }
-    ensures bad { result ≡ Err Bad → (id : List ℕ) → ¬ IsIdentifierCode text.now id }
+/// The tree that the bytes spell as a JSON text.
+fn read_tree<T: Coded>(alloc: Global, bytes: &[u8]) -> Result<T, ReadFault>
+    ensures reads { ReadsBytes T.trees limits result bytes.now }
+    ensures each { ReadsEachOfBytes T.trees limits result bytes.now }
 {
-    match id_from_base64url(alloc, text.as_bytes())? {
-        Some(id) => Ok(id),
-        None => Err(ValueFault::Bad),
-    }
+    let value = read_value(alloc, bytes)?;
+    T::read(alloc, &value)
 }
 
 /// The most entries of a page.
-pub(crate) fn limit(text: &str) -> Result<u32, ValueFault>
-    ensures ok { IfOk result (IsLimit text.now) }
-    ensures bad { result ≡ Err Bad → (n : ℕ) → ¬ IsLimit text.now n }
+pub(crate) fn limit(text: &str) -> Option<u32>
+    ensures some { IfSome result (IsLimit text.now) }
+    ensures none { IfNone result ((n : ℕ) → ¬ IsLimit text.now n) }
 {
-    match number(text) {
-        Some(number) if 1 <= number && number <= MOST_ENTRIES => Ok(number as u32),
-        _ => Err(ValueFault::Bad),
-    }
+    Some(number_to(text, MOST_ENTRIES)? as u32)
 }
 
 /// The place that a cursor over children or references tells.
-pub(crate) fn place(text: &str) -> Result<u64, ValueFault>
-    ensures ok { IfOk result (IsPlaceCursor text.now) }
-    ensures bad { result ≡ Err Bad → (n : ℕ) → ¬ IsPlaceCursor text.now n }
+pub(crate) fn place(text: &str) -> Option<u64>
+    ensures some { IfSome result (IsPlaceCursor text.now) }
+    ensures none { IfNone result ((n : ℕ) → ¬ IsPlaceCursor text.now n) }
+{
+    number_to(text, LAST_PLACE)
+}
+
+/// The number that a text writes in digits without a leading zero, if it is one of 1 to the most.
+#[tactic(auto, using(crate::proofs::Numbers::one_number))]
+fn number_to(text: &str, most: u64) -> Option<u64>
+    ensures some { IfSome result (λ n. (text.now ≡ decimal n) × (1 ≤ n) × (n ≤ most)) }
+    ensures none { IfNone result ((n : ℕ) → 1 ≤ n → n ≤ most → text.now ≢ decimal n) }
 {
     match number(text) {
-        Some(number) if 1 <= number && number < NO_PLACE => Ok(number),
-        _ => Err(ValueFault::Bad),
+        Some(number) if 1 <= number && number <= most => Some(number),
+        _ => None,
     }
 }
 
@@ -146,34 +130,30 @@ fn number(text: &str) -> Option<u64>
 pub(crate) fn level_named(text: &str) -> Option<Level>
     ensures { result ≡ level_named text.now }
 {
-    if text == "deep" {
-        Some(Level::Deep)
-    } else if text == "core" {
-        Some(Level::Core)
-    } else {
-        None
-    }
+    one_named(text, ("deep", Level::Deep), ("core", Level::Core))
 }
 
 pub(crate) fn extent_named(text: &str) -> Option<Extent>
     ensures { result ≡ extent_named text.now }
 {
-    if text == "withoutBlobValue" {
-        Some(Extent::WithoutBlobValue)
-    } else if text == "withBlobValue" {
-        Some(Extent::WithBlobValue)
-    } else {
-        None
-    }
+    let without = ("withoutBlobValue", Extent::WithoutBlobValue);
+    one_named(text, without, ("withBlobValue", Extent::WithBlobValue))
 }
 
 pub(crate) fn flag_named(text: &str) -> Option<bool>
     ensures { result ≡ flag_named text.now }
 {
-    if text == "true" {
-        Some(true)
-    } else if text == "false" {
-        Some(false)
+    one_named(text, ("true", true), ("false", false))
+}
+
+/// The value that has this name, of two that are named.
+fn one_named<T: Copy>(text: &str, one: (&str, T), other: (&str, T)) -> Option<T>
+    ensures { result ≡ one_named text.now (one.entry.0.now, one.entry.1) (other.entry.0.now, other.entry.1) }
+{
+    if text == one.0 {
+        Some(one.1)
+    } else if text == other.0 {
+        Some(other.1)
     } else {
         None
     }

@@ -1,45 +1,37 @@
-use Rattle.std.proofs.Common.{◌≡◌, Err, ap, rules}
-use Rattle.aas_target.specs.declared.values.ValueFault.TheVariants.{Bad}
 use Rattle.aas_target.proofs.given.Given.take.Goals as goal
 
-pub returns-in_err-asset_id-in-AssetIds-clause-bad : goal.returns-in_err-asset_id-in-AssetIds-clause-bad
-returns-in_err-asset_id-in-AssetIds-clause-bad c = λ is more takes.
-    let result : c.from_residual-in_err-asset_id-in-AssetIds.result ≡ Err c.in_err-asset_id-in-AssetIds.field-0.0 = search rules in
-    let bad : c.in_err-asset_id-in-AssetIds.field-0.0 ≡ Bad = cc in
+pub returns-in_ok-decode_tree-in-AssetIds-clause-refused : goal.returns-in_ok-decode_tree-in-AssetIds-clause-refused
+returns-in_ok-decode_tree-in-AssetIds-clause-refused c = λ is more takes.
+    let none = rw (c.add.ensures.kept is).0 at c.in_ok-decode_tree-in-AssetIds.ensures.none in
     let taken = rw c.in-AssetIds.is at takes in
-    c.in_err-asset_id-in-AssetIds.ensures.bad (ap Err bad) taken.0 taken.1
+    none taken.0 taken.1
 
-pub returns-in_err-reference-in-SemanticId-clause-bad : goal.returns-in_err-reference-in-SemanticId-clause-bad
-returns-in_err-reference-in-SemanticId-clause-bad c = λ is more takes.
-    let result : c.from_residual-in_err-reference-in-SemanticId.result ≡ Err c.in_err-reference-in-SemanticId.field-0.0 = search rules in
-    let bad : c.in_err-reference-in-SemanticId.field-0.0 ≡ Bad = cc in
+pub returns-in_ok-decode_tree-in-SemanticId-clause-refused : goal.returns-in_ok-decode_tree-in-SemanticId-clause-refused
+returns-in_ok-decode_tree-in-SemanticId-clause-refused c = λ is more takes.
     let taken = rw c.in-SemanticId.is at takes in
-    c.in_err-reference-in-SemanticId.ensures.bad (ap Err bad) taken.1 taken.2
+    let none = rw (c.gain-in-SemanticId.ensures.none (cc) taken.0) at c.in_ok-decode_tree-in-SemanticId.ensures.none in
+    none taken.1 taken.2
 
-pub returns-in_err-reference-in-IsCaseOf-clause-bad : goal.returns-in_err-reference-in-IsCaseOf-clause-bad
-returns-in_err-reference-in-IsCaseOf-clause-bad c = λ is more takes.
-    let result : c.from_residual-in_err-reference-in-IsCaseOf.result ≡ Err c.in_err-reference-in-IsCaseOf.field-0.0 = search rules in
-    let bad : c.in_err-reference-in-IsCaseOf.field-0.0 ≡ Bad = cc in
+pub returns-in_ok-decode_tree-in-IsCaseOf-clause-refused : goal.returns-in_ok-decode_tree-in-IsCaseOf-clause-refused
+returns-in_ok-decode_tree-in-IsCaseOf-clause-refused c = λ is more takes.
     let taken = rw c.in-IsCaseOf.is at takes in
-    c.in_err-reference-in-IsCaseOf.ensures.bad (ap Err bad) taken.1 taken.2
+    let none = rw (c.gain-in-IsCaseOf.ensures.none (cc) taken.0) at c.in_ok-decode_tree-in-IsCaseOf.ensures.none in
+    none taken.1 taken.2
 
-pub returns-in_err-cursor-in-After-clause-bad : goal.returns-in_err-cursor-in-After-clause-bad
-returns-in_err-cursor-in-After-clause-bad c = λ is more takes.
-    let result : c.from_residual-in_err-cursor-in-After.result ≡ Err c.in_err-cursor-in-After.field-0.0 = search rules in
-    let bad : c.in_err-cursor-in-After.field-0.0 ≡ Bad = cc in
-    let taken = rw c.in-After.is at takes in
-    c.in_err-cursor-in-After.ensures.bad (ap Err bad) taken.1 taken.2
+pub returns-in_ok-id-in-After-clause-refused : goal.returns-in_ok-id-in-After-clause-refused
+returns-in_ok-id-in-After-clause-refused c = λ is more takes.
+    let taken = rw (c.in-After.is, ← c.as_bytes.ensures.value) at takes in
+    let none = rw (c.gain-in-After.ensures.none (cc) taken.0) at c.in_ok-id-in-After.ensures.none in
+    none taken.1 taken.2
 
-pub returns-in_err-identifier-in-AasIds-clause-bad : goal.returns-in_err-identifier-in-AasIds-clause-bad
-returns-in_err-identifier-in-AasIds-clause-bad c = λ is more takes.
-    let result : c.from_residual-in_err-identifier-in-AasIds.result ≡ Err c.in_err-identifier-in-AasIds.field-0.0 = search rules in
-    let bad : c.in_err-identifier-in-AasIds.field-0.0 ≡ Bad = cc in
-    let taken = rw c.in-AasIds.is at takes in
-    c.in_err-identifier-in-AasIds.ensures.bad (ap Err bad) taken.0 taken.1
+pub returns-in_ok-id-in-AasIds-clause-refused : goal.returns-in_ok-id-in-AasIds-clause-refused
+returns-in_ok-id-in-AasIds-clause-refused c = λ is more takes.
+    let none = rw (c.add-in-AasIds.ensures.kept is).0 at c.in_ok-id-in-AasIds.ensures.none in
+    let taken = rw (c.in-AasIds.is, ← c.as_bytes-in-AasIds.ensures.value) at takes in
+    none taken.0 taken.1
 
-pub returns-in_err-identifier-in-SubmodelIds-clause-bad : goal.returns-in_err-identifier-in-SubmodelIds-clause-bad
-returns-in_err-identifier-in-SubmodelIds-clause-bad c = λ is more takes.
-    let result : c.from_residual-in_err-identifier-in-SubmodelIds.result ≡ Err c.in_err-identifier-in-SubmodelIds.field-0.0 = search rules in
-    let bad : c.in_err-identifier-in-SubmodelIds.field-0.0 ≡ Bad = cc in
-    let taken = rw c.in-SubmodelIds.is at takes in
-    c.in_err-identifier-in-SubmodelIds.ensures.bad (ap Err bad) taken.0 taken.1
+pub returns-in_ok-id-in-SubmodelIds-clause-refused : goal.returns-in_ok-id-in-SubmodelIds-clause-refused
+returns-in_ok-id-in-SubmodelIds-clause-refused c = λ is more takes.
+    let none = rw (c.add-in-SubmodelIds.ensures.kept is).0 at c.in_ok-id-in-SubmodelIds.ensures.none in
+    let taken = rw (c.in-SubmodelIds.is, ← c.as_bytes-in-SubmodelIds.ensures.value) at takes in
+    none taken.0 taken.1
