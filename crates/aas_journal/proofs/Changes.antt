@@ -23,7 +23,7 @@ others_then Spare a b c first then = (then.0 ∙ first.0, then.1 ∙ first.1)
 others_then Selector a b c first then = (then.0 ∙ first.0, then.1 ∙ first.1)
 
 module _ (part : Part) {a b : ℕ} {old mid : ℕ → Files → Type 0} (first : Passes a old b mid) where
-  pub none_changes : Meanwhile a b old mid AddsNone → Meanwhile a b old mid (ChangesOnly part)
+  none_changes : Meanwhile a b old mid AddsNone → Meanwhile a b old mid (ChangesOnly part)
   none_changes none t since until c left = (c, none t since until c left, same_others part c)
 
   pub tears_change : (at n : ℕ) → Meanwhile a b old mid (Tears part at n) → Meanwhile a b old mid (ChangesOnly part)
@@ -40,6 +40,13 @@ module _ (part : Part) {a b : ℕ} {old mid : ℕ → Files → Type 0} (first :
       let early = changes b first.later (omega arith) late.0 late.1 in
       (early.0, early.1, others_then part early.0 late.0 f early.2 late.2))
       (cases_lt t b)
+
+-- reads, and a write of one piece behind them
+pub reads_then_tears : (part : Part) {a b c : ℕ} {old mid new : ℕ → Files → Type 0} → Passes a old b mid
+    → Meanwhile a b old mid AddsNone → Passes b mid c new → (at n : ℕ) → Meanwhile b c mid new (Tears part at n)
+    → Meanwhile a c old new (ChangesOnly part)
+reads_then_tears part first none second at n tears =
+    changes_then part first (none_changes part first none) second (tears_change part second at n tears)
 
 becomes_then : (P Q R : Files → Files → Type 0) (old mid new : Option Files)
     → Becomes old mid P → Becomes mid new Q → ((a b c : Files) → P a b → Q b c → R a c) → Becomes old new R

@@ -7,8 +7,7 @@ use Rattle.std.proofs.lemmas.Bool.{cases_lt}
 use Rattle.std.proofs.lemmas.List.{append-nil, drop-drop, drop_at, length-take-le, take-append-le, take-take}
 use Rattle.std.proofs.lemmas.Result.{on_ok_weaker}
 use Rattle.aas_outside.specs.Frame.{frame_bytes}
-use Rattle.aas_outside.specs.Moments.{Passes}
-use Rattle.aas_outside_disk.specs.Disk.{Meanwhile, Tears, Torn, Writes, WritesAt, written}
+use Rattle.aas_outside_disk.specs.Disk.{Changes, DiskState, PassesOn, Tears, Torn, Writes, WritesAt, written}
 use Rattle.aas_outside_disk.specs.Files.{Files, SameOthers, file}
 use Rattle.aas_outside_disk.specs.declared.part.Part.{Part}
 use Rattle.aas_journal.specs.Image.{gate_of}
@@ -143,28 +142,31 @@ module _ (before : Option Files) (images : Files → Type 0) (part : Part) (gate
       kept.part_is at in
       subst (λ (o : Option Files). TearsRecord payloads payload o images new) (sym kept.told) here
 
--- What it keeps, and what a stop leaves in the first write.
-module _ (before : Option Files) (part : Part) (gate : ℕ) (payloads : List (List ℕ)) (m0 : ℕ)
-    (l0 : ℕ → Files → Type 0) (kept : Keeps before (l0 m0) part gate payloads) (payload frame : List ℕ)
-    (frame_is : frame ≡ frame_bytes payload) (m1 : ℕ) (l1 : ℕ → Files → Type 0)
-    (images1 : Meanwhile m0 m1 l0 l1 (Tears part (gate + 1) (length frame))) where
-  tears_in_first : (t : ℕ) → m0 ≤ t → t ≤ m1 → Tears part gate (length (1 ∷ frame)) (l0 m0) (l1 t)
+-- What a journal keeps, and what a stop leaves in the first write.
+module _ (old : DiskState) (part : Part) (gate : ℕ) (payloads : List (List ℕ))
+    (kept : Keeps old.seen (old.left_at old.moment) part gate payloads) (payload frame : List ℕ)
+    (frame_is : frame ≡ frame_bytes payload) (mid : DiskState)
+    (images1 : Changes old mid (Tears part (gate + 1) (length frame))) where
+  tears_in_first : (t : ℕ) → old.moment ≤ t → t ≤ mid.moment
+      → Tears part gate (length (1 ∷ frame)) (old.left_at old.moment) (mid.left_at t)
   tears_in_first t since until end least c left =
       let from = images1 t since until end least c left in
       (from.0, from.1, from.2, torn_behind_place 1 gate end frame (file part from.0) (file part c) from.3)
 
-  pub tears_first : Meanwhile m0 m1 l0 l1 (TearsRecord payloads payload before)
+  pub tears_first : Changes old mid (TearsRecord payloads payload old.seen)
   tears_first t since until =
-      tears before (l0 m0) part gate payloads kept payload frame frame_is (l1 t) (tears_in_first t since until)
+      tears old.seen (old.left_at old.moment) part gate payloads kept payload frame frame_is
+      (mid.left_at t) (tears_in_first t since until)
 
   -- and in the second
-  pub tears_both : m0 ≤ m1 → (m2 : ℕ) (l2 : ℕ → Files → Type 0) → Passes m1 l1 m2 l2
-      → Meanwhile m1 m2 l1 l2 (Tears part gate 1) → Meanwhile m0 m2 l0 l2 (TearsRecord payloads payload before)
-  tears_both later m2 l2 past2 images2 t since until =
-      tears before (l0 m0) part gate payloads kept payload frame frame_is (l2 t) (λ end least c left. ⊎_elim
-      (λ low. tears_in_first t since (omega (arith, low)) end least c ((past2.past t (omega (arith, low)) c).0 left))
+  pub tears_both : old.moment ≤ mid.moment → (new : DiskState) → PassesOn mid new
+      → Changes mid new (Tears part gate 1) → Changes old new (TearsRecord payloads payload old.seen)
+  tears_both later new past images2 t since until =
+      tears old.seen (old.left_at old.moment) part gate payloads kept payload frame frame_is
+      (new.left_at t) (λ end least c left. ⊎_elim
+      (λ low. tears_in_first t since (omega (arith, low)) end least c ((past.past t (omega (arith, low)) c).0 left))
       (λ high.
-      let begun = λ (b : Files) (h : l1 m1 b). images1 m1 later (omega arith) end least b h in
+      let begun = λ (b : Files) (h : mid.left_at mid.moment b). images1 mid.moment later (omega arith) end least b h in
       let late = images2 t high until end (λ b h. (begun b h).3.no_shorter) c left in
       let early = begun late.0 late.1 in (
         early.0,
@@ -172,4 +174,4 @@ module _ (before : Option Files) (part : Part) (gate : ℕ) (payloads : List (Li
         others_then part early.0 late.0 c early.2 late.2,
         torn_then_place 1 gate end frame (file part early.0) (file part late.0) early.3 (file part c) late.3,
       ))
-      (cases_lt t m1))
+      (cases_lt t mid.moment))

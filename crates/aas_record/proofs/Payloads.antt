@@ -1,5 +1,6 @@
 -- The payloads of commands have their types, and what is read of a payload with its types.
-use Rattle.std.proofs.Common.{◌≡◌, ⊎_elim, inl, inr, ℕ, zero, List, [], ◌∷◌, ◌++◌, ◌+◌, ◌-◌, length, length-append, arith}
+use Rattle.std.proofs.Common.{◌≡◌, ⊎_elim, inl, inr, ℕ, zero, List, [], ◌∷◌, ◌++◌, ◌+◌, ◌-◌}
+use Rattle.std.proofs.Common.{length, length-append, arith}
 use Rattle.std.proofs.Common.{Option, Some, None, Result, Ok, Err, IsErr, IsErrAnd, MatchResult, refl, sym, ◌∙◌}
 use Rattle.std.proofs.Common.{ap, subst}
 use Rattle.std.specs.Str.{IsUtf8, encode_utf8_all}
@@ -211,8 +212,17 @@ wrong_before payload bytes t at second types IsSecond to split row fails =
     wrong payload bytes t at (identifier ∷ second ∷ types) split row
     (⊎_elim
     (λ first. inl first)
-    (λ (id, rest, begins, utf8, (lacks, is)). inr
-    (id, rest, begins, utf8, inl (λ content behind begins has. lacks content behind begins (to (id ∷ []) content has), is)))
+    (λ (id, rest, begins, utf8, (lacks, is)). inr (
+      id,
+      rest,
+      begins,
+      utf8,
+      inl (
+        λ content behind begins has.
+            lacks content behind begins (to (id ∷ []) content has),
+        is,
+      ),
+    ))
     fails)
 
 -- a fault of an identifier and what is behind it is that of the payload

@@ -1,5 +1,5 @@
 -- What is read of one field. This profile's own rule.
-use Rattle.std.specs.Prelude.{◌≡◌, ◌+◌, ℕ, List, [], length, ⊤}
+use Rattle.std.specs.Prelude.{◌≡◌, ◌+◌, ℕ, List, length, ⊤}
 use Rattle.std.specs.Str.{IsUtf8, encode_utf8_all}
 use Rattle.aas_record.specs.Fields.{Begins, LacksField}
 use Rattle.aas_record.specs.Records.{GoesWrong, IsMore}

@@ -1,11 +1,12 @@
 -- Visits served so far, and how serving goes on.
-use Rattle.std.proofs.Common.{◌≡◌, ◌⊎◌, inl, inr, ⊎_elim, ℕ, suc, ◌+◌, ◌-◌, ◌^◌, ◌<◌, ◌≤◌, Bool, true, false, List, []}
-use Rattle.std.proofs.Common.{◌∷◌, ◌++◌, length, take, refl, sym, ap, ◌∙◌, subst, arith, append_assoc, length-append}
-use Rattle.std.proofs.Common.{Option, Some, Result, Ok}
+use Rattle.std.proofs.Common.{◌≡◌, ◌≢◌, ◌⊎◌, inl, inr, ⊎_elim, ℕ, suc, ◌+◌, ◌-◌, ◌^◌, ◌<◌, ◌≤◌, Bool, true, false}
+use Rattle.std.proofs.Common.{List, [], ◌∷◌, ◌++◌, length, take, refl, sym, ap, ◌∙◌, subst, arith, append_assoc}
+use Rattle.std.proofs.Common.{length-append, Option, Some, Result, Ok}
 use Rattle.std.specs.Prelude.{IfSome, nat_lt, All}
 use Rattle.std.specs.List.{filter}
 use Rattle.std.specs.Io.KnownBytes.{append_known}
 use Rattle.std.proofs.lemmas.Bool.{cond-true, lt-ltb}
+use Rattle.std.proofs.lemmas.Bool.Decides.{nat_tests}
 use Rattle.std.proofs.lemmas.List.{append-nil, map-append}
 use Rattle.std.proofs.lemmas.List.Elements.{filter_passes}
 use Rattle.std.proofs.lemmas.Grind.{flat_map-append}
@@ -22,9 +23,13 @@ use Rattle.aas_session.specs.Visits.{Visited, IsServed, IsSessions, all_commands
 use Rattle.aas_session.specs.Visits.{ServesVisit, ServesNext, Serving, ServesAll}
 use Rattle.aas_session.specs.declared.wire.Next.{Next}
 use Rattle.aas_session.specs.declared.wire.Next.TheVariants as next
+use Rattle.aas_session.specs.declared.wire.WireEnded.{WireEnded}
 use Rattle.aas_session.specs.declared.wire.WireEnded.TheVariants as ended
-use Rattle.aas_session.specs.Served.{GivesTurns, IsFinished, IsCut}
-use Rattle.aas_session.specs.Session.{HttpRule, End, repository, Turn, replies, commands}
+use Rattle.aas_session.specs.declared.connection.Ended.{Ended}
+use Rattle.aas_session.specs.declared.connection.Ended.TheVariants as connection
+use Rattle.aas_session.specs.Served.{GivesTurns, IsFinished, IsCut, Served}
+use Rattle.aas_session.specs.Session.{HttpRule, End, Closed, NoMemory, EndsAs, Place, start, repository, Turn, TakesAll}
+use Rattle.aas_session.specs.Session.{replies, commands}
 use Rattle.aas_rule.specs.State.{State, IsSettledState, PassesTo, repository_of, Holds}
 use Rattle.aas_session.proofs.Turns.{turns_records}
 
@@ -45,7 +50,8 @@ told_turns new turns (inr (first, last, is, (n, within, given))) = (replies firs
 
 module _ {D I : Type 0} (rule : HttpRule D) (stands_for : I → List (List ℕ) → Type 0) (old : Repository D)
     (c : Connections) (s : List ℕ) (ahead : List Visit) (clients : ℕ) (mid : LinkState)
-    (connections2 : Option Connections) (sent2 : Option (List ℕ)) (from : ℕ) (now : State D I) (faults faults2 : ℕ) (later : faults ≤ faults2)
+    (connections2 : Option Connections) (sent2 : Option (List ℕ)) (from : ℕ) (now : State D I)
+    (faults faults2 : ℕ) (later : faults ≤ faults2)
     (v : Visit) (rest : List Visit) (first : ahead ≡ v ∷ rest)
     (B : BeginsVisit c s v rest clients mid) (same : connections2 ≡ connections mid) where
   abbrev DidVisit : Type 0
@@ -53,62 +59,48 @@ module _ {D I : Type 0} (rule : HttpRule D) (stands_for : I → List (List ℕ) 
       (w : Visited D) × (w.visit ≡ v)
       × ServesVisit rule stands_for old ahead (sent_on_all c s) clients from now connections2 sent2 faults faults2 w
 
-  pub finished_visit : (end : End) → IsFinished rule stands_for old v.input from now mid.sent sent2 end → DidVisit
+  served : (turns : List Turn) (last : Place D) (bytes : List ℕ) → TakesAll rule (start old v.input) turns last
+      → ((end : End) × EndsAs last end × (bytes ≡ replies turns))
+      ⊎ (Rose faults faults2 × GivesTurns (Some []) (Some bytes) turns)
+      → Holds stands_for old.records (commands turns) (repository last) from now → sent2 ≡ Some bytes → DidVisit
+  served turns last bytes taken ends holds given = (
+    record { visit = v; turns = turns; last = last; sent = bytes; faults_before = faults; faults_behind = faults2 },
+    refl,
+    record {
+      rest = rest;
+      first = first;
+      served = (taken, later, ends);
+      before = refl;
+      behind = refl;
+      holds = holds;
+      is_begun = same ∙ B.connections;
+      sent_is = given;
+    },
+  )
+
+  finished_visit : (end : End) → IsFinished rule stands_for old v.input from now mid.sent sent2 end → DidVisit
   finished_visit end f =
       let S = f.session in
-      let given : sent2 ≡ Some (replies S.turns) =
-      f.gives ∙ ap (λ (k : Option (List ℕ)). append_known k f.out) B.unsent ∙ ap (λ (l : List ℕ). Some l) S.gives in (
-        record {
-          visit = v;
-          turns = S.turns;
-          last = S.last;
-          sent = replies S.turns;
-          faults_before = faults;
-          faults_behind = faults2;
-        },
-        refl,
-        record {
-          rest = rest;
-          first = first;
-          served = (S.taken, later, inl (end, S.ends, refl));
-          before = refl;
-          behind = refl;
-          holds =
-              subst (λ (r : Repository D). Holds stands_for old.records (commands S.turns) r from now) S.leaves f.holds;
-          is_begun = same ∙ B.connections;
-          sent_is = given;
-        },
-      )
+      served S.turns S.last (replies S.turns) S.taken (inl (end, S.ends, refl))
+      (subst (λ (r : Repository D). Holds stands_for old.records (commands S.turns) r from now) S.leaves f.holds)
+      (f.gives ∙ ap (λ (k : Option (List ℕ)). append_known k f.out) B.unsent ∙ ap (λ (l : List ℕ). Some l) S.gives)
 
-  pub cut_visit : Rose faults faults2 → IsCut rule stands_for old v.input from now mid.sent sent2 → DidVisit
+  cut_visit : Rose faults faults2 → IsCut rule stands_for old v.input from now mid.sent sent2 → DidVisit
   cut_visit failed f =
       let gives : GivesTurns (Some []) sent2 f.turns =
       subst (λ (k : Option (List ℕ)). GivesTurns k sent2 f.turns) B.unsent f.gives in
-      let told = told_turns sent2 f.turns gives in (
-        record {
-          visit = v;
-          turns = f.turns;
-          last = f.last;
-          sent = told.0;
-          faults_before = faults;
-          faults_behind = faults2;
-        },
-        refl,
-        record {
-          rest = rest;
-          first = first;
-          served = (
-            f.taken,
-            later,
-            inr (failed, subst (λ (k : Option (List ℕ)). GivesTurns (Some []) k f.turns) told.1 gives),
-          );
-          before = refl;
-          behind = refl;
-          holds = f.holds;
-          is_begun = same ∙ B.connections;
-          sent_is = told.1;
-        },
-      )
+      let told = told_turns sent2 f.turns gives in
+      served f.turns f.last told.0 f.taken
+      (inr (failed, subst (λ (k : Option (List ℕ)). GivesTurns (Some []) k f.turns) told.1 gives)) f.holds told.1
+
+  -- by how its connection ended, unless the keeper failed
+  pub did_visit : (F : Type 0) (end : Ended) → end ≢ connection.KeeperFault
+      → (end ≡ connection.LinkFault → Rose faults faults2)
+      → Served rule stands_for old v.input from now mid.sent sent2 F end → DidVisit
+  did_visit F connection.Closed lives failed f = finished_visit Closed f
+  did_visit F connection.NoMemory lives failed f = finished_visit NoMemory f
+  did_visit F connection.LinkFault lives failed f = cut_visit (failed refl) f
+  did_visit F connection.KeeperFault lives failed f = absurd (lives refl)
 
 -- The next visit, where it is this session's whatever client it goes to.
 module _ {D I : Type 0} (rule : HttpRule D) (stands_for : I → List (List ℕ) → Type 0) (old : Repository D)
@@ -255,15 +247,22 @@ module _ {D I : Type 0} (rule : HttpRule D) (stands_for : I → List (List ℕ) 
     came = P.came;
   }
 
-  module _ (may_begin : Bool) (within : begun ≤ count)
-      (may : may_begin ≡ true → begun < count) (may_not : may_begin ≡ false → begun ≡ count)
-      (new : State D I) (passes : PassesTo now new)
-      (connections_new : Option Connections) (sent_new : Option (List ℕ)) (faults_new : ℕ)
+  module _ (within : begun ≤ count) (new : State D I) (passes : PassesTo now new) (wire_new : LinkState)
       (rule_now : HttpRule D) (same : rule_now ≡ rule) where
+    abbrev may_begin : Bool
+    may_begin = nat_lt begun count
+
+    may : may_begin ≡ true → begun < count
+    may is = grind (arith, nat_tests, is)
+
+    may_not : may_begin ≡ false → begun ≡ count
+    may_not is = let high : count ≤ begun = grind (arith, nat_tests, is) in omega (arith, high, within)
+
     abbrev Did : HttpRule D → Next → Type 0
     Did r way =
         ServesNext r stands_for here P.surroundings may_begin
-        (sent_on_all P.surroundings P.here) now.moment new connections_new sent_new faults_now faults_new way
+        (sent_on_all P.surroundings P.here) now.moment new wire_new.surroundings.connections
+        wire_new.sent faults_now wire_new.faults way
 
     did : (way : Next) → Did rule_now way → Did rule way
     did way d = let Q : HttpRule D → Type 0 = λ r. Did r way in subst Q same d
@@ -291,8 +290,8 @@ module _ {D I : Type 0} (rule : HttpRule D) (stands_for : I → List (List ℕ) 
           (append-nil (all_commands P.served)) (then_kept [] [] h.in_turn);
     }
 
-    tells : TellsSent connections_new sent_new (sent_on_all P.surroundings P.here)
-        → TellsSent connections_new sent_new (sent_before ++ sent_on_each P.served)
+    tells : TellsSent wire_new.surroundings.connections wire_new.sent (sent_on_all P.surroundings P.here)
+        → TellsSent wire_new.surroundings.connections wire_new.sent (sent_before ++ sent_on_each P.served)
     tells t = record {
       surroundings = t.surroundings;
       here = t.here;
@@ -304,9 +303,10 @@ module _ {D I : Type 0} (rule : HttpRule D) (stands_for : I → List (List ℕ) 
     -- one visit more
     more : (v : Visited D) (clients begun_now : ℕ) → v.visit.client < limit → clients ≡ c.clients + begun_now
         → ServesVisit rule stands_for here (open_visits may_begin P.surroundings)
-        (sent_on_all P.surroundings P.here) clients now.moment new connections_new sent_new faults_now faults_new v
+        (sent_on_all P.surroundings P.here) clients now.moment new wire_new.surroundings.connections
+        wire_new.sent faults_now wire_new.faults v
         → Progress rule stands_for old c sent_before count begun_now
-        (number + 1) from new connections_new sent_new faults faults_new
+        (number + 1) from new wire_new.surroundings.connections wire_new.sent faults wire_new.faults
     more v clients begun_now below clients_are e =
         let all = commands_then P.served v in
         let records_are : (repository v.last).records ≡ old.records ++ all_commands (P.served ++ v ∷ []) =
@@ -346,40 +346,33 @@ module _ {D I : Type 0} (rule : HttpRule D) (stands_for : I → List (List ℕ) 
               (sym all) (then_kept (commands v.turns) [] e.holds.in_turn);
         }
 
-    pub one_begun : Did rule_now next.Begun
-        → Progress rule stands_for old c sent_before count (begun + 1)
-        (number + 1) from new connections_new sent_new faults faults_new
-    one_begun d =
-        let e = did next.Begun d in
-        more e.0 (P.surroundings.clients + 1) (begun + 1)
-        (omega (arith, e.2, P.clients, may e.1)) (omega (arith, P.clients)) e.3
-
-    pub one_again : Did rule_now next.Again
-        → Progress rule stands_for old c sent_before count begun
-        (number + 1) from new connections_new sent_new faults faults_new
-    one_again d =
-        let e = did next.Again d in
-        more e.0 P.surroundings.clients begun (omega (arith, e.1, P.clients, within)) P.clients e.2
+    -- to a new client, or to one that was visited before
+    pub one_more : (way : Next) (begun_now : ℕ)
+        → ((way ≡ next.Begun) × (begun_now ≡ begun + 1)) ⊎ ((way ≡ next.Again) × (begun_now ≡ begun))
+        → Did rule_now way
+        → Progress rule stands_for old c sent_before count begun_now
+        (number + 1) from new wire_new.surroundings.connections wire_new.sent faults wire_new.faults
+    one_more way begun_now (inl (is, more_begun)) d =
+        let e = did next.Begun (subst (λ (w : Next). Did rule_now w) is d) in
+        more e.0 (P.surroundings.clients + 1) begun_now
+        (omega (arith, e.2, P.clients, may e.1)) (omega (arith, P.clients, more_begun)) e.3
+    one_more way begun_now (inr (is, as_many)) d =
+        let e = did next.Again (subst (λ (w : Next). Did rule_now w) is d) in
+        more e.0 P.surroundings.clients begun_now
+        (omega (arith, e.1, P.clients, within)) (omega (arith, P.clients, as_many)) e.2
 
     -- no visit more
-    pub none_left : Did rule_now next.NoneLeft
+    pub none_more : (end : WireEnded) → Did rule_now (next.Ended end)
         → ServesAll rule stands_for old c sent_before count from new
-        connections_new sent_new faults faults_new ended.Done
-    none_left d = let e = did next.NoneLeft d in record {
+        wire_new.surroundings.connections wire_new.sent faults wire_new.faults end
+    none_more ended.Done d = let e = did (next.Ended ended.Done) d in record {
       serving = serving;
       ends = (inl (none_open may_begin P.surroundings limit last e.0), holds e.1, tells e.2, e.3);
     }
-
-    pub wire_failed : Did rule_now next.WireFault
-        → ServesAll rule stands_for old c sent_before count from new
-        connections_new sent_new faults faults_new ended.WireFault
-    wire_failed d = let e = did next.WireFault d in record { serving = serving; ends = (holds e.0, tells e.1, e.2) }
-
-    pub keeper_failed : Did rule_now next.KeeperFault
-        → ServesAll rule stands_for old c sent_before count from new
-        connections_new sent_new faults faults_new ended.KeeperFault
-    keeper_failed d =
-        let e = did next.KeeperFault d in
+    none_more ended.WireFault d =
+        let e = did (next.Ended ended.WireFault) d in record { serving = serving; ends = (holds e.0, tells e.1, e.2) }
+    none_more ended.KeeperFault d =
+        let e = did (next.Ended ended.KeeperFault) d in
         let v = e.0 in
         let b = e.6 in
         let below : v.client < limit = ⊎_elim (λ again. omega (arith, e.4, again, P.clients, within))

@@ -89,12 +89,15 @@ ServesNext {D} rule stands_for old c may_begin sent_before from now connections 
     (v : Visited D) × (v.visit.client < c.clients)
     × ServesVisit rule stands_for old
     (open_visits may_begin c) sent_before c.clients from now connections sent faults faults_now v
-ServesNext rule stands_for old c may_begin sent_before from now connections sent faults faults_now next.NoneLeft =
+ServesNext rule stands_for old c may_begin
+    sent_before from now connections sent faults faults_now (next.Ended ended.Done) =
     (open_visits may_begin c ≡ []) × Holds stands_for old.records [] old from now
     × TellsSent connections sent sent_before × (faults_now ≡ faults)
-ServesNext rule stands_for old c may_begin sent_before from now connections sent faults faults_now next.WireFault =
+ServesNext rule stands_for old c may_begin
+    sent_before from now connections sent faults faults_now (next.Ended ended.WireFault) =
     Holds stands_for old.records [] old from now × TellsSent connections sent sent_before × (faults_now ≡ faults)
-ServesNext rule stands_for old c may_begin sent_before from now connections sent faults faults_now next.KeeperFault =
+ServesNext rule stands_for old c may_begin
+    sent_before from now connections sent faults faults_now (next.Ended ended.KeeperFault) =
     (v : Visit) × (rest : List Visit) × (clients : ℕ) × (open_visits may_begin c ≡ v ∷ rest) × (v.client < clients)
     × ((clients ≡ c.clients) ⊎ ((may_begin ≡ true) × (clients ≡ c.clients + 1)))
     × IsBroken rule stands_for old.records [] old v.input from now (Some []) sent (Rose faults faults_now)

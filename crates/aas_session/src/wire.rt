@@ -27,9 +27,8 @@ enum Next {
     Begun,
     /// One to a client that was visited before was.
     Again,
-    NoneLeft,
-    WireFault,
-    KeeperFault,
+    /// Serving ended.
+    Ended(WireEnded),
 }
 
 /// Serves the visits to so many clients, or to fewer where the wire has no more, in the order in which
@@ -59,13 +58,10 @@ pub fn serve<M: Machine, W: Wire>(
     let mut begun = 0;
     'visits: for _number in 0..u64::MAX {
         match serve_next(machine, wire, intake, begun < count) {
-            Next::Begun => {}
-            Next::Again => continue,
-            Next::NoneLeft => return WireEnded::Done,
-            Next::WireFault => return WireEnded::WireFault,
-            Next::KeeperFault => return WireEnded::KeeperFault,
+            Next::Begun => begun += 1,
+            Next::Again => {}
+            Next::Ended(ended) => return ended,
         }
-        begun += 1;
     }
     WireEnded::Done
 }
@@ -81,7 +77,7 @@ fn serve_next<M: Machine, W: Wire>(
     ensures served { WhereSettled M.stands_for (M.state machine.old).held (λ r.
         ServesNextOn (M.rule (M.state machine.old).room) M.stands_for r may_begin (M.state machine.old).held.moment
         (M.state machine.new).held (W.state wire.old) (W.state wire.new) result) }
-    ensures goes_on { GoesOn (result ≡ Next.KeeperFault) (M.state machine.old) (M.state machine.new) }
+    ensures goes_on { GoesOn (result ≡ Next.Ended WireEnded.KeeperFault) (M.state machine.old) (M.state machine.new) }
     ensures asked { may_begin ≡ false → result ≢ Next.Begun }
     ensures one { (W.state wire.new).surroundings.clients ≤ (W.state wire.old).surroundings.clients + 1 }
     ensures none { may_begin ≡ false →
@@ -90,19 +86,17 @@ fn serve_next<M: Machine, W: Wire>(
         (W.state wire.new).surroundings.clients ≡ (W.state wire.old).surroundings.clients }
     ensures later_link { (W.state wire.old).faults ≤ (W.state wire.new).faults }
     ensures later_wire { (W.state wire.old).surroundings.faults ≤ (W.state wire.new).surroundings.faults }
-    ensures wire_fault { result ≡ Next.WireFault →
+    ensures wire_fault { result ≡ Next.Ended WireEnded.WireFault →
         Rose (W.state wire.old).surroundings.faults (W.state wire.new).surroundings.faults }
 {
     let served = match wire.next(may_begin) {
         Ok(NextVisit::New) => Next::Begun,
         Ok(NextVisit::Again) => Next::Again,
-        Ok(NextVisit::NoneLeft) => return Next::NoneLeft,
-        Err(Failed) => return Next::WireFault,
+        Ok(NextVisit::NoneLeft) => return Next::Ended(WireEnded::Done),
+        Err(Failed) => return Next::Ended(WireEnded::WireFault),
     };
     match serve_connection(machine, wire, intake) {
-        Ended::Closed => served,
-        Ended::LinkFault => served,
-        Ended::NoMemory => served,
-        Ended::KeeperFault => Next::KeeperFault,
+        Ended::Closed | Ended::NoMemory | Ended::LinkFault => served,
+        Ended::KeeperFault => Next::Ended(WireEnded::KeeperFault),
     }
 }

@@ -2,7 +2,7 @@ use Rattle.std.proofs.Common.{◌≡◌, ◌∙◌, true, rules}
 use Rattle.aas_outside.specs.declared.link.Failed.{Failed}
 use Rattle.aas_outside_disk.specs.declared.part.Part.TheVariants.{Main}
 use Rattle.aas_journal.specs.Causes.{AreEmpty}
-use Rattle.aas_journal.proofs.Changes.{changes_then, none_changes, tears_change}
+use Rattle.aas_journal.proofs.Changes.{reads_then_tears}
 use Rattle.aas_journal.proofs.Disks.{known}
 use Rattle.aas_journal.proofs.Initial.{made_images, where_told}
 use Rattle.aas_journal.proofs.init.init_journal.Goals as goal
@@ -26,12 +26,10 @@ pub returns-in_err-write_durably-clause-main_alone : goal.returns-in_err-write_d
 returns-in_err-write_durably-clause-main_alone g c =
     let reads = c.are_empty.ensures.reads in
     let writes = c.write_durably.ensures in
-    changes_then Main reads.past (none_changes Main reads.past reads.images) writes.call.past
-    (tears_change Main writes.call.past 0 9 writes.images)
+    reads_then_tears Main reads.past reads.images writes.call.past 0 9 writes.images
 
 pub returns-clause-main_alone : goal.returns-clause-main_alone
 returns-clause-main_alone g c =
     let reads = c.are_empty.ensures.reads in
     let writes = c.write_durably.ensures in
-    changes_then Main reads.past (none_changes Main reads.past reads.images) writes.call.past
-    (tears_change Main writes.call.past 0 9 writes.images)
+    reads_then_tears Main reads.past reads.images writes.call.past 0 9 writes.images

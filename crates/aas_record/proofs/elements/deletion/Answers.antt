@@ -10,4 +10,6 @@ two_fields-requires-clause-types c at = wrong _ _ 15 at (identifier ∷ path ∷
 
 pub returns : goal.returns
 unfolding IsWellFormed
-returns c = let two = c.in_ok-submodel.ensures in read_two _ _ 15 _ two c.requires refl refl two.second.whole (path_text_utf8 _ (is_place _ two.second.whole))
+returns c =
+    let two = c.in_ok-submodel.ensures in
+    read_two _ _ 15 _ two c.requires refl refl two.second.whole (path_text_utf8 _ (is_place _ two.second.whole))

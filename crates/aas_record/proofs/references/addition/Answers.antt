@@ -9,4 +9,6 @@ two_fields-requires-clause-types c at = wrong _ _ 11 at (identifier ∷ referenc
 
 pub returns : goal.returns
 unfolding IsWellFormed
-returns c = let two = c.in_ok-shell.ensures in read_two _ _ 11 _ two c.requires refl refl two.second.whole two.second.type.0
+returns c =
+    let two = c.in_ok-shell.ensures in
+    read_two _ _ 11 _ two c.requires refl refl two.second.whole two.second.type.0

@@ -137,31 +137,17 @@ returns-clause-bytes g c = λ payloads kept.
 
 pub returns-in_err-write_durably-clause-images : goal.returns-in_err-write_durably-clause-images
 returns-in_err-write_durably-clause-images g c = λ payloads kept.
-    let D = g.D.Disk in
-    let self = c.args.self.now in
-    let new = c.write_durably.new.disk in
-    tears_first (D.state self.disk).seen self.part self.gate payloads (D.state self.disk).moment
-    (D.state self.disk).left_at kept c.args.frame.now c.bytes-bytes.result.now c.bytes-bytes.ensures
-    (D.state new).moment (D.state new).left_at c.write_durably.ensures.images
+    tears_first (g.D.Disk.state c.args.self.now.disk) _ _ _ kept c.args.frame.now _ c.bytes-bytes.ensures
+    (g.D.Disk.state c.write_durably.new.disk) c.write_durably.ensures.images
 
 pub returns-in_err-write_durably-2-clause-images : goal.returns-in_err-write_durably-2-clause-images
 returns-in_err-write_durably-2-clause-images g c = λ payloads kept.
-    let D = g.D.Disk in
-    let self = c.args.self.now in
-    let mid = c.write_durably.new.disk in
-    let new = c.write_durably-2.new.disk in
-    tears_both (D.state self.disk).seen self.part self.gate payloads (D.state self.disk).moment
-    (D.state self.disk).left_at kept c.args.frame.now c.bytes-bytes.result.now c.bytes-bytes.ensures
-    (D.state mid).moment (D.state mid).left_at c.write_durably.ensures.images c.write_durably.ensures.call.past.later
-    (D.state new).moment (D.state new).left_at c.write_durably-2.ensures.call.past c.write_durably-2.ensures.images
+    tears_both (g.D.Disk.state c.args.self.now.disk) _ _ _ kept c.args.frame.now _ c.bytes-bytes.ensures
+    (g.D.Disk.state c.write_durably.new.disk) c.write_durably.ensures.images c.write_durably.ensures.call.past.later
+    (g.D.Disk.state c.write_durably-2.new.disk) c.write_durably-2.ensures.call.past c.write_durably-2.ensures.images
 
 pub returns-clause-images : goal.returns-clause-images
 returns-clause-images g c = λ payloads kept.
-    let D = g.D.Disk in
-    let self = c.args.self.now in
-    let mid = c.write_durably.new.disk in
-    let new = c.write_durably-2.new.disk in
-    tears_both (D.state self.disk).seen self.part self.gate payloads (D.state self.disk).moment
-    (D.state self.disk).left_at kept c.args.frame.now c.bytes-bytes.result.now c.bytes-bytes.ensures
-    (D.state mid).moment (D.state mid).left_at c.write_durably.ensures.images c.write_durably.ensures.call.past.later
-    (D.state new).moment (D.state new).left_at c.write_durably-2.ensures.call.past c.write_durably-2.ensures.images
+    tears_both (g.D.Disk.state c.args.self.now.disk) _ _ _ kept c.args.frame.now _ c.bytes-bytes.ensures
+    (g.D.Disk.state c.write_durably.new.disk) c.write_durably.ensures.images c.write_durably.ensures.call.past.later
+    (g.D.Disk.state c.write_durably-2.new.disk) c.write_durably-2.ensures.call.past c.write_durably-2.ensures.images
