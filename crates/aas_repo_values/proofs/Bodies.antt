@@ -9,7 +9,7 @@ use Rattle.aas_model.specs.declared.path.PathStep.{PathStep}
 use Rattle.aas_model.specs.declared.payload.Payload.{Payload}
 use Rattle.aas_model.specs.declared.payload.Payload.TheVariants as payload
 use Rattle.aas_model_names.specs.declared.kind.Kind.{Kind}
-use Rattle.aas_constraint_rules.specs.Sites.{no_attributes}
+use Rattle.aas_model.specs.Common.{no_attributes}
 use Rattle.aas_path_trees.specs.Children.{kids_of}
 use Rattle.aas_path_trees.specs.ElementAt.{child_by, element_at}
 use Rattle.aas_path_trees.specs.Patched.{kinds_over, kinds, kinds_of_all, element_count}

@@ -3,7 +3,7 @@ use Rattle.std.specs.Prelude.{not}
 use Rattle.std.proofs.lemmas.Bool.{and_right}
 use Rattle.aas_model.specs.declared.reference.Key.{Key}
 use Rattle.aas_model.specs.declared.reference.Reference.{out-Reference}
-use Rattle.aas_model_names.specs.declared.key_type.KeyType.TheVariants as key_type
+use Rattle.aas_model_names.specs.declared.kind.KeyType.TheVariants as key_type
 use Rattle.aas_reference.proofs.Sameness.{same_keys_other}
 use Rattle.aas_reference.specs.Rules.{is_external}
 use Rattle.aas_repo.proofs.references.refers_to.Goals as goal
